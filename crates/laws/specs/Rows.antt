@@ -1,0 +1,19 @@
+-- A table of refusals: a list of rows, each a number of document 01 and the test that gives it, in the order in which they are made.
+use Prim.Native.Nat.{ℕ}
+use mathlib.Core.List.{List, [], _∷_}
+use mathlib.Core.Bool.{Bool, true, cond, not, _&&_}
+use lib.Dec.{eqb}
+
+-- The number of the first row whose test holds, 0 where none does.
+abbrev pub first : List (ℕ × Bool) → ℕ
+first [] = 0
+first (row ∷ rows) = cond (row .1) (row .0) (first rows)
+
+-- A table's answer, and where it is 0 that of the table behind it.
+abbrev pub orElse : ℕ → ℕ → ℕ
+orElse n m = cond (eqb n 0) m n
+
+-- No row has the number 0.
+abbrev pub numbered : List (ℕ × Bool) → Bool
+numbered [] = true
+numbered (row ∷ rows) = not (eqb (row .0) 0) && numbered rows
