@@ -3,3 +3,4 @@ pub mod Tables
 pub mod Firsts
 pub mod Lists
 pub mod Xor
+pub mod Sames
