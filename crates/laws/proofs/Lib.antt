@@ -3,3 +3,5 @@ pub mod Tables
 pub mod Firsts
 pub mod Lists
 pub mod Xor
+pub mod Bools
+pub mod Numbers
