@@ -1,10 +1,15 @@
--- Tables one behind the other: the second is asked where no row of the first applies. Assumes nothing.
-use Prim.Native.Nat.{ℕ}
-use mathlib.Core.Path.{_≡_, refl, sym}
+-- What a table's answer says, for every table: a number other than 0 is that of the first row whose test holds, and 0 says that no
+-- test holds. Of tables one behind the other the second is asked where no row of the first applies. Assumes nothing.
+use Prim.Native.Nat.{ℕ, _≤_}
+use mathlib.Core.Path.{_≡_, refl, sym, _∙_}
+use mathlib.Core.Logic.{_⊎_, inl, inr}
 use mathlib.Core.List.{List, [], _∷_, _++_}
 use mathlib.Core.Bool.{Bool, true, false, cond, not, _&&_, true≢false}
-use lib.Dec.{eqb}
-use Rattle.laws.specs.Rows.{first, orElse, numbered}
+use native.Mathlib.Omega.{arith}
+use lib.Dec.{leb, eqb}
+use borrow.Author.Tests.{leb-true, eqb-false}
+use Rattle.laws.proofs.Bools.{and-true}
+use Rattle.laws.specs.Rows.{first, orElse, numbered, quiet, leads, upTo}
 
 both : (a b : Bool) → (not a && b) ≡ true → (a ≡ false) × (b ≡ true)
 both true b e = absurd (true≢false (sym e))
@@ -19,3 +24,42 @@ first-append [] b e = refl
 first-append (r ∷ a) b e =
     let k = both (eqb (r .0) 0) (numbered a) e in
     one-row (r .1) (r .0) (first (a ++ b)) (first a) (first b) (k .0) (first-append a b (k .1))
+
+module _ (n : ℕ) (applies : n ≡ 0 → ⊥) where
+  leads-row : (row : ℕ × Bool) (rows : List (ℕ × Bool)) → (first rows ≡ n → leads n rows) → first (row ∷ rows) ≡ n → leads n (row ∷ rows)
+  leads-row (k, true) rows next e = inl (refl, e)
+  leads-row (k, false) rows next e = inr (refl, next e)
+
+  pub first-leads : (rows : List (ℕ × Bool)) → first rows ≡ n → leads n rows
+  first-leads [] e = absurd (applies (sym e))
+  first-leads (row ∷ rows) e = leads-row row rows (first-leads rows) e
+
+pub leads-first : (n : ℕ) (rows : List (ℕ × Bool)) → leads n rows → first rows ≡ n
+leads-first n [] w = absurd w
+leads-first n (row ∷ rows) (inl w) = rw (w .0) (w .1)
+leads-first n (row ∷ rows) (inr w) = rw (w .0) (leads-first n rows (w .1))
+
+quiet-row : (row : ℕ × Bool) (rows : List (ℕ × Bool)) → eqb (row .0) 0 ≡ false → (first rows ≡ 0 → quiet rows) → first (row ∷ rows) ≡ 0
+    → quiet (row ∷ rows)
+quiet-row (k, true) rows e next p = absurd (eqb-false k 0 e p)
+quiet-row (k, false) rows e next p = (refl, next p)
+
+pub first-quiet : (rows : List (ℕ × Bool)) → numbered rows ≡ true → first rows ≡ 0 → quiet rows
+first-quiet [] e p = tt
+first-quiet (row ∷ rows) e p =
+    let k = both (eqb (row .0) 0) (numbered rows) e in
+    quiet-row row rows (k .0) (first-quiet rows (k .1)) p
+
+pub quiet-first : (rows : List (ℕ × Bool)) → quiet rows → first rows ≡ 0
+quiet-first [] w = refl
+quiet-first (row ∷ rows) w = rw (w .0) (quiet-first rows (w .1))
+
+upTo-row : (k : ℕ) (row : ℕ × Bool) (rows : List (ℕ × Bool)) → row .0 ≤ k → first rows ≤ k → first (row ∷ rows) ≤ k
+upTo-row k (n, true) rows p q = p
+upTo-row k (n, false) rows p q = q
+
+pub first-upTo : (k : ℕ) (rows : List (ℕ × Bool)) → upTo k rows ≡ true → first rows ≤ k
+first-upTo k [] e = omega arith
+first-upTo k (row ∷ rows) e =
+    let b = and-true (leb (row .0) k) (upTo k rows) e in
+    upTo-row k row rows (leb-true (row .0) k (b .0)) (first-upTo k rows (b .1))

@@ -4,3 +4,5 @@ pub mod Firsts
 pub mod Lists
 pub mod Xor
 pub mod Sames
+pub mod Bools
+pub mod Numbers

@@ -1,8 +1,10 @@
 -- A table of refusals: a list of rows, each a number of document 01 and the test that gives it, in the order in which they are made.
 use Prim.Native.Nat.{ℕ}
 use mathlib.Core.List.{List, [], _∷_}
-use mathlib.Core.Bool.{Bool, true, cond, not, _&&_}
-use lib.Dec.{eqb}
+use mathlib.Core.Path.{_≡_}
+use mathlib.Core.Logic.{_⊎_}
+use mathlib.Core.Bool.{Bool, true, false, cond, not, _&&_}
+use lib.Dec.{leb, eqb}
 
 -- The number of the first row whose test holds, 0 where none does.
 abbrev pub first : List (ℕ × Bool) → ℕ
@@ -17,3 +19,18 @@ orElse n m = cond (eqb n 0) m n
 abbrev pub numbered : List (ℕ × Bool) → Bool
 numbered [] = true
 numbered (row ∷ rows) = not (eqb (row .0) 0) && numbered rows
+
+-- No row's test holds.
+abbrev pub quiet : List (ℕ × Bool) → Type 0
+quiet [] = Unit
+quiet (row ∷ rows) = (row .1 ≡ false) × quiet rows
+
+-- The first row whose test holds has the number n: before it no test holds.
+abbrev pub leads : ℕ → List (ℕ × Bool) → Type 0
+leads n [] = ⊥
+leads n (row ∷ rows) = ((row .1 ≡ true) × (row .0 ≡ n)) ⊎ ((row .1 ≡ false) × leads n rows)
+
+-- No row has a number above k.
+abbrev pub upTo : ℕ → List (ℕ × Bool) → Bool
+upTo k [] = true
+upTo k (row ∷ rows) = leb (row .0) k && upTo k rows

@@ -1,0 +1,21 @@
+-- A sum of tests is false where each is, a product true where each is. Assumes nothing.
+use mathlib.Core.Path.{_≡_, refl, sym}
+use mathlib.Core.Bool.{Bool, true, false, _&&_, _||_, true≢false}
+
+pub or-false : (a b : Bool) → (a || b) ≡ false → (a ≡ false) × (b ≡ false)
+or-false true b e = absurd (true≢false e)
+or-false false b e = (refl, e)
+
+pub and-true : (a b : Bool) → (a && b) ≡ true → (a ≡ true) × (b ≡ true)
+and-true true b e = (refl, e)
+and-true false b e = absurd (true≢false (sym e))
+
+pub and-false-right : (a b : Bool) → (a && b) ≡ false → a ≡ true → b ≡ false
+and-false-right true b e h = e
+and-false-right false b e h = absurd (true≢false (sym h))
+
+pub or4-false : (a b c d : Bool) → (a || b || c || d) ≡ false → (a ≡ false) × (b ≡ false) × (c ≡ false) × (d ≡ false)
+or4-false true b c d e = absurd (true≢false e)
+or4-false false true c d e = absurd (true≢false e)
+or4-false false false true d e = absurd (true≢false e)
+or4-false false false false d e = (refl, refl, refl, e)

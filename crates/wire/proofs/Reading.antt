@@ -1,0 +1,20 @@
+-- Laws of `readHeader`, by the number of the first refusal. Assumes nothing.
+use Prim.Native.Nat.{ℕ, _-_, _<_}
+use mathlib.Core.Path.{_≡_}
+use mathlib.Core.List.{List}
+use borrow.Author.Tests.{eq-eqb, ne-eqb}
+use lib.ListN.{length}
+use Rattle.laws.specs.Bytes.{be16}
+use Rattle.wire.specs.Fields.{tagSize}
+use Rattle.wire.specs.Chain.{leaves}
+use Rattle.wire.specs.Reader.{headerOf, chainOf, refusalOf, readHeader}
+use Rattle.wire.specs.declared.header.HeaderRead.the-variants.{Refused, Read}
+
+pub read-refused : (m : List ℕ) (n : ℕ) → n ≡ refusalOf m → (n ≡ 0 → ⊥) → readHeader m ≡ Refused n
+unfolding readHeader
+read-refused m n e h = rw (← e, ne-eqb n 0 h)
+
+pub read-good : (m : List ℕ) → refusalOf m ≡ 0
+    → readHeader m ≡ Read (headerOf m) (length m - tagSize (be16 m 6) - leaves (chainOf m)) (leaves (chainOf m))
+unfolding readHeader
+read-good m h = rw (eq-eqb (refusalOf m) 0 h)

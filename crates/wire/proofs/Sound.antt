@@ -1,0 +1,201 @@
+-- What an accepted message is, for callers of `read_header`, and which numbers its refusals have. Assumes nothing.
+use Prim.Native.Nat.{ℕ, _+_, _-_, _*_, _/_, _%_, _≤_, _<_}
+use mathlib.Core.Path.{_≡_, refl, sym, ap, _∙_}
+use mathlib.Core.Logic.{_⊎_, inl, inr}
+use mathlib.Core.List.{List}
+use mathlib.Core.Bool.{Bool, true, false, not, _&&_, _||_, true≢false}
+use native.Mathlib.Omega.{arith}
+use native.Mathlib.Nat.{mod-lt, zero-lt-suc}
+use borrow.Author.Tests.{ltb-false, leb-false, eqb-true, eqb-false, not-false, eq-eqb, ne-eqb}
+use lib.ListN.{length, take, drop, length-take, length-drop}
+use lib.Dec.{ltb, leb, eqb}
+use Rattle.laws.specs.Bytes.{be8, be16}
+use Rattle.laws.specs.Rows.{quiet}
+use Rattle.laws.proofs.Firsts.{first-quiet, first-upTo}
+use Rattle.laws.proofs.Bools.{or-false, or4-false, and-true, and-false-right}
+use Rattle.wire.specs.Chain.{chain, readChain, leaves, isBroken}
+use Rattle.wire.specs.Fields.{badKind, badFlags, badPiece, mostPieces, isSealed, hmacFlag, encryptedFlag, tagSize}
+use Rattle.wire.specs.Reader.{headerOf, roomOf, chainOf, headerRows, rowsOf, refusalWith, refusalOf, readHeader}
+use Rattle.wire.specs.declared.chain.Chain.{Chain}
+use Rattle.wire.specs.declared.header.Header.{Header}
+use Rattle.wire.specs.declared.header.HeaderRead.{HeaderRead}
+use Rattle.wire.specs.declared.header.HeaderRead.the-variants.{Refused, Read}
+use Rattle.wire.proofs.Chains.{room-left}
+use Rattle.wire.proofs.Reading.{read-refused, read-good}
+
+-- The tests of 5, 6 and 7 as facts.
+
+not-kind : (k : ℕ) (a b c : Bool) → eqb k 1 ≡ a → eqb k 2 ≡ b → eqb k 4 ≡ c → (not a && not b && not c) ≡ false
+    → (k ≡ 1) ⊎ (k ≡ 2) ⊎ (k ≡ 4)
+not-kind k true b c p q r e = inl (eqb-true k 1 p)
+not-kind k false true c p q r e = inr (inl (eqb-true k 2 q))
+not-kind k false false true p q r e = inr (inr (eqb-true k 4 r))
+not-kind k false false false p q r e = absurd (true≢false e)
+
+pub kinds : (kind : ℕ) → badKind kind ≡ false → (kind ≡ 1) ⊎ (kind ≡ 2) ⊎ (kind ≡ 4)
+unfolding badKind
+kinds kind e = not-kind kind _ _ _ refl refl refl e
+
+pub record Piece (index count : ℕ) : Type 0 where
+  pub some : 1 ≤ count
+  pub few : count ≤ mostPieces
+  pub under : index < count
+
+module _ (kind index count : ℕ) (e : badPiece kind index count ≡ false) where
+  tests-of-7 : (eqb count 0 ≡ false) × (ltb mostPieces count ≡ false) × (leb count index ≡ false) × ((not (eqb kind 4) && not (eqb count 1)) ≡ false)
+  unfolding badPiece
+  tests-of-7 = or4-false (eqb count 0) (ltb mostPieces count) (leb count index) (not (eqb kind 4) && not (eqb count 1)) e
+
+  pub piece : Piece index count
+  piece =
+      let z = eqb-false count 0 (tests-of-7 .0) in
+      record { some = omega arith; few = ltb-false mostPieces count (tests-of-7 .1); under = leb-false count index (tests-of-7 .2) }
+
+  -- Outside Session there is one piece.
+  pub one-piece : (kind ≡ 4 → ⊥) → count ≡ 1
+  one-piece n = eqb-true count 1 (not-false _ (and-false-right (not (eqb kind 4)) _ (tests-of-7 .3) (rw (ne-eqb kind 4 n))))
+
+module _ (kind flags : ℕ) (e : badFlags kind flags ≡ false) where
+  tests-of-6 : (ltb 15 flags ≡ false) × (not (eqb (hmacFlag flags) (encryptedFlag flags)) ≡ false) × ((eqb kind 1 && isSealed flags) ≡ false)
+      × ((eqb kind 4 && not (isSealed flags)) ≡ false)
+  unfolding badFlags
+  tests-of-6 =
+      or4-false (ltb 15 flags) (not (eqb (hmacFlag flags) (encryptedFlag flags))) (eqb kind 1 && isSealed flags) (eqb kind 4 && not (isSealed flags)) e
+
+  pub small-flags : flags ≤ 15
+  small-flags = ltb-false 15 flags (tests-of-6 .0)
+
+  alike : hmacFlag flags ≡ encryptedFlag flags
+  alike = eqb-true (hmacFlag flags) (encryptedFlag flags) (not-false _ (tests-of-6 .1))
+
+  pub discovery-plain : kind ≡ 1 → isSealed flags ≡ false
+  discovery-plain k = and-false-right _ _ (tests-of-6 .2) (eq-eqb kind 1 k)
+
+  pub session-sealed : kind ≡ 4 → isSealed flags ≡ true
+  session-sealed k = not-false _ (and-false-right _ _ (tests-of-6 .3) (eq-eqb kind 4 k))
+
+pub sealed-tag : (flags : ℕ) → isSealed flags ≡ true → tagSize flags ≡ 32
+unfolding isSealed tagSize
+sealed-tag flags e =
+    let a = and-true (eqb (hmacFlag flags) 1) (eqb (encryptedFlag flags) 1) e in
+    rw (eqb-true (hmacFlag flags) 1 (a .0))
+
+unset : (h e : ℕ) → h < 2 → h ≡ e → (eqb h 1 && eqb e 1) ≡ false → h ≡ 0
+unset h e below p q =
+    let n : h ≡ 1 → ⊥ = λ o. true≢false (rw (eq-eqb h 1 o, eq-eqb e 1 (sym p ∙ o)) at q) in
+    omega arith
+
+pub plain-tag : (kind flags : ℕ) → badFlags kind flags ≡ false → isSealed flags ≡ false → tagSize flags ≡ 0
+unfolding isSealed tagSize
+plain-tag kind flags e p =
+    rw (unset (hmacFlag flags) (encryptedFlag flags) (mod-lt (flags / 2) (zero-lt-suc 1)) (alike kind flags e) p)
+
+-- What holds of a message to which none of 1 to 9 applies.
+pub record Good (m : List ℕ) : Type 0 where
+  pub long : 42 ≤ length m
+  pub signature : be16 m 0 ≡ 0x3030
+  pub size : be16 m 2 ≡ length m
+  pub version : be8 m 4 ≡ 3
+  pub kind : badKind (be8 m 5) ≡ false
+  pub flags : badFlags (be8 m 5) (be16 m 6) ≡ false
+  pub piece : badPiece (be8 m 5) (be16 m 20) (be16 m 22) ≡ false
+  pub chained : isBroken (chainOf m) ≡ false
+  pub blocks : isSealed (be16 m 6) ≡ true → (leaves (chainOf m) % 16 ≡ 0) × (16 ≤ leaves (chainOf m))
+
+sixteens : (n : ℕ) → (eqb n 0 || not (eqb (n % 16) 0)) ≡ false → (n % 16 ≡ 0) × (16 ≤ n)
+sixteens n e =
+    let a = or-false (eqb n 0) _ e in
+    let z = eqb-false n 0 (a .0) in
+    let d = eqb-true (n % 16) 0 (not-false _ (a .1)) in
+    (d, omega arith)
+
+pub good : (m : List ℕ) → refusalOf m ≡ 0 → Good m
+unfolding refusalOf refusalWith rowsOf headerRows
+good m e =
+    let q = first-quiet (rowsOf m (headerOf m) (chainOf m)) refl e in
+    let size = or-false (ltb (be16 m 2) 42) _ (q .1 .1 .0) in
+    record {
+      long = ltb-false (length m) 42 (q .0);
+      signature = eqb-true (be16 m 0) 0x3030 (not-false _ (q .1 .0));
+      size = eqb-true (be16 m 2) (length m) (not-false _ (size .1));
+      version = eqb-true (be8 m 4) 3 (not-false _ (q .1 .1 .1 .0));
+      kind = q .1 .1 .1 .1 .0;
+      flags = q .1 .1 .1 .1 .1 .0;
+      piece = q .1 .1 .1 .1 .1 .1 .0;
+      chained = q .1 .1 .1 .1 .1 .1 .1 .0;
+      blocks = λ s. sixteens (leaves (chainOf m)) (and-false-right _ _ (q .1 .1 .1 .1 .1 .1 .1 .1 .0) s);
+    }
+
+-- What holds of what `read_header` answers for a message that it accepts.
+pub record Sound (m : List ℕ) (h : Header) (start size : ℕ) : Type 0 where
+  pub is : h ≡ headerOf m
+  pub good : Good m
+  pub spans : start + size + tagSize (h .flags) ≡ length m
+  pub behind : 42 ≤ start
+  pub blocks : isSealed (h .flags) ≡ true → (size % 16 ≡ 0) × (16 ≤ size)
+
+pub small-tag : (m : List ℕ) → tagSize (be16 m 6) ≤ 32
+unfolding tagSize
+small-tag m = omega (arith, mod-lt (be16 m 6 / 2) (zero-lt-suc 1))
+
+sound-good : (m : List ℕ) → Good m → Sound m (headerOf m) (length m - tagSize (be16 m 6) - leaves (chainOf m)) (leaves (chainOf m))
+unfolding chainOf
+sound-good m g =
+    let tag = tagSize (be16 m 6) in
+    let r = room-left tag m (g .chained) in
+    let t = small-tag m in
+    let l = g .long in
+    record { is = refl; good = g; spans = omega arith; behind = omega arith; blocks = g .blocks }
+
+pub read-sound : (m : List ℕ) (h : Header) (start size : ℕ) → readHeader m ≡ Read h start size → Sound m h start size
+read-sound m h start size r = by (refusalOf m) (eqb (refusalOf m) 0) refl refl
+  where
+    by : (n : ℕ) (b : Bool) → refusalOf m ≡ n → eqb n 0 ≡ b → Sound m h start size
+    by n true e p =
+        let z : refusalOf m ≡ 0 = e ∙ eqb-true n 0 p in
+        let g = read-good m z in
+        let header : headerOf m ≡ h = cc in
+        let from : length m - tagSize (be16 m 6) - leaves (chainOf m) ≡ start = cc in
+        let long : leaves (chainOf m) ≡ size = cc in
+        rw (← header, ← from, ← long) (sound-good m (good m z))
+    by n false e p =
+        let g = read-refused m n (sym e) (eqb-false n 0 p) in
+        let z : _≡_ {A = ℕ} 0 1 = cc in
+        absurd (omega arith)
+
+most : (m : List ℕ) → refusalOf m ≤ 9
+unfolding refusalOf refusalWith rowsOf headerRows
+most m = first-upTo 9 (rowsOf m (headerOf m) (chainOf m)) refl
+
+-- The numbers of `read_header` are 1 to 9.
+pub refused-number : (m : List ℕ) (n : ℕ) → readHeader m ≡ Refused n → (1 ≤ n) × (n ≤ 9)
+refused-number m n r = by (refusalOf m) (eqb (refusalOf m) 0) refl refl
+  where
+    by : (k : ℕ) (b : Bool) → refusalOf m ≡ k → eqb k 0 ≡ b → (1 ≤ n) × (n ≤ 9)
+    by k true e p =
+        let g = read-good m (e ∙ eqb-true k 0 p) in
+        let z : _≡_ {A = ℕ} 0 1 = cc in
+        absurd (omega arith)
+    by k false e p =
+        let g = read-refused m k (sym e) (eqb-false k 0 p) in
+        let same : k ≡ n = cc in
+        let some = eqb-false k 0 p in
+        (omega arith, omega (arith, most m))
+
+-- The way through `read_header`: each call answers its part of the definition.
+module _ (m : List ℕ) (h : Header) (tag : ℕ) (k : Chain) (n : ℕ)
+    (fields : h ≡ headerOf m) (tags : tag ≡ tagSize (h .flags)) (chains : k ≡ readChain (roomOf tag m)) (first : n ≡ refusalWith m h k) where
+  told : n ≡ refusalOf m
+  unfolding refusalOf chainOf
+  told = rw (first, chains, tags, fields)
+
+  pub refused : (n ≡ 0 → ⊥) → Refused n ≡ readHeader m
+  refused p = sym (read-refused m n told p)
+
+  pub fits : n ≡ 0 → leaves k + 42 + tag ≤ length m
+  unfolding chainOf
+  fits z = rw (chains, tags, fields) (room-left (tagSize (be16 m 6)) m (good m (sym told ∙ z) .chained))
+
+  pub accepted : n ≡ 0 → Read h (length m - tag - leaves k) (leaves k) ≡ readHeader m
+  unfolding chainOf
+  accepted z = rw (chains, tags, fields) (sym (read-good m (sym told ∙ z)))

@@ -1,0 +1,15 @@
+-- The walk, from the most entries on.
+use Rattle.wire.specs.Chain.{readChain, mostEntries}
+use borrow.Author.Needs.{needs}
+use Rattle.wire.proofs.chain.read_chain.Statement.{statement}
+use Rattle.wire.proofs.chain.read_chain.Tie as tie
+
+walk-requires : tie.Need-walk-requires
+walk-requires c κs = search needs
+
+returns : tie.Need-returns
+unfolding readChain mostEntries
+returns c = c .walk .ensures
+
+pub read-chain-spec : {M : Type 1} → statement M
+read-chain-spec = tie.close (tie.spec walk-requires returns)

@@ -1,0 +1,12 @@
+-- The code is the definition.
+use mathlib.Core.Path.{refl}
+use Rattle.wire.specs.Fields.{badPiece, mostPieces}
+use Rattle.wire.proofs.header.bad_piece.Statement.{statement}
+use Rattle.wire.proofs.header.bad_piece.Tie as tie
+
+returns : tie.Need-returns
+unfolding badPiece mostPieces
+returns c = refl
+
+pub bad-piece-spec : {M : Type 1} → statement M
+bad-piece-spec = tie.close (tie.spec returns)

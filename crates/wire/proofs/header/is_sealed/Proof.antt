@@ -1,0 +1,12 @@
+-- The code is the definition.
+use mathlib.Core.Path.{refl}
+use Rattle.wire.specs.Fields.{isSealed}
+use Rattle.wire.proofs.header.is_sealed.Statement.{statement}
+use Rattle.wire.proofs.header.is_sealed.Tie as tie
+
+returns : tie.Need-returns
+unfolding isSealed
+returns c = refl
+
+pub is-sealed-spec : {M : Type 1} → statement M
+is-sealed-spec = tie.close (tie.spec returns)

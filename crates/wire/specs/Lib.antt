@@ -1,0 +1,4 @@
+pub mod Refusals
+pub mod Chain
+pub mod Fields
+pub mod Reader

@@ -1,0 +1,6 @@
+// What may stand on the wire: the common header, its chain of additional headers, the payloads of Discovery and Connect, and the
+// numbers of the refusals. Nothing here knows keys or remembers anything.
+pub mod chain;
+pub mod header;
+mod numbers;
+pub mod refusals;
