@@ -19,3 +19,11 @@ or4-false true b c d e = absurd (true≢false e)
 or4-false false true c d e = absurd (true≢false e)
 or4-false false false true d e = absurd (true≢false e)
 or4-false false false false d e = (refl, refl, refl, e)
+
+pub or-assoc : (a b c : Bool) → ((a || b) || c) ≡ (a || (b || c))
+or-assoc true b c = refl
+or-assoc false b c = refl
+
+pub or-none : (a : Bool) → (a || false) ≡ a
+or-none true = refl
+or-none false = refl

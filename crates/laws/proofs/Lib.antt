@@ -6,3 +6,4 @@ pub mod Xor
 pub mod Sames
 pub mod Bools
 pub mod Numbers
+pub mod Parts

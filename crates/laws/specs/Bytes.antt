@@ -1,5 +1,5 @@
 -- Bytes as big-endian numbers, both ways: the number at a place of a list of bytes, and the bytes of a number.
-use Prim.Native.Nat.{ℕ, _+_, _*_, _/_, _%_}
+use Prim.Native.Nat.{ℕ, zero, suc, _+_, _*_, _/_, _%_}
 use mathlib.Core.List.{List, [], _∷_, _++_}
 use lib.ListN.{getD}
 
@@ -18,6 +18,11 @@ be32 m at = be16 m at * 65536 + be16 m (at + 2)
 -- The number in the eight bytes at a place.
 abbrev pub be64 : List ℕ → ℕ → ℕ
 be64 m at = be32 m at * 4294967296 + be32 m (at + 4)
+
+-- The n bytes from a place on; past the end they count as 0.
+unfoldable pub bytesAt : List ℕ → ℕ → ℕ → List ℕ
+bytesAt m at zero = []
+bytesAt m at (suc n) = bytesAt m at n ++ (be8 m (at + n) ∷ [])
 
 -- A number below 2^16 in two bytes.
 abbrev pub bytes16 : ℕ → List ℕ

@@ -2,3 +2,4 @@ pub mod Refusals
 pub mod Chain
 pub mod Fields
 pub mod Reader
+pub mod Payload

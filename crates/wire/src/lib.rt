@@ -3,4 +3,5 @@
 pub mod chain;
 pub mod header;
 mod numbers;
+pub mod payload;
 pub mod refusals;

@@ -1,0 +1,35 @@
+-- The bytes at a place, `bytesAt`: how many they are, that they are a part of the list where it has them, and that a list filled from
+-- its start one byte after the other comes to hold them. Assumes nothing.
+use Prim.Native.Nat.{ℕ, zero, suc, _+_, _≤_, _<_}
+use mathlib.Core.Path.{_≡_, refl, sym, ap, _∙_}
+use mathlib.Core.List.{List, [], _∷_, _++_, append-assoc, append-nil}
+use native.Mathlib.Omega.{arith}
+use native.Mathlib.Numerals.{add-one}
+use lib.ListN.{length, getD, take, drop, set, length-append, length-drop}
+use lib.Seq.{drop-length, take-suc, drop-cons, getD-drop, set-at}
+use Rattle.laws.specs.Bytes.{be8, bytesAt}
+
+pub length-bytesAt : (m : List ℕ) (at n : ℕ) → length (bytesAt m at n) ≡ n
+unfolding bytesAt
+length-bytesAt m at zero = refl
+length-bytesAt m at (suc n) = rw length-append (omega (arith, length-bytesAt m at n))
+
+pub bytesAt-part : (m : List ℕ) (at n : ℕ) → at + n ≤ length m → bytesAt m at n ≡ take n (drop at m)
+unfolding bytesAt
+bytesAt-part m at zero h = refl
+bytesAt-part m at (suc n) h =
+    let k : n < length (drop at m) = rw length-drop (omega arith) in
+    let p : at + n ≤ length m = omega arith in
+    rw (bytesAt-part m at n p, take-suc (drop at m) n 0 k, getD-drop at m n 0)
+
+-- One more byte of a list that holds the first i of them.
+pub filled-more : (m l : List ℕ) (at i b : ℕ) → i < length l → b ≡ be8 m (at + i)
+    → set (bytesAt m at i ++ drop i l) i b ≡ bytesAt m at (i + 1) ++ drop (i + 1) l
+unfolding bytesAt
+filled-more m l at i b h e =
+    rw (add-one, drop-cons l i 0 h, set-at (bytesAt m at i) (getD l i 0) (drop (suc i) l) b i (length-bytesAt m at i), e)
+    (sym (append-assoc (bytesAt m at i) (be8 m (at + i) ∷ []) (drop (suc i) l)))
+
+-- A list that holds as many of them as it is long.
+pub filled-all : (m l : List ℕ) (at i : ℕ) → i ≡ length l → bytesAt m at i ++ drop i l ≡ bytesAt m at (length l)
+filled-all m l at i e = rw (e, drop-length l, append-nil)

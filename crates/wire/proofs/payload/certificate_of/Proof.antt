@@ -1,0 +1,26 @@
+-- By the test.
+use Rattle.laws.proofs.Tests.{tests}
+use Rattle.wire.specs.Payload.{certificateOf}
+use borrow.Author.Needs.{needs}
+use Rattle.wire.proofs.payload.certificate_of.Statement.{statement}
+use Rattle.wire.proofs.payload.certificate_of.Tie as tie
+
+number16-requires : tie.Need-number16-requires
+number16-requires c κs = search needs
+
+cast-size : tie.Need-cast-size
+cast-size c = search needs
+
+add-if1 : tie.Need-add-if1
+add-if1 c = search needs
+
+returns : tie.Need-returns
+unfolding certificateOf
+returns c = rw (← c .before .number16 .ensures) (search tests)
+
+returns-2 : tie.Need-returns-2
+unfolding certificateOf
+returns-2 c = rw (← c .before .number16 .ensures) (search tests)
+
+pub certificate-of-spec : {M : Type 1} → statement M
+certificate-of-spec = tie.close (tie.spec number16-requires cast-size add-if1 returns returns-2)

@@ -1,0 +1,69 @@
+-- The first `i` bytes are those of `s`, the others as they were.
+use borrow.Author.Needs.{needs}
+use Prim.Native.Nat.{_≤_, _<_, _-_}
+use mathlib.Core.Path.{_≡_, refl, _∙_}
+use mathlib.Core.List.{_++_}
+use native.Mathlib.Omega.{arith}
+use lib.ListN.{length, drop, length-set}
+use Rattle.laws.specs.Bytes.{bytesAt}
+use Rattle.laws.proofs.Parts.{filled-more, filled-all}
+use Rattle.wire.proofs.payload.fill.Statement.{statement}
+use Rattle.wire.proofs.payload.fill.Tie as tie
+
+abbrev Inv-loop : tie.InvT-loop
+Inv-loop s at out₀ i₀ out i = (i ≤ length out₀) × (length out ≡ length out₀) × (out ≡ bytesAt s at i ++ drop i out₀)
+
+abbrev μ-loop : tie.MeasureT-loop
+μ-loop s at out₀ i₀ out i = length out₀ - i
+
+loop-holds : tie.Need-loop-holds Inv-loop μ-loop
+unfolding bytesAt
+loop-holds c = (omega arith, refl, refl)
+
+add-byte : tie.Need-add-byte Inv-loop μ-loop
+add-byte c = search needs
+
+byte-requires : tie.Need-byte-requires Inv-loop μ-loop
+byte-requires c κs = search needs
+
+slice-write-out : tie.Need-slice-write-out Inv-loop μ-loop
+slice-write-out c = search needs
+
+add-i : tie.Need-add-i Inv-loop μ-loop
+add-i c = search needs
+
+loop-less : tie.Need-loop-less Inv-loop μ-loop
+loop-less c = search needs
+
+loop-again : tie.Need-loop-again Inv-loop μ-loop
+loop-again c =
+    let l = c .before .before .loop in
+    let k : l .i < length (c .before .before .before .before .before .args .out .now) = omega arith in (
+      omega arith,
+      simp length-set (l .inv .1),
+      rw (l .inv .2) (filled-more (c .before .before .before .before .before .args .s .now) (c .before .before .before .before .before .args .out .now) (c .before .before .before .before .before .args .at) (l .i) (c .byte .result) k (c .byte .ensures)),
+    )
+
+same-length : tie.Need-same-length Inv-loop μ-loop
+same-length c = search needs
+
+returns : tie.Need-returns Inv-loop μ-loop
+returns c =
+    let l = c .before .loop in
+    l .inv .2 ∙ filled-all (c .before .before .before .before .args .s .now) (c .before .before .before .before .args .out .now) (c .before .before .before .before .args .at) (l .i) (omega arith)
+
+pub fill-spec : {M : Type 1} → statement M
+fill-spec =
+    tie.close
+    (tie.spec
+    Inv-loop
+    μ-loop
+    loop-holds
+    add-byte
+    byte-requires
+    slice-write-out
+    add-i
+    loop-less
+    loop-again
+    same-length
+    returns)

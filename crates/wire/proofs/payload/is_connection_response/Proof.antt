@@ -1,0 +1,22 @@
+-- The code is the definition, with what the calls answer.
+use Rattle.wire.specs.Payload.{isConnectionResponse}
+use borrow.Author.Needs.{needs}
+use Rattle.wire.proofs.payload.is_connection_response.Statement.{statement}
+use Rattle.wire.proofs.payload.is_connection_response.Tie as tie
+
+byte-requires : tie.Need-byte-requires
+byte-requires c κs = search needs
+
+exchanges-requires : tie.Need-exchanges-requires
+exchanges-requires c κs = search needs
+
+starts-requires : tie.Need-starts-requires
+starts-requires c κs = search needs
+
+returns : tie.Need-returns
+unfolding isConnectionResponse
+returns c = cc
+
+pub is-connection-response-spec : {M : Type 1} → statement M
+is-connection-response-spec =
+    tie.close (tie.spec byte-requires exchanges-requires starts-requires returns)

@@ -1,0 +1,18 @@
+-- The code is the definition, with what the calls answer.
+use Rattle.wire.specs.Payload.{isDoneResponse}
+use borrow.Author.Needs.{needs}
+use Rattle.wire.proofs.payload.is_done_response.Statement.{statement}
+use Rattle.wire.proofs.payload.is_done_response.Tie as tie
+
+starts-requires : tie.Need-starts-requires
+starts-requires c κs = search needs
+
+byte-requires : tie.Need-byte-requires
+byte-requires c κs = search needs
+
+returns : tie.Need-returns
+unfolding isDoneResponse
+returns c = cc
+
+pub is-done-response-spec : {M : Type 1} → statement M
+is-done-response-spec = tie.close (tie.spec starts-requires byte-requires returns)

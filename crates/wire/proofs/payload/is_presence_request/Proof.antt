@@ -1,0 +1,15 @@
+-- The code is the definition, with what the calls answer.
+use Rattle.wire.specs.Payload.{isPresenceRequest}
+use borrow.Author.Needs.{needs}
+use Rattle.wire.proofs.payload.is_presence_request.Statement.{statement}
+use Rattle.wire.proofs.payload.is_presence_request.Tie as tie
+
+byte-requires : tie.Need-byte-requires
+byte-requires c κs = search needs
+
+returns : tie.Need-returns
+unfolding isPresenceRequest
+returns c = cc
+
+pub is-presence-request-spec : {M : Type 1} → statement M
+is-presence-request-spec = tie.close (tie.spec byte-requires returns)
