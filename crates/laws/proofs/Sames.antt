@@ -2,7 +2,7 @@
 use Prim.Native.Nat.{ℕ}
 use mathlib.Core.Path.{_≡_, refl, ap₂, sym}
 use mathlib.Core.List.{List, [], _∷_}
-use mathlib.Core.Bool.{true, true≢false}
+use mathlib.Core.Bool.{Bool, true, false, true≢false}
 use lib.Dec.{eqb}
 use borrow.Author.Tests.{eq-eqb, eqb-true}
 use Rattle.laws.proofs.Bools.{and-true}
@@ -22,3 +22,10 @@ same→eq (x ∷ xs) (y ∷ ys) e =
 
 pub eq→same : (xs ys : List ℕ) → xs ≡ ys → same xs ys ≡ true
 eq→same xs ys e = rw e (same-refl ys)
+
+pub ne→same : (xs ys : List ℕ) → (xs ≡ ys → ⊥) → same xs ys ≡ false
+ne→same xs ys n = go (same xs ys) refl
+  where
+    go : (t : Bool) → same xs ys ≡ t → t ≡ false
+    go true e = absurd (n (same→eq xs ys e))
+    go false e = refl

@@ -1,0 +1,127 @@
+-- What is remembered, and what the report buffer holds, once a set of the pieces of one report has come: they depend on the set and on how
+-- they began, and on nothing else. Assumes nothing.
+use Prim.Native.Nat.{ℕ, zero, suc, _+_, _-_, _*_, _/_, _≤_, _<_}
+use mathlib.Core.Path.{_≡_, refl, sym, ap, _∙_}
+use mathlib.Core.List.{List, [], _∷_}
+use mathlib.Core.Bool.{Bool, true, false, cond}
+use native.Mathlib.Omega.{arith}
+use native.Mathlib.Nat.{div-lt-iff-lt-mul}
+use lib.Dec.{eqb, ltb}
+use lib.ListN.{length, getD, take, length-take, length-replicate}
+use lib.Seq.{getD-take, ext-getD}
+use borrow.Author.Tests.{eq-eqb, ne-eqb, lt-ltb}
+use Rattle.joining.specs.declared.Progress.{Progress}
+use Rattle.joining.specs.declared.Piece.{Piece}
+use Rattle.joining.specs.Heard.{most, tally, come, has, none}
+use Rattle.joining.specs.Report.{part}
+use Rattle.joining.specs.Join.{expecting}
+use Rattle.joining.proofs.Heards.{tally-none, come-none, has-none, come-full}
+use Rattle.joining.proofs.Cuts.{Cut}
+
+-- A report, how it was cut, and how what is remembered and the report buffer began.
+pub record Start : Type 0 where
+  pub size : ℕ
+  pub count : ℕ
+  pub channel : ℕ
+  pub report : List ℕ
+  pub held : Progress
+  pub buffer : List ℕ
+
+-- It was cut by the rules, its number is the expected one and may be used, nothing of it is heard, and the buffer has room for it.
+pub record Fair (s : Start) : Type 0 where
+  pub small : s .size ≤ 16384
+  pub cut : Cut (s .size) most (s .count) (length (s .report))
+  pub number : s .held .expected < 4294967295
+  pub fresh : s .held .heard ≡ none most
+  pub room : length (s .report) ≤ length (s .buffer)
+
+-- What the header of piece i says, and its bytes.
+abbrev pub pieceOf : Start → ℕ → Piece
+pieceOf s i = record { sequence = s .held .expected; channel = s .channel; count = s .count; index = i }
+
+abbrev pub bytesOf : Start → ℕ → List ℕ
+bytesOf s i = part (s .report) (s .size * i) (s .size)
+
+-- A set of pieces of this report.
+pub record Lawful (s : Start) (S : List Bool) : Type 0 where
+  pub long : length S ≡ most
+  pub below : (j : ℕ) → s .count ≤ j → has S j ≡ false
+
+abbrev pub lastSize : Start → ℕ
+lastSize s = length (s .report) - s .size * (s .count - 1)
+
+-- While pieces are missing.
+abbrev pub partHeld : Start → List Bool → Progress
+partHeld s S =
+    record {
+      expected = s .held .expected;
+      heard = S;
+      count = cond (eqb (tally S) 0) (s .held .count) (s .count);
+      channel = cond (eqb (tally S) 0) (s .held .channel) (s .channel);
+      last = cond (has S (s .count - 1)) (lastSize s) (s .held .last);
+    }
+
+-- What is remembered once the pieces of S have come.
+abbrev pub heldAt : Start → List Bool → Progress
+heldAt s S = cond (eqb (come (s .count) S) (s .count)) (expecting (s .held .expected + 1)) (partHeld s S)
+
+-- The byte at place k: the report's where its piece has come, else what was there.
+abbrev pub byteAt : Start → List Bool → ℕ → ℕ
+byteAt s S k =
+    cond (ltb k (length (s .report))) (cond (has S (k / s .size)) (getD (s .report) k 0) (getD (s .buffer) k 0)) (getD (s .buffer) k 0)
+
+-- A list by a rule for each place.
+abbrev pub listed : ℕ → (ℕ → ℕ) → List ℕ
+listed zero f = []
+listed (suc n) f = f zero ∷ listed n (λ k. f (suc k))
+
+-- The report buffer once the pieces of S have come.
+abbrev pub bufferAt : Start → List Bool → List ℕ
+bufferAt s S = listed (length (s .buffer)) (byteAt s S)
+
+pub listed-length : (n : ℕ) (f : ℕ → ℕ) → length (listed n f) ≡ n
+listed-length zero f = refl
+listed-length (suc n) f = ap suc (listed-length n (λ k. f (suc k)))
+
+pub listed-at : (n : ℕ) (f : ℕ → ℕ) (k : ℕ) → k < n → getD (listed n f) k 0 ≡ f k
+listed-at zero f k l = absurd (omega arith)
+listed-at (suc n) f zero l = refl
+listed-at (suc n) f (suc k) l = listed-at n (λ k. f (suc k)) k (omega arith)
+
+cond-same : (b : Bool) (x : ℕ) → cond b x x ≡ x
+cond-same true x = refl
+cond-same false x = refl
+
+held-from : (s : Start) (N : ℕ) → 0 < s .count → s .held .heard ≡ none N → heldAt s (none N) ≡ s .held
+held-from s N p e =
+    rw (come-none (s .count) N, ne-eqb 0 (s .count) (λ z. omega arith), tally-none N, has-none N (s .count - 1), ← e)
+
+module _ (s : Start) (f : Fair s) where
+  pub none-lawful : Lawful s (none most)
+  none-lawful = record { long = length-replicate most false; below = λ j h. has-none most j }
+
+  -- The empty set: all is as it began.
+  pub held-none : heldAt s (none most) ≡ s .held
+  held-none = held-from s most (f .cut .some) (f .fresh)
+
+  pub buffer-none : bufferAt s (none most) ≡ s .buffer
+  buffer-none =
+      let n = listed-length (length (s .buffer)) (byteAt s (none most)) in
+      ext-getD 0 (bufferAt s (none most)) (s .buffer) n
+      (λ k h.
+      listed-at (length (s .buffer)) (byteAt s (none most)) k (rw n at h)
+      ∙ rw (has-none most (k / s .size)) (cond-same (ltb k (length (s .report))) (getD (s .buffer) k 0)))
+
+  -- The full set: the buffer begins with the report.
+  pub whole : (S : List Bool) → come (s .count) S ≡ s .count → take (length (s .report)) (bufferAt s S) ≡ s .report
+  whole S e =
+      let n : length (take (length (s .report)) (bufferAt s S)) ≡ length (s .report) =
+      simp (length-take, listed-length) (omega (arith, f .room)) in
+      ext-getD 0 (take (length (s .report)) (bufferAt s S)) (s .report) n
+      (λ k h.
+      let m : k < length (s .report) = omega arith in
+      let d : k / s .size < s .count =
+      div-lt-iff-lt-mul {k = s .size} {x = k} {y = s .count} (f .cut .pos) .1 (omega (arith, f .cut .enough)) in
+      getD-take (length (s .report)) (bufferAt s S) k 0 m
+      ∙ listed-at (length (s .buffer)) (byteAt s S) k (omega (arith, f .room))
+      ∙ rw (lt-ltb k (length (s .report)) m, come-full (s .count) S e (k / s .size) d))

@@ -1,0 +1,114 @@
+-- What the rules of cutting come to: places and lengths of the pieces, over any number of them. Assumes nothing.
+use Prim.Native.Nat.{ℕ, zero, suc, _+_, _-_, _*_, _/_, _≤_, _<_, min}
+use mathlib.Core.Path.{_≡_, refl, ap}
+use mathlib.Core.List.{List}
+use mathlib.Core.Bool.{Bool, true, false, cond, _||_}
+use native.Mathlib.Omega.{arith}
+use native.Mathlib.Nat.{div-lt-iff-lt-mul, le-div-iff-mul-le, div-eq-of-lt-le, mul-le-mul, le-of-lt}
+use lib.Dec.{eqb, ltb, leb, eqb·suc-zero}
+use lib.ListN.{length, take, drop, length-take, length-drop}
+use borrow.Author.Tests.{eqb-false, ltb-false, leb-false}
+use Rattle.laws.proofs.Bools.{or-false}
+use Rattle.wire.specs.Fields.{mostPieces}
+use Rattle.joining.specs.Heard.{most}
+use Rattle.joining.specs.Report.{part}
+use Rattle.joining.specs.Cut.{badSize, pieceCount, cutRefusal}
+
+-- L bytes cut into n pieces of F, n at most N: there is a piece, a byte follows each but the last, and the last is not over F.
+pub record Cut (F N n L : ℕ) : Type 0 where
+  pub pos : 0 < F
+  pub some : 0 < n
+  pub most : n ≤ N
+  pub full : (i : ℕ) → i + 1 < n → F * i + F < L
+  pub enough : L ≤ F * n
+
+pub cuts : (F N L : ℕ) → 0 < F → 0 < N → L ≤ F * N → Cut F N (pieceCount F L) L
+cuts F N zero p s m = record { pos = p; some = omega arith; most = omega arith; full = λ i l. absurd (omega arith); enough = omega arith }
+cuts F N (suc L) p s m =
+    let d : ℕ = L / F in
+    let e : pieceCount F (suc L) ≡ d + 1 = rw (eqb·suc-zero L) (ap (λ (k : ℕ). k / F + 1) (omega arith)) in
+    rw e
+    (record {
+      pos = p;
+      some = omega arith;
+      most = omega (arith, div-lt-iff-lt-mul {k = F} {x = L} {y = N} p .1 (omega arith));
+      full = λ i l. omega (arith, le-div-iff-mul-le {k = F} {x = i + 1} {y = L} p .0 (omega arith));
+      enough = omega (arith, div-lt-iff-lt-mul {k = F} {x = L} {y = d + 1} p .0 (omega arith));
+    })
+
+-- F × i stays small: the bound is linear in N, so omega can use it.
+pub place-bound : (F i N : ℕ) → F ≤ 16384 → i < N → F * i ≤ 16384 * N
+place-bound F i N h l = mul-le-mul h (le-of-lt l)
+
+pub good-size : (F : ℕ) → badSize F ≡ false → (0 < F) × (F ≤ 16384)
+good-size F e =
+    let n = or-false (eqb F 0) (ltb 16384 F) e in
+    let z : F ≡ 0 → ⊥ = eqb-false F 0 (n .0) in
+    (positive F z, ltb-false 16384 F (n .1))
+  where
+    positive : (F : ℕ) → (F ≡ 0 → ⊥) → 0 < F
+    positive zero z = absurd (z refl)
+    positive (suc F) z = omega arith
+
+-- A row that does not apply is passed over.
+pub passed : (b : Bool) (k x : ℕ) → (k ≡ 0 → ⊥) → cond b k x ≡ 0 → (b ≡ false) × (x ≡ 0)
+passed true k x n e = absurd (n e)
+passed false k x n e = (refl, e)
+
+-- What the cutter does not refuse is cut by the rules, and the piece asked for is one of them.
+pub record Cuttable (F L i : ℕ) : Type 0 where
+  pub cut : Cut F most (pieceCount F L) L
+  pub small : F ≤ 16384
+  pub one : i < pieceCount F L
+  pub within : F * i ≤ L
+
+-- A piece begins within the report.
+pub begins : {F N n L : ℕ} → Cut F N n L → (i : ℕ) → i < n → F * i ≤ L
+begins c zero l = omega arith
+begins c (suc i) l = omega (arith, c .full i (omega arith))
+
+pub cuttable : (F L i : ℕ) → cutRefusal F L i ≡ 0 → Cuttable F L i
+unfolding cutRefusal mostPieces
+cuttable F L i e =
+    let a = passed (badSize F) 24 _ (λ z. omega arith) e in
+    let b = passed (ltb (F * most) L || leb (pieceCount F L) i) 7 0 (λ z. omega arith) (a .1) in
+    let n = or-false (ltb (F * most) L) (leb (pieceCount F L) i) (b .0) in
+    let f = good-size F (a .0) in
+    let c = cuts F most L (f .0) (omega arith) (ltb-false (F * most) L (n .0)) in
+    let l = leb-false (pieceCount F L) i (n .1) in
+    record { cut = c; small = f .1; one = l; within = begins c i l }
+
+module _ {F N n : ℕ} (R : List ℕ) (c : Cut F N n (length R)) (i : ℕ) (l : i < n) where
+  pub part-length : length (part R (F * i) F) ≡ min F (length R - F * i)
+  part-length = simp (length-take, length-drop)
+
+  pub inside : F * i + length (part R (F * i) F) ≤ length R
+  inside = omega (arith, part-length, begins c i l)
+
+  pub not-over : length (part R (F * i) F) ≤ F
+  not-over = omega (arith, part-length)
+
+  pub filled : i + 1 < n → length (part R (F * i) F) ≡ F
+  filled m = omega (arith, part-length, c .full i m)
+
+  pub remainder : i + 1 ≡ n → length (part R (F * i) F) ≡ length R - F * i
+  remainder m = omega (arith, part-length, c .enough, ap (λ (k : ℕ). F * k) m)
+
+  -- The last of several is not empty.
+  pub not-empty : i + 1 ≡ n → 1 < n → 0 < length (part R (F * i) F)
+  not-empty m k = go i (remainder m) m
+    where
+      go : (j : ℕ) → length (part R (F * i) F) ≡ length R - F * j → j + 1 ≡ n → 0 < length (part R (F * i) F)
+      go zero e m = absurd (omega arith)
+      go (suc j) e m = omega (arith, c .full j (omega arith))
+
+-- The piece that a place belongs to.
+module _ (F i k : ℕ) (p : 0 < F) where
+  pub piece-at : F * i ≤ k → k < F * i + F → k / F ≡ i
+  piece-at lo hi = div-eq-of-lt-le F (omega arith) (omega arith)
+
+  pub not-before : k < F * i → k / F ≡ i → ⊥
+  not-before lt e = omega (arith, le-div-iff-mul-le {k = F} {x = i} {y = k} p .0 (omega arith))
+
+  pub ends-within : k / F ≡ i → k < F * i + F
+  ends-within e = omega (arith, div-lt-iff-lt-mul {k = F} {x = k} {y = i + 1} p .0 (omega arith))

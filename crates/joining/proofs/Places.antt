@@ -1,0 +1,48 @@
+-- A piece put into a buffer: the length and the byte at each place of what comes of it. Assumes nothing.
+use Prim.Native.Nat.{ℕ, _+_, _-_, _≤_, _<_, min}
+use mathlib.Core.Path.{_≡_, refl, sym, ap, _∙_}
+use mathlib.Core.List.{List, [], _++_, append-nil}
+use native.Mathlib.Omega.{arith}
+use native.Mathlib.Decide.{decLt}
+use borrow.Rule.Slice.PartMut.{putMid}
+use lib.ListN.{length, getD, take, drop, length-append, length-take, length-drop, drop-of-length-le, List·getD-append}
+use lib.Seq.{getD-append-add, getD-take, getD-drop, length-take-le, take-length, take-all, drop-drop}
+use Rattle.laws.proofs.Lists.{part-from}
+use Rattle.joining.specs.Report.{put}
+
+-- To take no more than there is takes the same.
+pub take-least : (n : ℕ) (l : List ℕ) (k : ℕ) → k ≡ length l → take (min n k) l ≡ take n l
+take-least n l k e = go (decLt n k)
+  where
+    go : Dec (n < k) → take (min n k) l ≡ take n l
+    go (yes h) = let m : min n k ≡ n = omega arith in rw m
+    go (no h) = let m : min n k ≡ k = omega arith in rw m (take-all k l (omega arith) ∙ sym (take-all n l (omega arith)))
+
+module _ (b : List ℕ) (at : ℕ) (p : List ℕ) where
+  -- The part of the buffer from place `at` on was lent, and came back with the piece over its first bytes.
+  pub put-lent : at + length p ≤ length b → (y : List ℕ) → y ≡ take (length p) p ++ drop (length p) (take (length b - at) (drop at b))
+      → putMid at (length b - at) b y ≡ put b at p
+  put-lent fits y e =
+      let k : length b ≤ at + (length b - at) = omega arith in
+      rw (e, take-length p, part-from b at, drop-drop (length p) at b, drop-drop (length b - at) at b, drop-of-length-le b k, append-nil)
+
+module _ (b : List ℕ) (at : ℕ) (p : List ℕ) (fits : at + length p ≤ length b) where
+  pub put-length : length (put b at p) ≡ length b
+  put-length = simp (length-append, length-take, length-drop) (omega arith)
+
+  pub put-before : (k : ℕ) → k < at → getD (put b at p) k 0 ≡ getD b k 0
+  put-before k l =
+      List·getD-append (take at b) (p ++ drop (at + length p) b) 0 k (simp length-take (omega arith)) ∙ getD-take at b k 0 l
+
+  from-at : (k : ℕ) → getD (put b at p) (at + k) 0 ≡ getD (p ++ drop (at + length p) b) k 0
+  from-at k =
+      ap (λ (n : ℕ). getD (put b at p) (n + k) 0) (sym (length-take-le at b (omega arith)))
+      ∙ getD-append-add (take at b) (p ++ drop (at + length p) b) k 0
+
+  pub put-in : (k : ℕ) → k < length p → getD (put b at p) (at + k) 0 ≡ getD p k 0
+  put-in k l = from-at k ∙ List·getD-append p (drop (at + length p) b) 0 k l
+
+  pub put-after : (k : ℕ) → getD (put b at p) (at + (length p + k)) 0 ≡ getD b (at + (length p + k)) 0
+  put-after k =
+      from-at (length p + k) ∙ getD-append-add p (drop (at + length p) b) k 0 ∙ getD-drop (at + length p) b k 0
+      ∙ ap (λ (n : ℕ). getD b n 0) (omega arith)

@@ -1,0 +1,12 @@
+-- The code is the definition.
+use mathlib.Core.Path.{refl}
+use Rattle.wire.specs.Fields.{mostPieces}
+use Rattle.joining.proofs.Progress.expecting.Statement.{statement}
+use Rattle.joining.proofs.Progress.expecting.Tie as tie
+
+returns : tie.Need-returns
+unfolding mostPieces
+returns c = refl
+
+pub expecting-spec : {M : Type 1} → statement M
+expecting-spec = tie.close (tie.spec returns)

@@ -1,0 +1,87 @@
+-- A refusal, a Repeat or a new piece: each is one way of the definitions.
+use Prim.Native.Nat.{_+_, _*_, _≤_}
+use mathlib.Core.Path.{sym, _∙_}
+use native.Mathlib.Omega.{arith}
+use lib.ListN.{length}
+use borrow.Author.Needs.{needs}
+use Rattle.joining.specs.Join.{Fitting}
+use Rattle.wire.specs.Fields.{mostPieces}
+use Rattle.joining.proofs.Refusals.{fitting}
+use Rattle.joining.proofs.Ways.{way-refused, way-repeat, way-new}
+use Rattle.joining.proofs.Progress.join.Statement.{statement}
+use Rattle.joining.proofs.Progress.join.Tie as tie
+
+abbrev entry : tie.Else1 → tie.Start
+entry c = c .before .before .before .before .before
+
+-- What no row refuses fits.
+known : (c : tie.Else1) → let s = entry c .args in
+    Fitting (s .size) (s .self) (s .piece) (length (s .payload .now)) × (s .size * s .piece .index + length (s .payload .now) ≤ length (s .report .now))
+known c =
+    let s = entry c .args in
+    fitting (s .size) (s .self) (s .piece) (s .payload .now) (s .report .now) (sym (c .before .refusal .ensures) ∙ c .if1 .left)
+
+refusal-requires : tie.Need-refusal-requires
+refusal-requires c κs = search needs
+
+same-length : tie.Need-same-length
+same-length c = search needs
+
+returns : tie.Need-returns
+returns c =
+    let s = c .before .before .before .before .before .args in
+    way-refused (s .size) (s .self) (s .piece) (s .payload .now) (s .report .now) _ (c .before .refusal .ensures) (c .if1 .taken)
+
+array-read-if2 : tie.Need-array-read-if2
+unfolding mostPieces
+array-read-if2 c = let k = known (c .before) in let u = k .0 .under in let f = k .0 .few in search needs
+
+count-heard-requires : tie.Need-count-heard-requires
+count-heard-requires c κs = known (c .before .before) .0 .few
+
+same-length-2 : tie.Need-same-length-2
+same-length-2 c = search needs
+
+returns-2 : tie.Need-returns-2
+returns-2 c =
+    let r = c .before .before .before in
+    let s = entry r .args in
+    way-repeat (s .size) (s .self) (s .piece) (s .payload .now) (s .report .now) _ (r .before .refusal .ensures) (r .if1 .left)
+    (c .before .if2 .taken) _ (c .count-heard .ensures .0)
+
+mul-store : tie.Need-mul-store
+mul-store c = let k = known (c .before .before .before) in omega (arith, k .1)
+
+store-requires : tie.Need-store-requires
+store-requires c κs = known (c .before .before .before) .1
+
+advance-requires : tie.Need-advance-requires
+advance-requires c κs = let t = c .before .before .before .before in (t .if2 .left, known (t .before .before) .0)
+
+same-length-3 : tie.Need-same-length-3
+same-length-3 c = search needs
+
+returns-3 : tie.Need-returns-3
+returns-3 c =
+    let t = c .before .before .before .before .before in
+    let r = t .before .before in
+    let s = entry r .args in
+    way-new (s .size) (s .self) (s .piece) (s .payload .now) (s .report .now) _ (r .before .refusal .ensures) (r .if1 .left)
+    (t .if2 .left) _ (c .advance .ensures) _ (c .before .before .before .store .ensures)
+
+pub join-spec : {M : Type 1} → statement M
+join-spec =
+    tie.close
+    (tie.spec
+    refusal-requires
+    same-length
+    returns
+    array-read-if2
+    count-heard-requires
+    same-length-2
+    returns-2
+    mul-store
+    store-requires
+    advance-requires
+    same-length-3
+    returns-3)

@@ -1,0 +1,55 @@
+-- The ways through `advance` and `join`, over plain values. Assumes nothing.
+use Prim.Native.Nat.{ℕ, _+_, _-_, _*_, _≤_, _<_}
+use mathlib.Core.Path.{_≡_, refl, sym, _∙_}
+use mathlib.Core.List.{List}
+use mathlib.Core.Bool.{Bool, true, false}
+use native.Mathlib.Omega.{arith}
+use lib.Dec.{eqb}
+use lib.ListN.{length}
+use borrow.Author.Tests.{eq-eqb, ne-eqb}
+use Rattle.joining.specs.declared.Progress.{Progress}
+use Rattle.joining.specs.declared.Piece.{Piece}
+use Rattle.joining.specs.declared.Joined.{Joined}
+use Rattle.joining.specs.declared.Arrival.the-variants.{Refused, Taken, Repeat, Complete}
+use Rattle.joining.specs.Heard.{most, come, has, mark}
+use Rattle.joining.specs.Report.{put}
+use Rattle.joining.specs.Join.{Fitting, lastOf, expecting, completes, taken, joinRefusal, join, reportAfter}
+use Rattle.joining.proofs.Heards.{come-mark}
+
+module _ (F : ℕ) (h : Progress) (p : Piece) (size : ℕ) (f : Fitting F h p size) (new : has (h .heard) (p .index) ≡ false) (long : length (h .heard) ≡ most)
+    (n l : ℕ) (counted : n ≡ come (p .count) (h .heard)) (ends : l ≡ lastOf h p size) where
+  marked : come (p .count) (mark (h .heard) (p .index)) ≡ n + 1
+  marked = rw counted (come-mark (p .count) (h .heard) (p .index) (f .under) (omega (arith, f .under, f .few)) new)
+
+  pub way-complete : n + 1 ≡ p .count → (q : Progress) → q ≡ expecting (h .expected + 1)
+      → _≡_ {A = Joined} (record { progress = q; answer = Complete (F * (p .count - 1) + l) (p .count) }) (taken F h p size)
+  way-complete m q e = rw (marked, eq-eqb (n + 1) (p .count) m, e, ends)
+
+  pub way-taken : (n + 1 ≡ p .count → ⊥)
+      → _≡_ {A = Joined}
+      (record {
+        progress = record { expected = h .expected; heard = mark (h .heard) (p .index); count = p .count; channel = p .channel; last = l };
+        answer = Taken (n + 1);
+      })
+      (taken F h p size)
+  way-taken m = rw (marked, ne-eqb (n + 1) (p .count) m, ends)
+
+module _ (F : ℕ) (h : Progress) (p : Piece) (bytes report : List ℕ) (r : ℕ) (given : r ≡ joinRefusal F h p bytes report) where
+  -- The answer, what is remembered and the report buffer are those of the definitions.
+  abbrev pub Joins : Joined → List ℕ → Type 0
+  Joins j b = (j ≡ join F h p bytes report) × (b ≡ reportAfter F h p bytes report)
+
+  pub way-refused : (r ≡ 0 → ⊥) → Joins (record { progress = h; answer = Refused r }) report
+  unfolding join reportAfter
+  way-refused m = (rw (← given, ne-eqb r 0 m), rw (← given, ne-eqb r 0 m))
+
+  module _ (none : r ≡ 0) where
+    pub way-repeat : has (h .heard) (p .index) ≡ true → (n : ℕ) → n ≡ come (p .count) (h .heard)
+        → Joins (record { progress = h; answer = Repeat n }) report
+    unfolding join reportAfter
+    way-repeat k n e = (rw (← given, eq-eqb r 0 none, k, e), rw (← given, eq-eqb r 0 none, k))
+
+    pub way-new : has (h .heard) (p .index) ≡ false → (j : Joined) → j ≡ taken F h p (length bytes) → (b : List ℕ) → b ≡ put report (F * p .index) bytes
+        → Joins j b
+    unfolding join reportAfter
+    way-new k j e b d = (rw (← given, eq-eqb r 0 none, k) e, rw (← given, eq-eqb r 0 none, k) d)

@@ -1,0 +1,68 @@
+-- A piece that was heard must be as long as the one taken and have its bytes.
+use mathlib.Core.Bool.{Bool}
+use native.Mathlib.Nat.{add-sub-cancel-left}
+use borrow.Author.Tests.{eq-eqb, ne-eqb, not-true, not-false}
+use borrow.Author.Needs.{needs}
+use Rattle.joining.specs.Heard.{has}
+use Rattle.wire.specs.Fields.{mostPieces}
+use Rattle.joining.proofs.conflict.Statement.{statement}
+use Rattle.joining.proofs.conflict.Tie as tie
+
+-- The index is heard.
+abbrev heard : tie.Start → Bool
+heard c = has (c .args .t2 .heard) (c .args .piece .index)
+
+element-copy-out-is-heard : tie.Need-element-copy-out-is-heard
+unfolding mostPieces
+element-copy-out-is-heard c = search needs
+
+returns : tie.Need-returns
+returns c = rw (not-true (heard (c .before .before .before .before)) (c .if1 .taken))
+
+due-requires : tie.Need-due-requires
+due-requires c κs = search needs
+
+returns-2 : tie.Need-returns-2
+returns-2 c =
+    let i = c .before .before in
+    rw (not-false (heard (i .before .before .before .before)) (i .if1 .left), ← (c .before .due .ensures), ne-eqb _ _ (c .if2 .taken))
+
+mul-start : tie.Need-mul-start
+mul-start c = search needs
+
+add-end : tie.Need-add-end
+add-end c = search needs
+
+sub-alike : tie.Need-sub-alike
+sub-alike c = search needs
+
+part-alike-start : tie.Need-part-alike-start
+part-alike-start c = search needs
+
+part-alike-end : tie.Need-part-alike-end
+part-alike-end c = search needs
+
+alike-requires : tie.Need-alike-requires
+alike-requires c κs = search needs
+
+returns-3 : tie.Need-returns-3
+returns-3 c =
+    let l = c .before .before in
+    let i = l .before .before in
+    rw (not-false (heard (i .before .before .before .before)) (i .if1 .left), ← (l .before .due .ensures), eq-eqb _ _ (l .if2 .left), c .alike .ensures, add-sub-cancel-left)
+
+pub conflict-spec : {M : Type 1} → statement M
+conflict-spec =
+    tie.close
+    (tie.spec
+    element-copy-out-is-heard
+    returns
+    due-requires
+    returns-2
+    mul-start
+    add-end
+    sub-alike
+    part-alike-start
+    part-alike-end
+    alike-requires
+    returns-3)

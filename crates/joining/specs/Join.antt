@@ -1,0 +1,120 @@
+-- Joining: what an opened Session message of a Ready connection does to what the connection remembers of the message it expects (`Progress`)
+-- and to the report buffer. F is the fragment size.
+use Prim.Native.Nat.{ℕ, _+_, _-_, _*_, _<_, _≤_}
+use mathlib.Core.Path.{_≡_}
+use mathlib.Core.List.{List, [], _∷_, _++_}
+use mathlib.Core.Bool.{Bool, not, cond, _&&_, _||_}
+use lib.Dec.{eqb, ltb, leb}
+use lib.ListN.{length}
+use Rattle.laws.specs.Rows.{first}
+use Rattle.laws.specs.Same.{same}
+use Rattle.wire.specs.Refusals.{wrongPiece, pastSequence, futureSequence, lastSequence, wrongPieceSize, unlikeFirstPiece, noRoom, unlikeRepeat, wrongFragmentSize}
+use Rattle.joining.specs.declared.Progress.{Progress}
+use Rattle.joining.specs.declared.Piece.{Piece}
+use Rattle.joining.specs.declared.Joined.{Joined}
+use Rattle.joining.specs.declared.Arrival.{Arrival}
+use Rattle.joining.specs.declared.Arrival.the-variants.{Refused, Taken, Repeat, Complete}
+use Rattle.joining.specs.Heard.{most, tally, come, has, mark, none}
+use Rattle.joining.specs.Report.{part, put}
+use Rattle.joining.specs.Cut.{badSize}
+
+-- 7: "count 0 or over 64; index not under count".
+abbrev pub badIndex : ℕ → ℕ → Bool
+badIndex count index = ltb most count || leb count index
+
+-- 21: "count or channel unlike the first piece taken of this message": there is one where the heard set is not empty.
+abbrev pub unlike : Progress → Piece → Bool
+unlike held piece =
+    not (eqb (tally (held .heard)) 0) && (not (eqb (held .count) (piece .count)) || not (eqb (held .channel) (piece .channel)))
+
+-- The piece is the last of its message.
+abbrev pub isLast : Piece → Bool
+isLast piece = eqb (piece .index + 1) (piece .count)
+
+-- 20: "piece not F bytes and not last; last over F; last empty with count over 1".
+abbrev pub misfit : ℕ → Piece → ℕ → Bool
+misfit F piece size = cond (isLast piece) (ltb F size || (eqb size 0 && ltb 1 (piece .count))) (not (eqb size F))
+
+-- 23: "index already heard, and the bytes differ from the report buffer's there, or the length from the one taken".
+abbrev pub conflict : ℕ → Progress → Piece → List ℕ → List ℕ → Bool
+conflict F held piece bytes report =
+    has (held .heard) (piece .index)
+    && not (eqb (length bytes) (cond (isLast piece) (held .last) F) && same (part report (F * piece .index) (length bytes)) bytes)
+
+-- The refusals of a piece that is not one of the expected message: 24 and 7, which a step has made before it joins, then 19, 17, 18.
+abbrev pub turnRows : ℕ → ℕ → Piece → List (ℕ × Bool)
+turnRows F expected piece =
+    (wrongFragmentSize, badSize F)
+    ∷ (wrongPiece, badIndex (piece .count) (piece .index))
+    ∷ (lastSequence, eqb (piece .sequence) 4294967295)
+    ∷ (pastSequence, ltb (piece .sequence) expected)
+    ∷ (futureSequence, ltb expected (piece .sequence))
+    ∷ []
+
+-- The refusals of a piece that does not go with what has come, or does not fit: 21, 20, 22, 23.
+abbrev pub placeRows : ℕ → Progress → Piece → List ℕ → List ℕ → List (ℕ × Bool)
+placeRows F held piece bytes report =
+    (unlikeFirstPiece, unlike held piece)
+    ∷ (wrongPieceSize, misfit F piece (length bytes))
+    ∷ (noRoom, ltb (length report) (F * piece .index + length bytes))
+    ∷ (unlikeRepeat, conflict F held piece bytes report)
+    ∷ []
+
+-- The first refusal that applies: "then 19, 17, 18, 21, 20, 22, 23"; 0 is none.
+unfoldable pub joinRefusal : ℕ → Progress → Piece → List ℕ → List ℕ → ℕ
+joinRefusal F held piece bytes report = first (turnRows F (held .expected) piece ++ placeRows F held piece bytes report)
+
+-- What no row refuses, as far as counting looks at it.
+pub record Fitting (F : ℕ) (held : Progress) (piece : Piece) (size : ℕ) : Type 0 where
+  pub small : F ≤ 16384
+  pub under : piece .index < piece .count
+  pub few : piece .count ≤ most
+  pub more : held .expected ≡ 4294967295 → ⊥
+  pub fits : size ≤ F
+
+-- The last piece's length, as remembered once this piece has come; 0 until the last piece comes.
+abbrev pub lastOf : Progress → Piece → ℕ → ℕ
+lastOf held piece size = cond (isLast piece) size (held .last)
+
+-- Nothing is heard of the message with this number: how a connection begins, with number 0.
+abbrev pub expecting : ℕ → Progress
+expecting number = record { expected = number; heard = none most; count = 0; channel = 0; last = 0 }
+
+-- One more piece is heard; its count and channel are those that later pieces must have.
+abbrev pub extended : Progress → Piece → ℕ → Progress
+extended held piece size =
+    record {
+      expected = held .expected;
+      heard = mark (held .heard) (piece .index);
+      count = piece .count;
+      channel = piece .channel;
+      last = lastOf held piece size;
+    }
+
+-- With this piece all of its message have come: not "when the last index comes", but the last missing one.
+abbrev pub completes : Progress → Piece → Bool
+completes held piece = eqb (come (piece .count) (mark (held .heard) (piece .index))) (piece .count)
+
+-- A new piece: "At Complete the expected number rises by one and the heard set is empty again, the remembered count, channel and last length
+-- zero"; "Taken, … Complete with the report's length; each also tells how many different pieces of this message have come".
+abbrev pub taken : ℕ → Progress → Piece → ℕ → Joined
+taken F held piece size =
+    cond (completes held piece)
+    (record { progress = expecting (held .expected + 1); answer = Complete (F * (piece .count - 1) + lastOf held piece size) (piece .count) })
+    (record { progress = extended held piece size; answer = Taken (come (piece .count) (mark (held .heard) (piece .index))) })
+
+-- What is answered and remembered: a refusal or a Repeat changes nothing.
+unfoldable pub join : ℕ → Progress → Piece → List ℕ → List ℕ → Joined
+join F held piece bytes report =
+    cond (eqb (joinRefusal F held piece bytes report) 0)
+    (cond (has (held .heard) (piece .index))
+    (record { progress = held; answer = Repeat (come (piece .count) (held .heard)) })
+    (taken F held piece (length bytes)))
+    (record { progress = held; answer = Refused (joinRefusal F held piece bytes report) })
+
+-- "Piece i is written into the report buffer from place F × i on; no other byte changes": and none where the piece is refused or a Repeat.
+unfoldable pub reportAfter : ℕ → Progress → Piece → List ℕ → List ℕ → List ℕ
+reportAfter F held piece bytes report =
+    cond (eqb (joinRefusal F held piece bytes report) 0)
+    (cond (has (held .heard) (piece .index)) report (put report (F * piece .index) bytes))
+    report

@@ -1,0 +1,4 @@
+pub mod Heard
+pub mod Report
+pub mod Cut
+pub mod Join

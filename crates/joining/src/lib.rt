@@ -1,0 +1,245 @@
+// Cutting a report into pieces and joining them again: document 01, "Cutting and joining".
+pub mod compare;
+pub mod cut;
+mod heard;
+
+ghost use mathlib.Core.Path.{_≡_};
+ghost use mathlib.Core.Bool.{cond, false};
+ghost use Prim.Native.Nat.{ℕ, _<_, _≤_, _+_, _*_};
+ghost use lib.ListN.{length};
+ghost use Rattle.laws.specs.Rows.{first};
+ghost use Rattle.joining.specs.Heard.{has, most};
+ghost use Rattle.joining.specs.Join.{badIndex, unlike, misfit, conflict, join, reportAfter, expecting, turnRows, joinRefusal, taken, isLast, Fitting};
+ghost use Rattle.joining.specs.Report.{put};
+use heard::PIECES;
+use wire::refusals;
+
+// The SequenceNumber that no report has: 2^32 - 1.
+const UNUSED: u32 = 4294967295;
+
+// What a connection remembers of the message that it expects.
+pub struct Progress {
+    // The SequenceNumber that is expected.
+    pub expected: u32,
+    // Which indexes have been heard.
+    pub heard: [bool; PIECES],
+    // Count and channel of the first piece taken, 0 before it.
+    pub count: usize,
+    pub channel: u64,
+    // The last piece's length, 0 until it is taken.
+    pub last: u16,
+}
+
+// What a Session message's header says of the piece that it brings.
+pub struct Piece {
+    pub sequence: u32,
+    pub channel: u64,
+    pub count: usize,
+    pub index: usize,
+}
+
+// What the arrival of a piece comes to. `heard` is how many different pieces of its message have come.
+pub enum Arrival {
+    // The refusal's number in document 01.
+    Refused(u8),
+    Taken(usize),
+    Repeat(usize),
+    Complete { length: usize, heard: usize },
+}
+
+// What is remembered after a piece, and the answer to it.
+pub struct Joined {
+    pub progress: Progress,
+    pub answer: Arrival,
+}
+
+// 7 applies: the count is 0 or over 64, or the index is not under it.
+fn bad_index(count: usize, index: usize) -> bool
+    ensures { λ r. ⌜ r ≡ badIndex count index ⌝ }
+{
+    (PIECES < count) | (count <= index)
+}
+
+// 21 applies: count or channel is unlike that of the first piece taken.
+fn unlike(held: Progress, piece: Piece) -> bool
+    ensures { λ r. ⌜ r ≡ unlike held piece ⌝ }
+{
+    let heard = held.heard;
+    let any = heard::count_heard(heard, PIECES) != 0;
+    any & ((held.count != piece.count) | (held.channel != piece.channel))
+}
+
+// 20 applies: the piece's size is not that of its place.
+fn misfit(size: usize, piece: Piece, given: usize) -> bool
+    requires { ⌜ piece .index < piece .count ⌝ }
+    ensures { λ r. ⌜ r ≡ misfit size piece given ⌝ }
+{
+    if piece.index + 1 == piece.count {
+        return (size < given) | ((given == 0) & (1 < piece.count));
+    }
+    given != size
+}
+
+// The length that a piece of this index was taken with.
+fn due(size: usize, last: u16, piece: Piece) -> usize
+    requires { ⌜ piece .index < piece .count ⌝ }
+    ensures { λ r. ⌜ r ≡ cond (isLast piece) last size ⌝ }
+{
+    if piece.index + 1 == piece.count {
+        return last as usize;
+    }
+    size
+}
+
+// 23 applies: the index is heard, and the bytes or their number are not those that were taken.
+fn conflict(size: usize, held: Progress, piece: Piece, payload: &[u8], report: &[u8]) -> bool
+    requires { ⌜ (piece .index < piece .count) × (piece .count ≤ most) × (size * piece .index + length (now payload) ≤ length (now report)) ⌝ }
+    ensures { λ r. ⌜ r ≡ conflict size held piece (now (payload .entry)) (now (report .entry)) ⌝ }
+{
+    let index = piece.index;
+    let is_heard = held.heard[index];
+    if !is_heard {
+        return false;
+    }
+    if payload.len() != due(size, held.last, piece) {
+        return true;
+    }
+    let start = size * index;
+    let end = start + payload.len();
+    !compare::alike(&report[start..end], payload)
+}
+
+// The first refusal of a piece that is not one of the expected message, 0 where none applies.
+fn turn(size: usize, expected: u32, piece: Piece) -> u8
+    ensures { λ r. ⌜ r ≡ first (turnRows size expected piece) ⌝ }
+{
+    if cut::bad_size(size) {
+        return refusals::WRONG_FRAGMENT_SIZE;
+    }
+    if bad_index(piece.count, piece.index) {
+        return refusals::WRONG_PIECE;
+    }
+    if piece.sequence == UNUSED {
+        return refusals::LAST_SEQUENCE;
+    }
+    if piece.sequence < expected {
+        return refusals::PAST_SEQUENCE;
+    }
+    if expected < piece.sequence {
+        return refusals::FUTURE_SEQUENCE;
+    }
+    0
+}
+
+// The first refusal that applies, 0 where none does.
+fn refusal(size: usize, held: Progress, piece: Piece, payload: &[u8], report: &[u8]) -> u8
+    ensures { λ r. ⌜ r ≡ joinRefusal size held piece (now (payload .entry)) (now (report .entry)) ⌝ }
+{
+    let early = turn(size, held.expected, piece);
+    if early != 0 {
+        return early;
+    }
+    if unlike(held, piece) {
+        return refusals::UNLIKE_FIRST_PIECE;
+    }
+    if misfit(size, piece, payload.len()) {
+        return refusals::WRONG_PIECE_SIZE;
+    }
+    if report.len() < size * piece.index + payload.len() {
+        return refusals::NO_ROOM;
+    }
+    if conflict(size, held, piece, payload, report) {
+        return refusals::UNLIKE_REPEAT;
+    }
+    0
+}
+
+// A piece is written from place `start` on: that part of the report buffer is lent on to the copying leaf.
+fn store(report: &mut [u8], start: usize, payload: &[u8])
+    requires { ⌜ start + length (now payload) ≤ length (now report) ⌝ }
+    ensures { λ _. ⌜ now (report .exit) ≡ put (now (report .entry)) start (now (payload .entry)) ⌝ }
+{
+    bytes::copy(payload, &mut report[start..]);
+}
+
+// The last piece's length once a piece of this size has come.
+fn last_of(last: u16, piece: Piece, given: usize) -> u16
+    requires { ⌜ (piece .index < piece .count) × (given ≤ 16384) ⌝ }
+    ensures { λ r. ⌜ r ≡ cond (isLast piece) given last ⌝ }
+{
+    if piece.index + 1 == piece.count {
+        return given as u16;
+    }
+    last
+}
+
+// A new piece of so many bytes is counted: with it its message is complete or not.
+fn advance(size: usize, held: Progress, piece: Piece, given: usize) -> Joined
+    requires { ⌜ (has (held .heard) (piece .index) ≡ false) × Fitting size held piece given ⌝ }
+    ensures { λ r. ⌜ r ≡ taken size held piece given ⌝ }
+{
+    let index = piece.index;
+    let count = piece.count;
+    let mut heard = held.heard;
+    let come = heard::count_heard(heard, count) + 1;
+    let last = last_of(held.last, piece, given);
+    if come == count {
+        return Joined {
+            progress: Progress::expecting(held.expected + 1),
+            answer: Arrival::Complete {
+                length: size * (count - 1) + last as usize,
+                heard: count,
+            },
+        };
+    }
+    heard[index] = true;
+    Joined {
+        progress: Progress {
+            expected: held.expected,
+            heard,
+            count,
+            channel: piece.channel,
+            last,
+        },
+        answer: Arrival::Taken(come),
+    }
+}
+
+impl Progress {
+    // Nothing is heard of the message with this number.
+    pub fn expecting(number: u32) -> Progress
+        ensures { λ r. ⌜ r ≡ expecting number ⌝ }
+    {
+        Progress {
+            expected: number,
+            heard: [false; PIECES],
+            count: 0,
+            channel: 0,
+            last: 0,
+        }
+    }
+
+    // A piece with its header's numbers and its bytes comes, on a connection of this fragment size.
+    pub fn join(self, size: usize, piece: Piece, payload: &[u8], report: &mut [u8]) -> Joined
+        ensures { λ r. ⌜ r ≡ join size self piece (now (payload .entry)) (now (report .entry)) ⌝ }
+        ensures { λ _. ⌜ now (report .exit) ≡ reportAfter size self piece (now (payload .entry)) (now (report .entry)) ⌝ }
+    {
+        let refused = refusal(size, self, piece, payload, report);
+        if refused != 0 {
+            return Joined {
+                progress: self,
+                answer: Arrival::Refused(refused),
+            };
+        }
+        let index = piece.index;
+        let heard = self.heard;
+        if heard[index] {
+            return Joined {
+                progress: self,
+                answer: Arrival::Repeat(heard::count_heard(heard, piece.count)),
+            };
+        }
+        store(report, size * index, payload);
+        advance(size, self, piece, payload.len())
+    }
+}
