@@ -1,0 +1,62 @@
+//! Inputs for comparing two implementations, all drawn from a [`Prng`], so that a seed names an input.
+//!
+//! [`step`] makes single steps with faults of every kind, [`conversation`] whole conversations over a bad link, [`write`] calls of
+//! the writer and of the cutter.
+
+use crate::draft::Draft;
+use crate::gateway::Gateway;
+use crate::header::{ACKNOWLEDGE, WAKE};
+use crate::payload::FRAGMENT_SIZE;
+use crate::prng::Prng;
+
+pub mod conversation;
+pub mod fault;
+pub mod step;
+pub mod write;
+
+pub use conversation::{Conversation, Delivery, Link, conversation};
+pub use fault::Fault;
+pub use step::{Case, case, connection, draft};
+pub use write::{CutCase, WriteCase, cut_case, write_case};
+
+/// Any gateway, mostly with short credentials.
+pub fn gateway(prng: &mut Prng) -> Gateway {
+    let certificate = if prng.chance(5) { prng.between(1, 2_048) } else { prng.between(1, 40) };
+    let thumbprint = if prng.chance(5) { prng.between(0, 512) } else { prng.below(20) };
+    Gateway::new(prng, certificate, thumbprint)
+}
+
+/// Any F, mostly small, so that most inputs are.
+pub fn fragment_size(prng: &mut Prng) -> u32 {
+    match prng.below(100) {
+        0 => FRAGMENT_SIZE,
+        1..10 => prng.between(1, 2_000) as u32,
+        10..60 => prng.between(1, 70) as u32,
+        _ => prng.pick(&[1, 2, 3, 4, 11, 12, 13, 16, 28, 64]),
+    }
+}
+
+/// A good chain of 0 to 8 entries, mostly few and small.
+pub fn chain(prng: &mut Prng) -> Vec<u8> {
+    let entries = if prng.chance(70) { 0 } else { prng.between(1, 8) };
+    let mut chain = Vec::new();
+    for _ in 0..entries {
+        entry(prng, &mut chain);
+    }
+    chain.extend([0, 0]);
+    chain
+}
+
+fn entry(prng: &mut Prng, chain: &mut Vec<u8>) {
+    let size = if prng.chance(5) { prng.pick(&[254, 255]) } else { prng.below(5) };
+    chain.extend([prng.between(1, 3) as u8, size as u8]);
+    chain.extend(prng.bytes(size));
+}
+
+/// Gives a message what no rule looks at: RequestID, acknowledge and wake flags, a chain.
+pub fn dress(prng: &mut Prng, mut draft: Draft) -> Draft {
+    draft.header.request = prng.word();
+    draft.header.flags |= prng.pick(&[0, 0, 0, ACKNOWLEDGE, WAKE, ACKNOWLEDGE | WAKE]);
+    draft.chain = chain(prng);
+    draft
+}

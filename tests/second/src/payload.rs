@@ -1,0 +1,166 @@
+//! What a payload may be: the Presence Request, six Connect payloads, or a piece of a report. Refusal 14.
+
+use crate::bytes::Cursor;
+use crate::header::Kind;
+use crate::refusal::Refusal;
+
+/// HMACSize in every Connection Request and Response.
+pub const HMAC_SIZE: u16 = 32;
+/// The fragment size that every Connection Request and Response names, and the largest F.
+pub const FRAGMENT_SIZE: u32 = 16_384;
+/// Length of X and of Y.
+pub const KEY_LENGTH: u16 = 32;
+/// Longest certificate.
+pub const MOST_CERTIFICATE: u16 = 2_048;
+/// Longest thumbprint.
+pub const MOST_THUMBPRINT: u16 = 512;
+
+/// What one side brings to the key agreement.
+#[derive(Clone, Copy, Debug, PartialEq, Eq)]
+pub struct Offer {
+    /// Nonce.
+    pub nonce: [u8; 8],
+    /// X.
+    pub x: [u8; 32],
+    /// Y.
+    pub y: [u8; 32],
+}
+
+/// A certificate and its thumbprint.
+#[derive(Clone, Copy, Debug, PartialEq, Eq)]
+pub struct Credentials<'a> {
+    /// 1 to 2,048 bytes.
+    pub certificate: &'a [u8],
+    /// 0 to 512 bytes.
+    pub thumbprint: &'a [u8],
+}
+
+/// What comes after a Connect payload's ConnectionMode and type byte.
+#[derive(Clone, Copy, Debug, PartialEq, Eq)]
+pub enum Connect<'a> {
+    /// Type 0, plain.
+    ConnectionRequest(Offer),
+    /// Type 1 with Result 1, plain.
+    ConnectionPending(Offer),
+    /// Type 1 with another Result (0, 2 or 3), plain.
+    ConnectionResult(u8),
+    /// Type 2, sealed.
+    AuthenticationRequest(Credentials<'a>),
+    /// Type 3, sealed.
+    AuthenticationResponse(Credentials<'a>),
+    /// Type 6, sealed.
+    DoneRequest,
+    /// Type 7 with its Status, sealed.
+    DoneResponse(u8),
+}
+
+/// A payload as it should be.
+#[derive(Clone, Copy, Debug, PartialEq, Eq)]
+pub enum Payload<'a> {
+    /// Discovery's one payload.
+    PresenceRequest,
+    /// A Connect payload with its ConnectionMode.
+    Connect(u16, Connect<'a>),
+    /// A Session payload: any bytes.
+    Piece(&'a [u8]),
+}
+
+/// What `bytes` say as the payload of a message of this kind; refuses with 14.
+pub fn read_payload(kind: Kind, sealed: bool, bytes: &[u8]) -> Result<Payload<'_>, Refusal> {
+    let payload = match kind {
+        Kind::Discovery => (bytes == [0]).then_some(Payload::PresenceRequest),
+        Kind::Connect => connect(sealed, bytes),
+        Kind::Session => Some(Payload::Piece(bytes)),
+    };
+    payload.ok_or(Refusal::Payload)
+}
+
+fn connect(sealed: bool, bytes: &[u8]) -> Option<Payload<'_>> {
+    let mut rest = Cursor::new(bytes);
+    let mode = rest.u16().filter(|mode| *mode <= 2)?;
+    let connect = match (rest.u8()?, sealed) {
+        (0, false) => {
+            fixed(rest.u8()?, 0)?;
+            Connect::ConnectionRequest(offer(&mut rest)?)
+        }
+        (1, false) => match rest.u8()? {
+            1 => Connect::ConnectionPending(offer(&mut rest)?),
+            result => Connect::ConnectionResult(Some(result).filter(|r| *r <= 3)?),
+        },
+        (2, true) => Connect::AuthenticationRequest(credentials(&mut rest)?),
+        (3, true) => Connect::AuthenticationResponse(credentials(&mut rest)?),
+        (6, true) => Connect::DoneRequest,
+        (7, true) => Connect::DoneResponse(rest.u8().filter(|status| *status <= 4)?),
+        _ => return None,
+    };
+    (rest.left() == 0).then_some(Payload::Connect(mode, connect))
+}
+
+/// The fields from HMACSize on.
+fn offer(rest: &mut Cursor<'_>) -> Option<Offer> {
+    fixed(rest.u16()?, HMAC_SIZE)?;
+    let nonce = rest.array()?;
+    fixed(rest.u32()?, FRAGMENT_SIZE)?;
+    fixed(rest.u16()?, KEY_LENGTH)?;
+    let x = rest.array()?;
+    fixed(rest.u16()?, KEY_LENGTH)?;
+    let y = rest.array()?;
+    Some(Offer { nonce, x, y })
+}
+
+fn credentials<'a>(rest: &mut Cursor<'a>) -> Option<Credentials<'a>> {
+    let length = rest.u16().filter(|c| (1..=MOST_CERTIFICATE).contains(c))?;
+    let certificate = rest.take(length.into())?;
+    let length = rest.u16().filter(|t| *t <= MOST_THUMBPRINT)?;
+    let thumbprint = rest.take(length.into())?;
+    Some(Credentials { certificate, thumbprint })
+}
+
+/// A field that has but one value.
+fn fixed<T: PartialEq>(found: T, value: T) -> Option<()> {
+    (found == value).then_some(())
+}
+
+impl Payload<'_> {
+    /// The payload's bytes.
+    pub fn to_bytes(&self) -> Vec<u8> {
+        match self {
+            Payload::PresenceRequest => vec![0],
+            Payload::Connect(mode, connect) => {
+                [&mode.to_be_bytes()[..], &connect.to_bytes()].concat()
+            }
+            Payload::Piece(bytes) => bytes.to_vec(),
+        }
+    }
+}
+
+impl Connect<'_> {
+    fn to_bytes(self) -> Vec<u8> {
+        match self {
+            Connect::ConnectionRequest(offer) => [&[0, 0][..], &offer.to_bytes()].concat(),
+            Connect::ConnectionPending(offer) => [&[1, 1][..], &offer.to_bytes()].concat(),
+            Connect::ConnectionResult(result) => vec![1, result],
+            Connect::AuthenticationRequest(shown) => [&[2][..], &shown.to_bytes()].concat(),
+            Connect::AuthenticationResponse(shown) => [&[3][..], &shown.to_bytes()].concat(),
+            Connect::DoneRequest => vec![6],
+            Connect::DoneResponse(status) => vec![7, status],
+        }
+    }
+}
+
+impl Offer {
+    fn to_bytes(self) -> Vec<u8> {
+        let (hmac_size, key_length) = (HMAC_SIZE.to_be_bytes(), KEY_LENGTH.to_be_bytes());
+        let fragment_size = FRAGMENT_SIZE.to_be_bytes();
+        [&hmac_size[..], &self.nonce, &fragment_size, &key_length, &self.x, &key_length, &self.y]
+            .concat()
+    }
+}
+
+impl Credentials<'_> {
+    fn to_bytes(self) -> Vec<u8> {
+        let length = |part: &[u8]| (part.len() as u16).to_be_bytes();
+        let (certificate, thumbprint) = (self.certificate, self.thumbprint);
+        [&length(certificate), certificate, &length(thumbprint), thumbprint].concat()
+    }
+}

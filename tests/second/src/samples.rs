@@ -1,0 +1,325 @@
+//! The samples under samples/: what a gateway sends over a bad link, and what the programs must say to it.
+//!
+//! Each message is put down together with the line it must get, so the expected lines do not come from the code under test.
+
+use std::collections::BTreeSet;
+
+use crate::draft::{Damage, Draft};
+use crate::gateway::{Gateway, presence_request};
+use crate::generate::dress;
+use crate::header::{ACKNOWLEDGE, Header, SHORTEST, WAKE};
+use crate::listing::Messages;
+use crate::prng::Prng;
+use crate::replay::Player;
+
+/// The seed of the samples in the repository.
+pub const SEED: u64 = 0x0048_4C49_4455_4E53;
+/// F of the capture.
+pub const FRAGMENT_SIZE: u32 = 256;
+
+/// A file's name and its bytes.
+pub type File = (String, Vec<u8>);
+
+/// All sample files.
+pub fn make(seed: u64) -> Vec<File> {
+    let mut prng = Prng::new(seed);
+    let gateway = Gateway::new(&mut prng, 387, 64);
+    let reports = reports(&mut prng);
+    let capture = capture(&mut prng, &gateway, &reports);
+    let mut files = vec![file("keys.bin", &gateway.keys[..])];
+    files.push(file("capture.bin", &capture.bytes[..]));
+    files.push(file("capture.txt", capture.lines()));
+    files.push(file("capture-verdict-0.txt", rejected(&gateway, &capture.bytes)));
+    for (number, report) in reports.iter().enumerate() {
+        files.push((format!("report-{number}"), report.clone()));
+    }
+    let messages = messages(&mut prng, &gateway);
+    for (name, draft) in &messages {
+        files.push((format!("messages/{name}.bin"), draft.bytes(&gateway.keys)));
+    }
+    listings(&messages, &gateway, &mut files);
+    files
+}
+
+fn file(name: &str, bytes: impl Into<Vec<u8>>) -> File {
+    (name.to_string(), bytes.into())
+}
+
+/// Messages back to back, and the line that each must get.
+#[derive(Default)]
+struct Script {
+    bytes: Vec<u8>,
+    lines: Vec<String>,
+}
+
+impl Script {
+    fn put(&mut self, message: &[u8], line: impl Into<String>) {
+        self.bytes.extend(message);
+        self.lines.push(line.into());
+    }
+
+    fn lines(&self) -> String {
+        self.lines.iter().map(|line| format!("{line}\n")).collect()
+    }
+}
+
+/// Five reports: some text, nothing, as much as 64 pieces hold, ten bytes, more text.
+fn reports(prng: &mut Prng) -> Vec<Vec<u8>> {
+    let most = 64 * FRAGMENT_SIZE as usize;
+    [1_000, 0, most, 10, 5_000].map(|length| text(prng, length)).to_vec()
+}
+
+/// Readings of pumps, so that a recovered report can be read.
+fn text(prng: &mut Prng, length: usize) -> Vec<u8> {
+    let mut text = String::new();
+    let mut line = 1;
+    while text.len() < length {
+        let (pump, pressure, flow) = (prng.between(1, 9), prng.between(180, 620), prng.below(100));
+        text += &format!("{line:04} pump {pump}: {pressure} kPa, {flow} l/min\n");
+        line += 1;
+    }
+    text.truncate(length);
+    text.into_bytes()
+}
+
+/// The capture: an enrolment whose replies get lost, then the reports.
+fn capture(prng: &mut Prng, gateway: &Gateway, reports: &[Vec<u8>]) -> Script {
+    let mut script = Script::default();
+    enrolment(prng, gateway, &mut script);
+    for (sequence, report) in reports.iter().enumerate() {
+        let pieces = gateway.pieces(sequence as u32, FRAGMENT_SIZE, report);
+        let order = order(prng, sequence, pieces.len());
+        Joining { gateway, pieces, report, came: BTreeSet::new() }.play(prng, &order, &mut script);
+    }
+    let (done, _) = &gateway.enrolment()[2];
+    let mut cut = done.clone();
+    cut.damage.push(Damage::Cut(50));
+    script.put(&cut.bytes(&gateway.keys), "refused 3");
+    script
+}
+
+/// Requests come again because replies got lost; other messages come between.
+fn enrolment(prng: &mut Prng, gateway: &Gateway, script: &mut Script) {
+    let other = Gateway::new(prng, 100, 20);
+    let keys = &gateway.keys;
+    let [request, authentication, done] =
+        gateway.enrolment().map(|(draft, _)| dress(prng, draft).bytes(keys));
+    let early = gateway.piece(0, 0, 1, b"too early").bytes(keys);
+    let stranger = other.enrolment()[0].0.bytes(&other.keys);
+    let mut damaged = authentication.clone();
+    Damage::Flip(8 * 300 + 5).befall(&mut damaged);
+    let reply = gateway.replies()[1].bytes(keys);
+    script.put(&presence_request().bytes(keys), "refused 15");
+    script.put(&early, "refused 15");
+    script.put(&request, "reply 1");
+    script.put(&request, "again 1");
+    script.put(&stranger, "refused 16");
+    script.put(&request, "again 1");
+    script.put(&done, "refused 15");
+    script.put(&damaged, "refused 11");
+    script.put(&authentication, "reply 3");
+    script.put(&early, "refused 15");
+    script.put(&request, "again 1");
+    script.put(&authentication, "again 3");
+    script.put(&done, "reply 7");
+    script.put(&reply, "refused 15");
+    script.put(&done, "again 7");
+    script.put(&authentication, "again 3");
+    script.put(&done, "again 7");
+}
+
+/// In which order the pieces of a report come: the first and third shuffled, the last backwards, some of them twice.
+fn order(prng: &mut Prng, report: usize, pieces: usize) -> Vec<usize> {
+    let mut order: Vec<usize> = (0..pieces).rev().collect();
+    if report < 4 {
+        prng.shuffle(&mut order);
+    }
+    let again: Vec<usize> = order.iter().copied().filter(|_| prng.chance(25)).collect();
+    for piece in again {
+        order.insert(prng.between(0, order.len()), piece);
+    }
+    order
+}
+
+/// A report on its way, with the pieces that have come.
+struct Joining<'a> {
+    gateway: &'a Gateway,
+    pieces: Vec<Draft>,
+    report: &'a [u8],
+    came: BTreeSet<usize>,
+}
+
+impl Joining<'_> {
+    fn play(&mut self, prng: &mut Prng, order: &[usize], script: &mut Script) {
+        for (turn, piece) in order.iter().enumerate() {
+            self.disturb(prng, turn, script);
+            self.bring(prng, *piece, script);
+        }
+        let late = dress(prng, self.pieces[0].clone());
+        script.put(&late.bytes(&self.gateway.keys), "refused 17");
+    }
+
+    /// A piece comes, with a RequestID, flags and a chain of its own.
+    fn bring(&mut self, prng: &mut Prng, piece: usize, script: &mut Script) {
+        let whole = self.came.len() == self.pieces.len();
+        let new = self.came.insert(piece);
+        let line = match self.came.len() {
+            _ if whole => "refused 17".to_string(),
+            heard if !new => format!("repeat {heard}"),
+            heard if heard == self.pieces.len() => format!("complete {}", self.report.len()),
+            heard => format!("taken {heard}"),
+        };
+        let draft = dress(prng, self.pieces[piece].clone());
+        script.put(&draft.bytes(&self.gateway.keys), line);
+    }
+
+    /// Something that changes nothing: a damaged piece, a wrong one, or an enrolment request that comes again.
+    fn disturb(&self, prng: &mut Prng, turn: usize, script: &mut Script) {
+        let under_way = !self.came.is_empty() && self.came.len() < self.pieces.len();
+        if !under_way || prng.chance(60) && turn > 3 {
+            return;
+        }
+        let keys = &self.gateway.keys;
+        let (mut draft, line) = match prng.below(3) {
+            0 => self.damaged(prng),
+            1 => self.wrong(prng),
+            _ => {
+                let (request, reply) = self.gateway.enrolment()[prng.below(3)].clone();
+                (request, format!("again {reply}"))
+            }
+        };
+        draft.header.request = prng.word();
+        script.put(&draft.bytes(keys), line);
+    }
+
+    /// A piece with a bit flipped, MessageLength excepted, so that the next message is found.
+    fn damaged(&self, prng: &mut Prng) -> (Draft, String) {
+        let mut draft = self.pieces[prng.below(self.pieces.len())].clone();
+        let length = draft.bytes(&self.gateway.keys).len();
+        let (place, refusal) = prng.pick(&[
+            (0, 2),
+            (4, 4),
+            (5, 5),
+            (6, 6),
+            (22, 7),
+            (40, 8),
+            (9, 11),
+            (24, 11),
+            (50, 11),
+            (length - 1, 11),
+        ]);
+        draft.damage.push(Damage::Flip(8 * place + 6));
+        (draft, format!("refused {refusal}"))
+    }
+
+    /// A piece that is well sealed, and wrong.
+    fn wrong(&self, prng: &mut Prng) -> (Draft, String) {
+        let came = *self.came.first().expect("one that has come");
+        let mut draft = self.pieces[came].clone();
+        let header = &mut draft.header;
+        let refusal = match prng.below(8) {
+            0 => {
+                draft.payload[0] ^= 1;
+                23
+            }
+            1 => {
+                header.channel ^= 1;
+                21
+            }
+            2 => {
+                header.count = if header.count == 64 { 63 } else { header.count + 1 };
+                header.index = 0;
+                21
+            }
+            3 => {
+                header.sequence += 1;
+                18
+            }
+            4 => {
+                header.sequence = u32::MAX;
+                19
+            }
+            5 => {
+                header.session ^= 1;
+                16
+            }
+            6 => {
+                draft.payload.resize(FRAGMENT_SIZE as usize + 1, 0);
+                20
+            }
+            _ => {
+                draft.size = Some(0xFFFF_FFFC);
+                13
+            }
+        };
+        (draft, format!("refused {refusal}"))
+    }
+}
+
+/// The same capture where the gateway's certificate is not accepted.
+fn rejected(gateway: &Gateway, capture: &[u8]) -> String {
+    let mut player = Player::new(gateway.keys, FRAGMENT_SIZE, 0).expect("a good F");
+    Messages::new(capture).map(|message| format!("{}\n", player.play(&message).0)).collect()
+}
+
+/// One message of each kind, and some with chains, flags and sizes at the edges.
+fn messages(prng: &mut Prng, gateway: &Gateway) -> Vec<(String, Draft)> {
+    let mut messages = vec![("presence-request".to_string(), presence_request())];
+    let names = ["connection-request", "authentication-request", "done-request"];
+    for (name, (draft, _)) in names.iter().zip(gateway.enrolment()) {
+        messages.push((name.to_string(), draft));
+    }
+    let names = [
+        "connection-response-1",
+        "authentication-response",
+        "connection-response-0",
+        "connection-response-2",
+        "connection-response-3",
+        "done-response-0",
+        "done-response-1",
+        "done-response-2",
+        "done-response-3",
+        "done-response-4",
+    ];
+    for (name, draft) in names.iter().zip(gateway.replies()) {
+        messages.push((name.to_string(), draft));
+    }
+    for length in [0, 1, 11, 12, 13, 27, 28, 29, 256] {
+        let bytes = text(prng, length);
+        messages.push((format!("piece-of-{length}"), gateway.piece(7, 0, 1, &bytes)));
+    }
+    let mut edges = gateway.piece(u32::MAX - 1, 63, 64, b"the last of 64 pieces");
+    edges.header = Header { request: u64::MAX, ..edges.header };
+    edges.header.flags |= ACKNOWLEDGE | WAKE;
+    edges.chain = [[1, 0], [2, 0], [3, 0], [1, 0], [2, 0], [3, 0], [1, 0], [2, 0], [0, 0]].concat();
+    messages.push(("piece-with-8-entries".to_string(), edges));
+    let mut long = presence_request();
+    long.chain = [&[3, 255][..], &prng.bytes(255), &[0, 0]].concat();
+    messages.push(("presence-with-entry-of-255".to_string(), long));
+    messages
+}
+
+/// Two streams for the listing: one of good messages, one that a refusal ends early.
+fn listings(messages: &[(String, Draft)], gateway: &Gateway, files: &mut Vec<File>) {
+    let mut whole = Script::default();
+    let mut refused = Script::default();
+    for (_, draft) in messages {
+        let bytes = draft.bytes(&gateway.keys);
+        let header = &draft.header;
+        let (kind, sequence) = (header.message_type, header.sequence);
+        let (index, count) = (header.index, header.count);
+        whole.put(&bytes, format!("{kind} {sequence} {index} {count} {}", bytes.len()));
+    }
+    let good = whole.lines.len() / 2;
+    for ((_, draft), line) in messages.iter().zip(&whole.lines).take(good) {
+        refused.put(&draft.bytes(&gateway.keys), line.clone());
+    }
+    let mut small = presence_request();
+    small.length = Some(7);
+    refused.put(&small.bytes(&gateway.keys)[..SHORTEST], "refused 3");
+    refused.bytes.extend(&whole.bytes);
+    for (name, script) in [("listing", whole), ("listing-refused", refused)] {
+        files.push((format!("{name}.txt"), script.lines().into_bytes()));
+        files.push((format!("{name}.bin"), script.bytes));
+    }
+}
