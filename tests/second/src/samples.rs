@@ -50,6 +50,8 @@ fn file(name: &str, bytes: impl Into<Vec<u8>>) -> File {
 struct Script {
     bytes: Vec<u8>,
     lines: Vec<String>,
+    /// How many messages came between pieces, so that each kind has its turn.
+    between: usize,
 }
 
 impl Script {
@@ -151,8 +153,8 @@ struct Joining<'a> {
 
 impl Joining<'_> {
     fn play(&mut self, prng: &mut Prng, order: &[usize], script: &mut Script) {
-        for (turn, piece) in order.iter().enumerate() {
-            self.disturb(prng, turn, script);
+        for piece in order {
+            self.disturb(prng, script);
             self.bring(prng, *piece, script);
         }
         let late = dress(prng, self.pieces[0].clone());
@@ -174,50 +176,54 @@ impl Joining<'_> {
     }
 
     /// Something that changes nothing: a damaged piece, a wrong one, or an enrolment request that comes again.
-    fn disturb(&self, prng: &mut Prng, turn: usize, script: &mut Script) {
+    fn disturb(&self, prng: &mut Prng, script: &mut Script) {
         let under_way = !self.came.is_empty() && self.came.len() < self.pieces.len();
-        if !under_way || prng.chance(60) && turn > 3 {
+        if !under_way || prng.chance(50) {
             return;
         }
         let keys = &self.gateway.keys;
-        let (mut draft, line) = match prng.below(3) {
-            0 => self.damaged(prng),
-            1 => self.wrong(prng),
+        let turn = script.between / 3;
+        let (mut draft, line) = match script.between % 3 {
+            0 => self.wrong(turn),
+            1 => self.damaged(prng, turn),
             _ => {
-                let (request, reply) = self.gateway.enrolment()[prng.below(3)].clone();
+                let (request, reply) = self.gateway.enrolment()[turn % 3].clone();
                 (request, format!("again {reply}"))
             }
         };
+        script.between += 1;
         draft.header.request = prng.word();
         script.put(&draft.bytes(keys), line);
     }
 
     /// A piece with a bit flipped, MessageLength excepted, so that the next message is found.
-    fn damaged(&self, prng: &mut Prng) -> (Draft, String) {
+    fn damaged(&self, prng: &mut Prng, turn: usize) -> (Draft, String) {
         let mut draft = self.pieces[prng.below(self.pieces.len())].clone();
         let length = draft.bytes(&self.gateway.keys).len();
-        let (place, refusal) = prng.pick(&[
-            (0, 2),
-            (4, 4),
-            (5, 5),
-            (6, 6),
-            (22, 7),
-            (40, 8),
-            (9, 11),
-            (24, 11),
+        let last = length - 1;
+        let places = [
             (50, 11),
-            (length - 1, 11),
-        ]);
+            (0, 2),
+            (40, 8),
+            (22, 7),
+            (6, 6),
+            (5, 5),
+            (4, 4),
+            (last, 11),
+            (24, 11),
+            (9, 11),
+        ];
+        let (place, refusal) = places[turn % places.len()];
         draft.damage.push(Damage::Flip(8 * place + 6));
         (draft, format!("refused {refusal}"))
     }
 
     /// A piece that is well sealed, and wrong.
-    fn wrong(&self, prng: &mut Prng) -> (Draft, String) {
+    fn wrong(&self, turn: usize) -> (Draft, String) {
         let came = *self.came.first().expect("one that has come");
         let mut draft = self.pieces[came].clone();
         let header = &mut draft.header;
-        let refusal = match prng.below(8) {
+        let refusal = match turn % 8 {
             0 => {
                 draft.payload[0] ^= 1;
                 23

@@ -19,7 +19,8 @@ pub struct Link {
     pub flip: usize,
     /// Cuts it short.
     pub cut: usize,
-    held: Vec<Vec<u8>>,
+    /// What it holds back now.
+    pub held: Vec<Vec<u8>>,
 }
 
 impl Link {

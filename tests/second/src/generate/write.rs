@@ -74,6 +74,7 @@ fn content(prng: &mut Prng) -> (Header, Vec<u8>) {
 
 fn inflict(prng: &mut Prng, case: &mut WriteCase) {
     match prng.below(9) {
+        _ if prng.chance(2) => case.payload.resize(prng.between(16_383, 16_386), 1),
         0 => case.header.message_type = prng.pick(&[0, 1, 2, 3, 4, 5, 255]),
         1 => case.header.flags ^= 1 << prng.below(16),
         2 => case.header.flags ^= SEALED,
