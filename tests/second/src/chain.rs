@@ -24,7 +24,8 @@ enum Entry {
     Additional,
 }
 
-/// Takes one entry off the front; `None` if it leaves the room, is of an unknown type, or is an end with a size.
+/// Takes one entry off the front; `None` if it leaves the room, is of an unknown type, or is an end
+/// with a size.
 fn entry(rest: &mut Cursor<'_>) -> Option<Entry> {
     match (rest.u8()?, rest.u8()?) {
         (0, 0) => Some(Entry::End),

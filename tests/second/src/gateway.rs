@@ -82,8 +82,8 @@ impl Gateway {
         ]
     }
 
-    /// The replies that a hub would send it: Connection Response for each Result, Device Authentication Response,
-    /// Authentication Done Response for each Status.
+    /// The replies that a hub would send it: Connection Response for each Result, Device
+    /// Authentication Response, Authentication Done Response for each Status.
     pub fn replies(&self) -> Vec<Draft> {
         let mut replies = vec![
             self.connect(Connect::ConnectionPending(self.offer)),

@@ -1,7 +1,7 @@
-//! Inputs for comparing two implementations, all drawn from a [`Prng`], so that a seed names an input.
+//! Inputs for comparing two implementations, drawn from a [`Prng`], so that a seed names an input.
 //!
-//! [`step`] makes single steps with faults of every kind, [`conversation`] whole conversations over a bad link, [`write`] calls of
-//! the writer and of the cutter.
+//! [`mod@step`] makes single steps with faults of every kind, [`mod@conversation`] whole
+//! conversations over a bad link, [`mod@write`] calls of the writer and of the cutter.
 
 use crate::draft::Draft;
 use crate::gateway::Gateway;
@@ -14,7 +14,7 @@ pub mod fault;
 pub mod step;
 pub mod write;
 
-pub use conversation::{Conversation, Delivery, Link, conversation};
+pub use conversation::{Conversation, Delivery, Link, conversation, stream};
 pub use fault::Fault;
 pub use step::{Case, case, connection, draft};
 pub use write::{CutCase, WriteCase, cut_case, write_case};

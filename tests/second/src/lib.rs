@@ -1,11 +1,13 @@
 //! An independent second implementation of document 01, written from the document alone.
 //!
-//! It shares no code, table or structure with the proved crates, so that the two agreeing on millions of inputs says something.
-//! Ciphers and hashes come from OpenSSL's libcrypto ([`crypto`], the only place with `unsafe`).
+//! It shares no code, table or structure with the proved crates, so that the two agreeing on
+//! millions of inputs says something. Ciphers and hashes come from OpenSSL's libcrypto ([`crypto`],
+//! the only place with `unsafe`).
 //!
-//! Reading goes [`header`] (with its [`chain`]), [`seal`], [`payload`], [`message`]; writing is [`writer`]; the host's side is
-//! [`connection`] with [`join`], the sender's [`cutter`]; [`listing`] and [`replay`] are the programs. [`prng`], [`draft`],
-//! [`gateway`], [`generate`] and [`samples`] make inputs.
+//! Reading goes [`header`] (with its [`chain`]), [`seal`], [`payload`], [`message`]; writing is
+//! [`writer`]; the host's side is [`connection`] with [`join`], the sender's [`cutter`];
+//! [`listing`] and [`replay`] are the programs. [`prng`], [`draft`], [`gateway`], [`generate`] and
+//! [`samples`] make inputs.
 
 #![deny(unsafe_code)]
 #![warn(missing_docs)]

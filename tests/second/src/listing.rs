@@ -8,7 +8,8 @@ use crate::refusal::Refusal;
 /// Where in a message its MessageLength stands.
 const LENGTH: std::ops::Range<usize> = 2..4;
 
-/// The messages of a stream: MessageLength bytes at a time, at least 42, or what is left. A read that fails is its end.
+/// The messages of a stream: MessageLength bytes at a time, at least 42, or what is left. A read
+/// that fails is its end.
 pub struct Messages<R>(R);
 
 impl<R: Read> Messages<R> {

@@ -27,8 +27,8 @@ pub struct Message {
     pub payload: Place,
 }
 
-/// Reads one message. A sealed one that gets past 13 leaves its opened sealed part at the front of the working buffer; nothing
-/// else changes it.
+/// Reads one message. A sealed one that gets past 13 leaves its opened sealed part at the front of
+/// the working buffer; nothing else changes it.
 pub fn read_message(message: &[u8], keys: &[u8], working: &mut [u8]) -> Result<Message, Refusal> {
     let framed = read_header(message)?;
     let header = framed.header;
@@ -41,8 +41,8 @@ pub fn read_message(message: &[u8], keys: &[u8], working: &mut [u8]) -> Result<M
     Ok(Message { header, kind: framed.kind, payload })
 }
 
-/// The part of the message or of the working buffer that a place names. No place (a refusal), or one that these buffers do not
-/// have, is the empty part at the message's start.
+/// The part of the message or of the working buffer that a place names. No place (a refusal), or
+/// one that these buffers do not have, is the empty part at the message's start.
 pub fn part<'a>(place: Option<&Place>, message: &'a [u8], working: &'a [u8]) -> &'a [u8] {
     let part = match place {
         Some(Place::Message(range)) => message.get(range.clone()),

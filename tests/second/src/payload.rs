@@ -1,4 +1,5 @@
-//! What a payload may be: the Presence Request, six Connect payloads, or a piece of a report. Refusal 14.
+//! What a payload may be: the Presence Request, six Connect payloads, or a piece of a report.
+//! Refusal 14.
 
 use crate::bytes::Cursor;
 use crate::header::Kind;

@@ -1,4 +1,5 @@
-//! Numbers that look random and are the same on every machine: SplitMix64 (Steele, Lea and Flood, 2014).
+//! Numbers that look random and are the same on every machine: SplitMix64 (Steele, Lea and Flood,
+//! 2014).
 
 /// A generator; the same seed gives the same numbers.
 #[derive(Clone, Debug)]

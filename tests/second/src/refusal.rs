@@ -44,7 +44,8 @@ pub enum Refusal {
     SequenceAbove = 18,
     /// SequenceNumber is 2^32 - 1.
     SequenceLast = 19,
-    /// The piece's length is not what its index, count and F give; in the writer: Session payload over 16,384.
+    /// The piece's length is not what its index, count and F give; in the writer: Session payload
+    /// over 16,384.
     PieceLength = 20,
     /// Count or channel unlike the first piece taken of this message.
     UnlikeFirst = 21,

@@ -1,6 +1,8 @@
-//! The samples under samples/: what a gateway sends over a bad link, and what the programs must say to it.
+//! The samples under samples/: what a gateway sends over a bad link, and what the programs must say
+//! to it.
 //!
-//! Each message is put down together with the line it must get, so the expected lines do not come from the code under test.
+//! Each message is put down together with the line it must get, so the expected lines do not come
+//! from the code under test.
 
 use std::collections::BTreeSet;
 
@@ -130,7 +132,8 @@ fn enrolment(prng: &mut Prng, gateway: &Gateway, script: &mut Script) {
     script.put(&done, "again 7");
 }
 
-/// In which order the pieces of a report come: the first and third shuffled, the last backwards, some of them twice.
+/// In which order the pieces of a report come: the first and third shuffled, the last backwards,
+/// some of them twice.
 fn order(prng: &mut Prng, report: usize, pieces: usize) -> Vec<usize> {
     let mut order: Vec<usize> = (0..pieces).rev().collect();
     if report < 4 {
@@ -175,7 +178,8 @@ impl Joining<'_> {
         script.put(&draft.bytes(&self.gateway.keys), line);
     }
 
-    /// Something that changes nothing: a damaged piece, a wrong one, or an enrolment request that comes again.
+    /// Something that changes nothing: a damaged piece, a wrong one, or an enrolment request that
+    /// comes again.
     fn disturb(&self, prng: &mut Prng, script: &mut Script) {
         let under_way = !self.came.is_empty() && self.came.len() < self.pieces.len();
         if !under_way || prng.chance(50) {

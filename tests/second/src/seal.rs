@@ -32,7 +32,8 @@ impl Keys {
         Ok(Keys { encryption: *encryption, vector: *vector, hmac })
     }
 
-    /// One AES block under the vector key, of SessionID, SequenceNumber, FragmentIndex and FragmentCount.
+    /// One AES block under the vector key, of SessionID, SequenceNumber, FragmentIndex and
+    /// FragmentCount.
     pub fn vector_of(&self, header: &Header) -> [u8; BLOCK] {
         let mut block = [0; BLOCK];
         block[..8].copy_from_slice(&header.session.to_be_bytes());
@@ -42,8 +43,8 @@ impl Keys {
         encrypt_block(&self.vector, &block)
     }
 
-    /// The tag over a message without its last 32 bytes. While it is made MessageLength holds the final length less 32, which is
-    /// just the length of what it covers.
+    /// The tag over a message without its last 32 bytes. While it is made MessageLength holds the
+    /// final length less 32, which is just the length of what it covers.
     pub fn tag_of(&self, covered: &[u8]) -> [u8; TAG] {
         let mut covered = covered.to_vec();
         let length = (covered.len() as u16).to_be_bytes();
@@ -81,8 +82,9 @@ pub fn plain_text(payload: &[u8]) -> Vec<u8> {
     text
 }
 
-/// Opens the sealed part of a message: refusals 10 to 13, in this order. Past them the working buffer's first bytes hold the
-/// opened sealed part, and the answer is where in it the payload lies. Refused, it is untouched.
+/// Opens the sealed part of a message: refusals 10 to 13, in this order. Past them the working
+/// buffer's first bytes hold the opened sealed part, and the answer is where in it the payload
+/// lies. Refused, it is untouched.
 pub fn open(
     keys: &[u8],
     header: &Header,

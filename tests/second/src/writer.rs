@@ -6,8 +6,8 @@ use crate::payload::{FRAGMENT_SIZE, read_payload};
 use crate::refusal::{Refusal, require};
 use crate::seal::{Keys, sealed_size};
 
-/// Writes a message at the front of `output` and answers its length. `chain` comes with its end entry. A refusal leaves the
-/// output as it was, a success what is beyond the message.
+/// Writes a message at the front of `output` and answers its length. `chain` comes with its end
+/// entry. A refusal leaves the output as it was, a success what is beyond the message.
 pub fn write_message(
     header: &Header,
     chain: &[u8],

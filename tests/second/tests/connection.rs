@@ -134,7 +134,8 @@ fn the_whole_enrolment() {
     assert!(hub.report.iter().all(|byte| *byte == 0x55));
 }
 
-/// After every later step, also in mid-report and after Complete, each earlier request is answered Again and changes nothing.
+/// After every later step, also in mid-report and after Complete, each earlier request is answered
+/// Again and changes nothing.
 #[test]
 fn every_request_repeated_after_every_later_step() {
     let mut hub = Hub::new(4, AwaitingRequest);
@@ -297,7 +298,8 @@ fn verdicts_and_fragment_sizes() {
     }
 }
 
-/// A sealed message past 13 leaves its opened sealed part, whatever the answer; a plain one leaves nothing.
+/// A sealed message past 13 leaves its opened sealed part, whatever the answer; a plain one leaves
+/// nothing.
 #[test]
 fn the_working_buffer_after_each_answer() {
     for state in State::ALL {

@@ -7,8 +7,9 @@ use std::collections::BTreeMap;
 use common::{gateway, number};
 use second::connection::{Answer, Connection, State};
 use second::generate::{
-    Case, Conversation, Fault, Link, case, conversation, cut_case, dress, write_case,
+    Case, Conversation, Fault, Link, case, conversation, cut_case, dress, stream, write_case,
 };
+use second::listing::list;
 use second::message::read_message;
 use second::prng::Prng;
 
@@ -198,6 +199,18 @@ fn conversations_reach_every_answer_and_mostly_succeed() {
     for answer in every_answer().iter().filter(|answer| !never.contains(&answer.as_str())) {
         assert!(times.contains_key(answer), "{answer} in {times:?}");
     }
+}
+
+#[test]
+fn streams_list_more_than_a_few_messages() {
+    let mut prng = Prng::new(9);
+    let mut lines = Vec::new();
+    for _ in 0..200 {
+        list(&stream(&mut prng)[..], &mut lines).unwrap();
+    }
+    let lines = String::from_utf8(lines).unwrap();
+    let refused = lines.lines().filter(|line| line.starts_with("refused")).count();
+    assert!(lines.lines().count() > 1_500 && (50..150).contains(&refused), "{refused}");
 }
 
 #[test]

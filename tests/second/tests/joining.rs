@@ -13,7 +13,8 @@ fn ready(fragment_size: u32) -> Hub {
     Hub::new(fragment_size, State::Ready)
 }
 
-/// Brings the pieces in this order and checks every answer, the connection and every byte of the report buffer.
+/// Brings the pieces in this order and checks every answer, the connection and every byte of the
+/// report buffer.
 fn join(hub: &mut Hub, sequence: u32, report: &[u8], order: &[usize], between: &[(Draft, u8)]) {
     let size = hub.connection.fragment_size as usize;
     let pieces = hub.gateway.pieces(sequence, size as u32, report);
@@ -119,8 +120,8 @@ fn reports_one_after_the_other_and_late_copies() {
     for (sequence, report) in reports.iter().enumerate() {
         let count = cut(report, 4, 0).0.count.into();
         join(&mut hub, sequence as u32, report, &orders(count)[4], &[]);
-        for old in 0..=sequence {
-            let late = hub.gateway.pieces(old as u32, 4, reports[old]);
+        for (old, report) in reports.iter().enumerate().take(sequence + 1) {
+            let late = hub.gateway.pieces(old as u32, 4, report);
             assert_eq!(refused(hub.take_in_vain(&late[0])), 17);
         }
     }

@@ -448,7 +448,8 @@ fn chains_the_writer_does_not_take() {
 #[test]
 fn what_the_writer_has_no_rule_for() {
     let gateway = gateway();
-    // The last number, a short middle piece, an empty last piece; keys of any length for a plain message.
+    // The last number, a short middle piece, an empty last piece; keys of any length for a plain
+    // message.
     round_trip(&gateway.piece(u32::MAX, 0, 1, b"x"));
     round_trip(&gateway.piece(0, 1, 3, b"short"));
     round_trip(&gateway.piece(0, 2, 3, b""));

@@ -160,7 +160,8 @@ fn a_capture_cut_at_every_byte_ends_with_what_was_whole() {
     for message in Messages::new(&sample("capture.bin")[..]) {
         let before = *player.connection();
         for cut in 1..message.len() {
-            // The cut message is the last: it is refused by its length, unless its signature is wrong before that.
+            // The cut message is the last: it is refused by its length, unless its signature is
+            // wrong before that.
             let (answer, report) = player.play(&message[..cut]);
             let refusal = match (cut < 42, message[0]) {
                 (true, _) => 1,

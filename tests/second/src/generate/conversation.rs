@@ -89,6 +89,27 @@ pub struct Conversation {
     pub reports: Vec<Vec<u8>>,
 }
 
+impl Conversation {
+    /// What arrives, back to back, as the replay program reads it.
+    pub fn capture(&self) -> Vec<u8> {
+        self.deliveries.iter().flat_map(|delivery| delivery.message.clone()).collect()
+    }
+}
+
+/// Messages back to back for the listing, most of them without fault.
+pub fn stream(prng: &mut Prng) -> Vec<u8> {
+    let mut stream = Vec::new();
+    for _ in 0..prng.below(40) {
+        let sender = gateway(prng);
+        let mut draft = draft(prng, &sender, &sender.connection(16, State::Ready), &[]);
+        if prng.chance(4) {
+            prng.pick(&Fault::ALL).inflict(prng, &mut draft);
+        }
+        stream.extend(draft.bytes(&sender.keys));
+    }
+    stream
+}
+
 /// A conversation under way; the hub is played along, for the gateway sends until it hears a reply.
 struct Talk<'a> {
     prng: &'a mut Prng,
@@ -149,7 +170,8 @@ impl Talk<'_> {
     }
 
     fn deliver(&mut self, message: Vec<u8>) -> Answer {
-        let verdict = self.verdict;
+        let asked = self.hub.state == State::AwaitingAuthentication as u8;
+        let verdict = if asked { self.verdict } else { self.prng.below(2) as u32 };
         let (working, report) = (&mut self.working, &mut self.report);
         let keys = &self.gateway.keys;
         let (next, answer) = self.hub.step(&message, keys, working, report, verdict);
@@ -192,7 +214,8 @@ impl Talk<'_> {
         }
     }
 
-    /// Something else on the link: an enrolment request again, another gateway's message, a faulty or an old one.
+    /// Something else on the link: an enrolment request again, another gateway's message, a faulty
+    /// or an old one.
     fn disturb(&mut self) {
         let keys = self.gateway.keys;
         let message = match self.prng.below(4) {

@@ -5,8 +5,10 @@ use super::{Fault, dress, fragment_size, gateway};
 use crate::connection::{Answer, Connection, State};
 use crate::draft::Draft;
 use crate::gateway::{Gateway, presence_request};
+use crate::message::{Message, read_message};
 use crate::payload::FRAGMENT_SIZE;
 use crate::prng::Prng;
+use crate::refusal::Refusal;
 
 /// All that one step takes.
 #[derive(Clone, Debug, PartialEq, Eq)]
@@ -26,6 +28,11 @@ pub struct Case {
 }
 
 impl Case {
+    /// The reader on the same message, keys and working buffer, whose change stays in the case.
+    pub fn read(&mut self) -> Result<Message, Refusal> {
+        read_message(&self.message, &self.keys, &mut self.working)
+    }
+
     /// The step, whose changes to both buffers stay in the case.
     pub fn step(&mut self) -> (Connection, Answer) {
         let (working, report) = (&mut self.working, &mut self.report);
@@ -33,8 +40,12 @@ impl Case {
     }
 }
 
-/// What a hub may remember of this gateway: any state, in mid-report or not, now and then what no course of steps gives.
+/// What a hub may remember of this gateway: any state, in mid-report or not, now and then what no
+/// course of steps gives.
 pub fn connection(prng: &mut Prng, gateway: &Gateway, fragment_size: u32) -> Connection {
+    if prng.chance(5) {
+        return made_up(prng, gateway.session, fragment_size);
+    }
     let ready = prng.chance(60);
     let state = if ready { State::Ready } else { prng.pick(&State::ALL) };
     let mut connection = gateway.connection(fragment_size, state);
@@ -66,9 +77,27 @@ fn hear(prng: &mut Prng, gateway: &Gateway, connection: &mut Connection) {
     }
 }
 
+/// All that is remembered is made up, but for F and the SessionID.
+fn made_up(prng: &mut Prng, session: u64, fragment_size: u32) -> Connection {
+    Connection {
+        fragment_size,
+        state: prng.pick(&[0, 1, 2, 3, 3, 3, 4, 5]),
+        session,
+        nonce: prng.array(),
+        x: prng.array(),
+        y: prng.array(),
+        certificate: prng.array(),
+        expected: prng.word() as u32,
+        heard: prng.word() & prng.pick(&[0, 1, 7, u64::MAX]),
+        count: prng.below(67) as u16,
+        channel: prng.word(),
+        last_length: prng.below(fragment_size as usize + 3) as u32,
+    }
+}
+
 /// One thing remembered is made up.
 fn scramble(prng: &mut Prng, connection: &mut Connection) {
-    match prng.below(10) {
+    match prng.below(12) {
         0 => connection.fragment_size = prng.pick(&[0, FRAGMENT_SIZE + 1, 1 << 16, u32::MAX]),
         1 => connection.state = prng.pick(&[0, 1, 2, 3, 4, 5, 255]),
         2 => connection.session = other_number(prng, connection.session),
@@ -78,11 +107,14 @@ fn scramble(prng: &mut Prng, connection: &mut Connection) {
         6 => connection.heard = prng.word() & prng.pick(&[1, 1 << 63, u64::MAX]),
         7 => connection.count = prng.pick(&[0, 1, 2, 64, 65, u16::MAX]),
         8 => connection.channel = other_number(prng, connection.channel),
+        9 => change_byte(prng, &mut connection.x),
+        10 => change_byte(prng, &mut connection.y),
         _ => connection.last_length = prng.pick(&[0, 1, connection.fragment_size, 20_000]),
     }
 }
 
-/// A message without fault that this gateway could send, mostly one that the connection is waiting for.
+/// A message without fault that this gateway could send, mostly one that the connection is waiting
+/// for.
 pub fn draft(prng: &mut Prng, gateway: &Gateway, connection: &Connection, report: &[u8]) -> Draft {
     let enrolment = gateway.enrolment().map(|(draft, _)| draft);
     let ready = connection.state == State::Ready as u8;
@@ -112,21 +144,25 @@ fn piece(prng: &mut Prng, gateway: &Gateway, connection: &Connection, report: &[
     let index = prng.pick(&[0, count - 1, missing, some]);
     let size = connection.fragment_size.clamp(1, FRAGMENT_SIZE) as usize;
     let last = index + 1 == count;
-    let length = match (last, connection.heard >> index & 1) {
+    let is_heard = connection.heard >> index & 1 == 1;
+    let length = match (last, is_heard) {
         (false, _) => size,
-        (true, 1) => (connection.last_length as usize).min(size),
-        (true, _) => prng.between(usize::from(count > 1), size),
+        (true, true) => (connection.last_length as usize).min(size),
+        (true, false) => prng.between(usize::from(count > 1), size),
     };
     let start = size * usize::from(index);
-    let bytes = match report.get(start..start + length) {
-        Some(bytes) if prng.chance(90) => bytes.to_vec(),
-        _ => prng.bytes(length),
-    };
+    let known = report.get(start..start + length).filter(|_| is_heard && prng.chance(90));
+    let bytes = known.map_or_else(|| prng.bytes(length), <[u8]>::to_vec);
     let sequence = if prng.chance(97) { connection.expected } else { prng.word() as u32 };
-    gateway.piece(sequence, index, count, &bytes)
+    let mut draft = gateway.piece(sequence, index, count, &bytes);
+    if heard && prng.chance(95) {
+        draft.header.channel = connection.channel;
+    }
+    draft
 }
 
-/// A step on a message with 0 to 3 faults, now and then on random bytes; keys, buffers and verdict may be faulty too.
+/// A step on a message with 0 to 3 faults, now and then on random bytes; keys, buffers and verdict
+/// may be faulty too.
 pub fn case(prng: &mut Prng) -> Case {
     let gateway = gateway(prng);
     let size = fragment_size(prng);
