@@ -7,13 +7,14 @@
 //! Reading goes [`header`] (with its [`chain`]), [`seal`], [`payload`], [`message`]; writing is
 //! [`writer`]; the host's side is [`connection`] with [`join`], the sender's [`cutter`];
 //! [`listing`] and [`replay`] are the programs. [`prng`], [`draft`], [`gateway`], [`generate`] and
-//! [`samples`] make inputs.
+//! [`samples`] make inputs; [`compare`] holds another implementation against this one.
 
 #![deny(unsafe_code)]
 #![warn(missing_docs)]
 
 pub mod bytes;
 pub mod chain;
+pub mod compare;
 pub mod connection;
 pub mod crypto;
 pub mod cutter;

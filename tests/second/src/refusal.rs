@@ -60,6 +60,40 @@ pub enum Refusal {
 }
 
 impl Refusal {
+    /// All rows, in the table's order.
+    pub const ALL: [Refusal; 25] = [
+        Refusal::TooShort,
+        Refusal::Signature,
+        Refusal::Length,
+        Refusal::Version,
+        Refusal::Type,
+        Refusal::Flags,
+        Refusal::Fragment,
+        Refusal::Chain,
+        Refusal::SealedPart,
+        Refusal::Keys,
+        Refusal::Tag,
+        Refusal::WorkingRoom,
+        Refusal::Padding,
+        Refusal::Payload,
+        Refusal::State,
+        Refusal::Session,
+        Refusal::SequenceBelow,
+        Refusal::SequenceAbove,
+        Refusal::SequenceLast,
+        Refusal::PieceLength,
+        Refusal::UnlikeFirst,
+        Refusal::Room,
+        Refusal::Conflict,
+        Refusal::FragmentSize,
+        Refusal::Verdict,
+    ];
+
+    /// The row with this number.
+    pub fn from_number(number: u8) -> Option<Refusal> {
+        Refusal::ALL.into_iter().find(|refusal| refusal.number() == number)
+    }
+
     /// The number of the table's row.
     pub fn number(self) -> u8 {
         self as u8

@@ -111,7 +111,8 @@ fn enrolment(prng: &mut Prng, gateway: &Gateway, script: &mut Script) {
     let early = gateway.piece(0, 0, 1, b"too early").bytes(keys);
     let stranger = other.enrolment()[0].0.bytes(&other.keys);
     let mut damaged = authentication.clone();
-    Damage::Flip(8 * 300 + 5).befall(&mut damaged);
+    let in_sealed_part = authentication.len() - 40;
+    Damage::Flip(8 * in_sealed_part).befall(&mut damaged);
     let reply = gateway.replies()[1].bytes(keys);
     script.put(&presence_request().bytes(keys), "refused 15");
     script.put(&early, "refused 15");

@@ -1,0 +1,294 @@
+//! Holds another implementation against this one: after each call the answer, the connection and
+//! every byte of every lent buffer must be the same.
+
+use std::fmt::Debug;
+use std::ops::Range;
+
+use crate::connection::{Answer, Connection};
+use crate::cutter::cut;
+use crate::draft::Damage;
+use crate::generate::{Case, Conversation, CutCase, WriteCase};
+use crate::generate::{case, conversation, cut_case, write_case};
+use crate::header::{Framed, Header, read_header};
+use crate::listing::line;
+use crate::message::{Message, read_message};
+use crate::prng::Prng;
+use crate::refusal::Refusal;
+use crate::writer::write_message;
+
+/// Document 01's calls, on buffers of the caller.
+pub trait Implementation {
+    /// The header reader.
+    fn read_header(&mut self, message: &[u8]) -> Result<Framed, Refusal>;
+
+    /// The message reader.
+    fn read_message(
+        &mut self,
+        message: &[u8],
+        keys: &[u8],
+        working: &mut [u8],
+    ) -> Result<Message, Refusal>;
+
+    /// The writer.
+    fn write_message(
+        &mut self,
+        header: &Header,
+        chain: &[u8],
+        payload: &[u8],
+        keys: &[u8],
+        output: &mut [u8],
+    ) -> Result<usize, Refusal>;
+
+    /// Opening a connection: the connection answered, and what refused it.
+    fn open(&mut self, fragment_size: u32) -> (Connection, Result<(), Refusal>);
+
+    /// A step.
+    fn step(
+        &mut self,
+        connection: Connection,
+        message: &[u8],
+        keys: &[u8],
+        working: &mut [u8],
+        report: &mut [u8],
+        verdict: u32,
+    ) -> (Connection, Answer);
+
+    /// The cutter: the count, where in the report the piece lies, and what refused it.
+    fn cut(&mut self, report: &[u8], fragment_size: u32, index: u32) -> Piece;
+
+    /// The listing's line for one message.
+    fn line(&mut self, message: &[u8]) -> Result<String, Refusal>;
+}
+
+/// What the cutter answers, as places.
+pub type Piece = (u16, Range<usize>, Result<(), Refusal>);
+
+/// This implementation.
+pub struct Second;
+
+impl Implementation for Second {
+    fn read_header(&mut self, message: &[u8]) -> Result<Framed, Refusal> {
+        read_header(message)
+    }
+
+    fn read_message(
+        &mut self,
+        message: &[u8],
+        keys: &[u8],
+        working: &mut [u8],
+    ) -> Result<Message, Refusal> {
+        read_message(message, keys, working)
+    }
+
+    fn write_message(
+        &mut self,
+        header: &Header,
+        chain: &[u8],
+        payload: &[u8],
+        keys: &[u8],
+        output: &mut [u8],
+    ) -> Result<usize, Refusal> {
+        write_message(header, chain, payload, keys, output)
+    }
+
+    fn open(&mut self, fragment_size: u32) -> (Connection, Result<(), Refusal>) {
+        Connection::open(fragment_size)
+    }
+
+    fn step(
+        &mut self,
+        connection: Connection,
+        message: &[u8],
+        keys: &[u8],
+        working: &mut [u8],
+        report: &mut [u8],
+        verdict: u32,
+    ) -> (Connection, Answer) {
+        connection.step(message, keys, working, report, verdict)
+    }
+
+    fn cut(&mut self, report: &[u8], fragment_size: u32, index: u32) -> Piece {
+        let (cut, refused) = cut(report, fragment_size, index);
+        let start = cut.piece.as_ptr() as usize - report.as_ptr() as usize;
+        (cut.count, start..start + cut.piece.len(), refused)
+    }
+
+    fn line(&mut self, message: &[u8]) -> Result<String, Refusal> {
+        line(message)
+    }
+}
+
+/// A call on which the two differ, with all that it takes and what each made of it.
+#[derive(Debug)]
+pub struct Difference(pub String);
+
+/// How many calls agreed.
+#[derive(Clone, Copy, Debug, Default, PartialEq, Eq)]
+pub struct Tally {
+    /// Steps, those of conversations included.
+    pub steps: u64,
+    /// Whole conversations.
+    pub conversations: u64,
+    /// Messages read, without a step.
+    pub reads: u64,
+    /// Calls of the writer.
+    pub writes: u64,
+    /// Calls of the cutter.
+    pub cuts: u64,
+}
+
+/// Another implementation beside this one, and how often they have agreed.
+pub struct Comparison<I> {
+    /// The other one.
+    pub other: I,
+    /// How often they have agreed.
+    pub tally: Tally,
+}
+
+/// Tells the difference between the two, if there is one.
+fn same<T: PartialEq + Debug>(input: &dyn Debug, ours: T, theirs: T) -> Result<(), Difference> {
+    if ours == theirs {
+        return Ok(());
+    }
+    Err(Difference(format!("{input:02x?}\nthis one:  {ours:02x?}\nthe other: {theirs:02x?}")))
+}
+
+impl<I: Implementation> Comparison<I> {
+    /// Nothing compared so far.
+    pub fn new(other: I) -> Self {
+        Comparison { other, tally: Tally::default() }
+    }
+
+    /// Forty single steps, one conversation, four calls of the writer and four of the cutter.
+    pub fn round(&mut self, prng: &mut Prng) -> Result<(), Difference> {
+        for _ in 0..40 {
+            let case = case(prng);
+            self.read(&case)?;
+            self.step(&case)?;
+        }
+        for _ in 0..4 {
+            self.write(&write_case(prng))?;
+            self.cut(&cut_case(prng))?;
+        }
+        self.converse(&conversation(prng))
+    }
+
+    /// The header reader, the listing's line and the message reader on a case's message.
+    pub fn read(&mut self, case: &Case) -> Result<(), Difference> {
+        let message = &case.message;
+        same(message, read_header(message), self.other.read_header(message))?;
+        same(message, line(message), self.other.line(message))?;
+        let (mut ours, mut theirs) = (case.working.clone(), case.working.clone());
+        let our_answer = read_message(message, &case.keys, &mut ours);
+        let their_answer = self.other.read_message(message, &case.keys, &mut theirs);
+        same(case, (our_answer, ours), (their_answer, theirs))?;
+        self.tally.reads += 1;
+        Ok(())
+    }
+
+    /// One step.
+    pub fn step(&mut self, case: &Case) -> Result<Answer, Difference> {
+        let (mut ours, mut theirs) = (case.clone(), case.clone());
+        let our_answer = ours.step();
+        let their_answer = step(&mut self.other, &mut theirs);
+        let buffers = |case: Case| (case.working, case.report);
+        same(case, (our_answer, buffers(ours)), (their_answer, buffers(theirs)))?;
+        self.tally.steps += 1;
+        Ok(our_answer.1)
+    }
+
+    /// A whole conversation, from opening the connection on.
+    pub fn converse(&mut self, talk: &Conversation) -> Result<(), Difference> {
+        let size = talk.fragment_size;
+        let opened = Connection::open(size);
+        same(&size, opened, self.other.open(size))?;
+        let connection = opened.0;
+        let mut ours = Case {
+            connection,
+            message: Vec::new(),
+            keys: talk.keys.to_vec(),
+            working: vec![0xAA; talk.working],
+            report: vec![0x55; talk.report],
+            verdict: 0,
+        };
+        let mut theirs = ours.clone();
+        for (number, delivery) in talk.deliveries.iter().enumerate() {
+            for case in [&mut ours, &mut theirs] {
+                case.message.clone_from(&delivery.message);
+                case.verdict = delivery.verdict;
+            }
+            let our_answer = ours.step();
+            let their_answer = step(&mut self.other, &mut theirs);
+            let input = (number, talk);
+            same(&input, our_answer, their_answer)?;
+            same(&input, (&ours.working, &ours.report), (&theirs.working, &theirs.report))?;
+            (ours.connection, theirs.connection) = (our_answer.0, their_answer.0);
+            self.tally.steps += 1;
+        }
+        self.tally.conversations += 1;
+        Ok(())
+    }
+
+    /// One call of the writer.
+    pub fn write(&mut self, case: &WriteCase) -> Result<(), Difference> {
+        let (mut ours, mut theirs) = (case.clone(), case.output.clone());
+        let our_answer = ours.write();
+        let WriteCase { header, chain, payload, keys, .. } = case;
+        let their_answer = self.other.write_message(header, chain, payload, keys, &mut theirs);
+        same(case, (our_answer, ours.output), (their_answer, theirs))?;
+        self.tally.writes += 1;
+        Ok(())
+    }
+
+    /// One call of the cutter.
+    pub fn cut(&mut self, case: &CutCase) -> Result<(), Difference> {
+        let CutCase { report, fragment_size, index } = case;
+        let ours = Second.cut(report, *fragment_size, *index);
+        same(case, ours, self.other.cut(report, *fragment_size, *index))?;
+        self.tally.cuts += 1;
+        Ok(())
+    }
+
+    /// A fault at every n: the message cut at every length, every bit of it flipped, keys, working
+    /// buffer and report buffer at every size from none to what the case has.
+    pub fn every_fault(&mut self, case: &Case) -> Result<(), Difference> {
+        let mut faulty = Vec::new();
+        for length in 0..case.message.len() {
+            faulty.push(Case { message: case.message[..length].to_vec(), ..case.clone() });
+        }
+        for bit in 0..8 * case.message.len() {
+            let mut flipped = case.clone();
+            Damage::Flip(bit).befall(&mut flipped.message);
+            faulty.push(flipped);
+        }
+        let shorter: [fn(&mut Case) -> &mut Vec<u8>; 3] =
+            [|case| &mut case.keys, |case| &mut case.working, |case| &mut case.report];
+        for buffer in shorter {
+            let whole = buffer(&mut case.clone()).len();
+            for length in 0..=whole {
+                let mut short = case.clone();
+                buffer(&mut short).truncate(length);
+                faulty.push(short);
+            }
+        }
+        for case in &faulty {
+            self.read(case)?;
+            self.step(case)?;
+        }
+        Ok(())
+    }
+
+    /// The writer with an output of every size from none to one more than enough.
+    pub fn every_output(&mut self, case: &WriteCase) -> Result<(), Difference> {
+        for length in 0..=case.output.len() {
+            let output = case.output[..length].to_vec();
+            self.write(&WriteCase { output, ..case.clone() })?;
+        }
+        Ok(())
+    }
+}
+
+fn step(other: &mut impl Implementation, case: &mut Case) -> (Connection, Answer) {
+    let (working, report) = (&mut case.working, &mut case.report);
+    other.step(case.connection, &case.message, &case.keys, working, report, case.verdict)
+}

@@ -1,0 +1,193 @@
+//! The comparison agrees with itself and notices every kind of difference.
+
+mod common;
+
+use second::compare::{Comparison, Difference, Implementation, Piece, Second, Tally};
+use second::connection::{Answer, Connection, State};
+use second::generate::{Case, WriteCase, case, write_case};
+use second::header::{Framed, Header};
+use second::message::Message;
+use second::prng::Prng;
+use second::refusal::Refusal;
+
+#[test]
+fn it_agrees_with_itself() {
+    let mut prng = Prng::new(1);
+    let mut comparison = Comparison::new(Second);
+    for _ in 0..100 {
+        comparison.round(&mut prng).unwrap();
+    }
+    let Tally { steps, conversations, reads, writes, cuts } = comparison.tally;
+    assert_eq!((conversations, reads, writes, cuts), (100, 4_000, 400, 400));
+    assert!(steps > 4_000 + 100 * 10);
+}
+
+/// A fault at every n on each kind of message, in the state that waits for it.
+#[test]
+fn a_fault_at_every_n() {
+    let gateway = common::gateway();
+    let [request, authentication, done] = gateway.enrolment().map(|(draft, _)| draft);
+    let piece = gateway.piece(0, 1, 3, b"a piece!");
+    let mut comparison = Comparison::new(Second);
+    for (draft, state) in [
+        (request, State::AwaitingRequest),
+        (authentication, State::AwaitingAuthentication),
+        (done, State::Passed),
+        (piece, State::Ready),
+    ] {
+        let case = Case {
+            connection: gateway.connection(8, state),
+            message: draft.bytes(&gateway.keys),
+            keys: gateway.keys.to_vec(),
+            working: vec![0xAA; 100],
+            report: vec![0x55; 20],
+            verdict: 1,
+        };
+        comparison.every_fault(&case).unwrap();
+        let (header, chain, payload) = (draft.header, draft.chain, draft.payload);
+        let (keys, output) = (gateway.keys.to_vec(), vec![0xEE; case.message.len() + 1]);
+        comparison.every_output(&WriteCase { header, chain, payload, keys, output }).unwrap();
+    }
+    assert!(comparison.tally.steps > 4_000 && comparison.tally.writes > 400);
+}
+
+/// An implementation with one error.
+struct Spoilt(Error);
+
+#[derive(Clone, Copy, Debug, PartialEq)]
+enum Error {
+    HeaderRefusal,
+    PlaceOffByOne,
+    WorkingTouchedByRefusal,
+    LengthOffByOne,
+    OutputTouchedBeyond,
+    OpenForgetsF,
+    RepeatCounted,
+    ReportTouchedBeyond,
+    LastLengthKept,
+    NothingStored,
+    CountOffByOne,
+    LineWithoutLength,
+}
+
+impl Implementation for Spoilt {
+    fn read_header(&mut self, message: &[u8]) -> Result<Framed, Refusal> {
+        match Second.read_header(message) {
+            Err(Refusal::Chain) if self.0 == Error::HeaderRefusal => Err(Refusal::SealedPart),
+            other => other,
+        }
+    }
+
+    fn read_message(
+        &mut self,
+        message: &[u8],
+        keys: &[u8],
+        working: &mut [u8],
+    ) -> Result<Message, Refusal> {
+        let mut read = Second.read_message(message, keys, working);
+        if let (Ok(read), Error::PlaceOffByOne) = (&mut read, self.0) {
+            read.payload = second::message::Place::Message(0..0);
+        }
+        if (Error::WorkingTouchedByRefusal, Err(Refusal::Padding)) == (self.0, read.clone()) {
+            working[0] = working[0].wrapping_add(1);
+        }
+        read
+    }
+
+    fn write_message(
+        &mut self,
+        header: &Header,
+        chain: &[u8],
+        payload: &[u8],
+        keys: &[u8],
+        output: &mut [u8],
+    ) -> Result<usize, Refusal> {
+        let length = Second.write_message(header, chain, payload, keys, output)?;
+        if let (Error::OutputTouchedBeyond, Some(beyond)) = (self.0, output.get_mut(length)) {
+            *beyond = beyond.wrapping_add(1);
+        }
+        Ok(length + usize::from(self.0 == Error::LengthOffByOne))
+    }
+
+    fn open(&mut self, fragment_size: u32) -> (Connection, Result<(), Refusal>) {
+        let (mut connection, opened) = Second.open(fragment_size);
+        if self.0 == Error::OpenForgetsF {
+            connection.fragment_size = 1 + fragment_size;
+        }
+        (connection, opened)
+    }
+
+    fn step(
+        &mut self,
+        connection: Connection,
+        message: &[u8],
+        keys: &[u8],
+        working: &mut [u8],
+        report: &mut [u8],
+        verdict: u32,
+    ) -> (Connection, Answer) {
+        let before = report.to_vec();
+        let (mut next, mut answer) = connection.step(message, keys, working, report, verdict);
+        match (self.0, answer) {
+            (Error::RepeatCounted, Answer::Repeat(heard)) => answer = Answer::Repeat(heard + 1),
+            (Error::ReportTouchedBeyond, Answer::Taken(_)) => {
+                report.last_mut().into_iter().for_each(|byte| *byte = byte.wrapping_add(1));
+            }
+            (Error::LastLengthKept, Answer::Complete(..)) => next.last_length += 1,
+            (Error::NothingStored, _) => report.copy_from_slice(&before),
+            _ => {}
+        }
+        (next, answer)
+    }
+
+    fn cut(&mut self, report: &[u8], fragment_size: u32, index: u32) -> Piece {
+        let (count, place, refused) = Second.cut(report, fragment_size, index);
+        (count + u16::from(self.0 == Error::CountOffByOne), place, refused)
+    }
+
+    fn line(&mut self, message: &[u8]) -> Result<String, Refusal> {
+        let line = Second.line(message)?;
+        Ok(if self.0 == Error::LineWithoutLength { line.replace(' ', "") } else { line })
+    }
+}
+
+#[test]
+fn it_notices_every_kind_of_error() {
+    for error in [
+        Error::HeaderRefusal,
+        Error::PlaceOffByOne,
+        Error::WorkingTouchedByRefusal,
+        Error::LengthOffByOne,
+        Error::OutputTouchedBeyond,
+        Error::OpenForgetsF,
+        Error::RepeatCounted,
+        Error::ReportTouchedBeyond,
+        Error::LastLengthKept,
+        Error::NothingStored,
+        Error::CountOffByOne,
+        Error::LineWithoutLength,
+    ] {
+        let mut prng = Prng::new(2);
+        let mut comparison = Comparison::new(Spoilt(error));
+        let found = (0..20).find_map(|_| comparison.round(&mut prng).err());
+        let Some(Difference(text)) = found else { panic!("{error:?} was not noticed") };
+        assert!(text.contains("this one:") && text.contains("the other:"));
+    }
+}
+
+#[test]
+fn refusals_and_their_numbers() {
+    for number in 0..=255 {
+        let refusal = Refusal::from_number(number);
+        assert_eq!(refusal.is_some(), (1..=25).contains(&number));
+        assert_eq!(refusal.map_or(number, Refusal::number), number);
+    }
+}
+
+#[test]
+fn single_steps_alone_find_a_hub_that_stores_nothing() {
+    let mut prng = Prng::new(3);
+    let mut comparison = Comparison::new(Spoilt(Error::NothingStored));
+    assert!((0..500).any(|_| comparison.step(&case(&mut prng)).is_err()));
+    assert!((0..500).all(|_| comparison.write(&write_case(&mut prng)).is_ok()));
+}
