@@ -5,6 +5,7 @@ use std::fmt::Debug;
 use std::ops::Range;
 
 use crate::connection::{Answer, Connection};
+use crate::crypto::{hmac, sha256};
 use crate::cutter::cut;
 use crate::draft::Damage;
 use crate::generate::{Case, Conversation, CutCase, WriteCase};
@@ -58,6 +59,12 @@ pub trait Implementation {
 
     /// The listing's line for one message.
     fn line(&mut self, message: &[u8]) -> Result<String, Refusal>;
+
+    /// SHA-256.
+    fn sha256(&mut self, data: &[u8]) -> [u8; 32];
+
+    /// HMAC-SHA-256 under a key of 32 bytes.
+    fn hmac(&mut self, key: &[u8; 32], data: &[u8]) -> [u8; 32];
 }
 
 /// What the cutter answers, as places.
@@ -116,6 +123,14 @@ impl Implementation for Second {
     fn line(&mut self, message: &[u8]) -> Result<String, Refusal> {
         line(message)
     }
+
+    fn sha256(&mut self, data: &[u8]) -> [u8; 32] {
+        sha256(data)
+    }
+
+    fn hmac(&mut self, key: &[u8; 32], data: &[u8]) -> [u8; 32] {
+        hmac(key, data)
+    }
 }
 
 /// A call on which the two differ, with all that it takes and what each made of it.
@@ -135,6 +150,8 @@ pub struct Tally {
     pub writes: u64,
     /// Calls of the cutter.
     pub cuts: u64,
+    /// Digests, with and without a key.
+    pub digests: u64,
 }
 
 /// Another implementation beside this one, and how often they have agreed.
@@ -159,9 +176,10 @@ impl<I: Implementation> Comparison<I> {
         Comparison { other, tally: Tally::default() }
     }
 
-    /// Forty single steps, one conversation, four calls of the writer and four of the cutter.
+    /// Sixty single steps, one conversation, and four each of calls of the writer, of the cutter
+    /// and of the digests.
     pub fn round(&mut self, prng: &mut Prng) -> Result<(), Difference> {
-        for _ in 0..40 {
+        for _ in 0..60 {
             let case = case(prng);
             self.read(&case)?;
             self.step(&case)?;
@@ -169,6 +187,8 @@ impl<I: Implementation> Comparison<I> {
         for _ in 0..4 {
             self.write(&write_case(prng))?;
             self.cut(&cut_case(prng))?;
+            let length = prng.below(300);
+            self.digest(&prng.array(), &prng.bytes(length))?;
         }
         self.converse(&conversation(prng))
     }
@@ -246,6 +266,14 @@ impl<I: Implementation> Comparison<I> {
         let ours = Second.cut(report, *fragment_size, *index);
         same(case, ours, self.other.cut(report, *fragment_size, *index))?;
         self.tally.cuts += 1;
+        Ok(())
+    }
+
+    /// SHA-256, and HMAC under this key.
+    pub fn digest(&mut self, key: &[u8; 32], data: &[u8]) -> Result<(), Difference> {
+        same(&data, sha256(data), self.other.sha256(data))?;
+        same(&(key, data), hmac(key, data), self.other.hmac(key, data))?;
+        self.tally.digests += 1;
         Ok(())
     }
 

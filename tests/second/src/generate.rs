@@ -3,6 +3,7 @@
 //! [`mod@step`] makes single steps with faults of every kind, [`mod@conversation`] whole
 //! conversations over a bad link, [`mod@write`] calls of the writer and of the cutter.
 
+use crate::connection::State;
 use crate::draft::Draft;
 use crate::gateway::Gateway;
 use crate::header::{ACKNOWLEDGE, WAKE};
@@ -14,7 +15,7 @@ pub mod fault;
 pub mod step;
 pub mod write;
 
-pub use conversation::{Conversation, Delivery, Link, conversation, stream};
+pub use conversation::{Conversation, Delivery, Link, conversation};
 pub use fault::Fault;
 pub use step::{Case, case, connection, draft};
 pub use write::{CutCase, WriteCase, cut_case, write_case};
@@ -59,4 +60,18 @@ pub fn dress(prng: &mut Prng, mut draft: Draft) -> Draft {
     draft.header.flags |= prng.pick(&[0, 0, 0, ACKNOWLEDGE, WAKE, ACKNOWLEDGE | WAKE]);
     draft.chain = chain(prng);
     draft
+}
+
+/// Messages back to back for the listing, most of them without fault.
+pub fn stream(prng: &mut Prng) -> Vec<u8> {
+    let mut stream = Vec::new();
+    for _ in 0..prng.below(40) {
+        let sender = gateway(prng);
+        let mut draft = draft(prng, &sender, &sender.connection(16, State::Ready), &[]);
+        if prng.chance(4) {
+            prng.pick(&Fault::ALL).inflict(prng, &mut draft);
+        }
+        stream.extend(draft.bytes(&sender.keys));
+    }
+    stream
 }

@@ -17,9 +17,9 @@ fn it_agrees_with_itself() {
     for _ in 0..100 {
         comparison.round(&mut prng).unwrap();
     }
-    let Tally { steps, conversations, reads, writes, cuts } = comparison.tally;
-    assert_eq!((conversations, reads, writes, cuts), (100, 4_000, 400, 400));
-    assert!(steps > 4_000 + 100 * 10);
+    let Tally { steps, conversations, reads, writes, cuts, digests } = comparison.tally;
+    assert_eq!((conversations, reads, writes, cuts, digests), (100, 6_000, 400, 400, 400));
+    assert!(steps > 10_000);
 }
 
 /// A fault at every n on each kind of message, in the state that waits for it.
@@ -67,7 +67,9 @@ enum Error {
     LastLengthKept,
     NothingStored,
     CountOffByOne,
-    LineWithoutLength,
+    LineWithoutBlanks,
+    DigestOfAllButOne,
+    TagBit,
 }
 
 impl Implementation for Spoilt {
@@ -147,7 +149,18 @@ impl Implementation for Spoilt {
 
     fn line(&mut self, message: &[u8]) -> Result<String, Refusal> {
         let line = Second.line(message)?;
-        Ok(if self.0 == Error::LineWithoutLength { line.replace(' ', "") } else { line })
+        Ok(if self.0 == Error::LineWithoutBlanks { line.replace(' ', "") } else { line })
+    }
+
+    fn sha256(&mut self, data: &[u8]) -> [u8; 32] {
+        let end = data.len() - usize::from(self.0 == Error::DigestOfAllButOne && data.len() > 200);
+        Second.sha256(&data[..end])
+    }
+
+    fn hmac(&mut self, key: &[u8; 32], data: &[u8]) -> [u8; 32] {
+        let mut tag = Second.hmac(key, data);
+        tag[31] &= if self.0 == Error::TagBit { 0x7F } else { 0xFF };
+        tag
     }
 }
 
@@ -165,7 +178,9 @@ fn it_notices_every_kind_of_error() {
         Error::LastLengthKept,
         Error::NothingStored,
         Error::CountOffByOne,
-        Error::LineWithoutLength,
+        Error::LineWithoutBlanks,
+        Error::DigestOfAllButOne,
+        Error::TagBit,
     ] {
         let mut prng = Prng::new(2);
         let mut comparison = Comparison::new(Spoilt(error));

@@ -96,20 +96,6 @@ impl Conversation {
     }
 }
 
-/// Messages back to back for the listing, most of them without fault.
-pub fn stream(prng: &mut Prng) -> Vec<u8> {
-    let mut stream = Vec::new();
-    for _ in 0..prng.below(40) {
-        let sender = gateway(prng);
-        let mut draft = draft(prng, &sender, &sender.connection(16, State::Ready), &[]);
-        if prng.chance(4) {
-            prng.pick(&Fault::ALL).inflict(prng, &mut draft);
-        }
-        stream.extend(draft.bytes(&sender.keys));
-    }
-    stream
-}
-
 /// A conversation under way; the hub is played along, for the gateway sends until it hears a reply.
 struct Talk<'a> {
     prng: &'a mut Prng,
@@ -156,9 +142,9 @@ pub fn conversation(prng: &mut Prng) -> Conversation {
 /// A report of 0 to 64 pieces, mostly few.
 fn some_report(prng: &mut Prng, fragment_size: u32) -> Vec<u8> {
     let pieces = if prng.chance(10) { prng.pick(&[16, 63, 64]) } else { prng.between(0, 5) };
-    let size = if pieces > 5 { fragment_size.min(70) } else { fragment_size } as usize;
     let whole = fragment_size as usize * pieces;
-    let length = if prng.chance(30) { whole } else { whole.saturating_sub(prng.below(size)) };
+    let missing = if prng.chance(30) { 0 } else { prng.below(fragment_size as usize) };
+    let length = whole.saturating_sub(missing);
     prng.bytes(length)
 }
 
