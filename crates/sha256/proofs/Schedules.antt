@@ -1,0 +1,108 @@
+-- The schedule and the rounds, step by step as the code makes them. Assumes nothing.
+use mathlib.Core.Path.{_≡_, _∙_, sym, ap, refl}
+use mathlib.Core.List.{List}
+use Prim.Native.Nat.{ℕ, zero, suc, _+_, _*_, _<_, _≤_}
+use native.Mathlib.Omega.{arith}
+use native.Mathlib.Numerals.{add-one}
+use lib.ListN.{getD, length, take, set, length-set}
+use lib.Seq.{take-suc-set, take-set-le, getD-take, take-take}
+use Rattle.laws.specs.Bytes.{be32}
+use Rattle.sha256.specs.declared.rounds.Vars.{Vars}
+use Rattle.sha256.specs.Compression.{words, mixed, nextWord, schedule, putWord, putFour, roundAt, fourRounds, rounds, added, compress}
+
+-- one word more of the block
+pub words-more : (m w : List ℕ) (at n r : ℕ) → n < length w → take n w ≡ words m at n → r ≡ be32 m (at + 4 * n)
+    → take (n + 1) (set w n r) ≡ words m at (n + 1)
+unfolding words
+words-more m w at n r h p e = rw add-one (take-suc-set w n r h ∙ cc)
+
+-- words that agree before 16 + n give the same next word
+next-word-take : (w : List ℕ) (n : ℕ) → nextWord (take (16 + n) w) n ≡ nextWord w n
+unfolding nextWord
+next-word-take w n =
+    cc (getD-take (16 + n) w (14 + n) 0 (omega arith), getD-take (16 + n) w (9 + n) 0 (omega arith),
+    getD-take (16 + n) w (1 + n) 0 (omega arith), getD-take (16 + n) w n 0 (omega arith))
+
+-- one word more of the schedule
+put-more : (m w : List ℕ) (n : ℕ) → 16 + n < length w → take (16 + n) w ≡ schedule m n → take (16 + (n + 1)) (putWord w n) ≡ schedule m (n + 1)
+unfolding schedule putWord
+put-more m w n h p =
+    let at : 16 + (n + 1) ≡ suc (16 + n) = omega arith in
+    rw (at, add-one) (take-suc-set w (16 + n) (nextWord w n) h ∙ cc (next-word-take w n))
+
+length-put : (w : List ℕ) (n : ℕ) → length (putWord w n) ≡ length w
+unfolding putWord
+length-put w n = length-set w (16 + n) (nextWord w n)
+
+pub length-put-four : (w : List ℕ) (n : ℕ) → length (putFour w n) ≡ length w
+unfolding putFour
+length-put-four w n = simp length-put
+
+-- four words more
+pub put-four-more : (m w : List ℕ) (n : ℕ) → n + 4 ≤ 48 → length w ≡ 64 → take (16 + n) w ≡ schedule m n
+    → take (16 + (n + 4)) (putFour w n) ≡ schedule m (n + 4)
+unfolding putFour
+put-four-more m w n h l p =
+    let i2 : n + 1 + 1 ≡ n + 2 = omega arith in
+    let i3 : n + 2 + 1 ≡ n + 3 = omega arith in
+    let i4 : n + 3 + 1 ≡ n + 4 = omega arith in
+    let p1 = put-more m w n (omega arith) p in
+    let p2 = put-more m (putWord w n) (n + 1) (simp length-put (omega arith)) p1 in
+    let p3 = put-more m (putWord (putWord w n) (n + 1)) (n + 2) (simp length-put (omega arith)) (rw i2 at p2) in
+    rw i4 at (put-more m (putWord (putWord (putWord w n) (n + 1)) (n + 2)) (n + 3) (simp length-put (omega arith)) (rw i3 at p3))
+
+-- what was there stays
+take-put : (w : List ℕ) (n k : ℕ) → k ≤ n → take (16 + k) (putWord w n) ≡ take (16 + k) w
+unfolding putWord
+take-put w n k h = take-set-le (16 + k) w (16 + n) (nextWord w n) (omega arith)
+
+pub take-put-four : (w : List ℕ) (n : ℕ) → take (16 + n) (putFour w n) ≡ take (16 + n) w
+unfolding putFour
+take-put-four w n =
+    take-put (putWord (putWord (putWord w n) (n + 1)) (n + 2)) (n + 3) n (omega arith)
+    ∙ take-put (putWord (putWord w n) (n + 1)) (n + 2) n (omega arith)
+    ∙ take-put (putWord w n) (n + 1) n (omega arith)
+    ∙ take-put w n n (omega arith)
+
+round-more : (v x : Vars) (w : List ℕ) (t : ℕ) → x ≡ rounds v w t → roundAt x w t ≡ rounds v w (t + 1)
+unfolding rounds
+round-more v x w t p = rw add-one (cc)
+
+-- four rounds more
+pub rounds-four : (v x : Vars) (w : List ℕ) (t : ℕ) → x ≡ rounds v w t → fourRounds x w t ≡ rounds v w (t + 4)
+unfolding fourRounds
+rounds-four v x w t p =
+    let i2 : t + 1 + 1 ≡ t + 2 = omega arith in
+    let i3 : t + 2 + 1 ≡ t + 3 = omega arith in
+    let i4 : t + 3 + 1 ≡ t + 4 = omega arith in
+    let p1 = round-more v x w t p in
+    let p2 = round-more v (roundAt x w t) w (t + 1) p1 in
+    let p3 = round-more v (roundAt (roundAt x w t) w (t + 1)) w (t + 2) (rw i2 at p2) in
+    rw i4 at (round-more v (roundAt (roundAt (roundAt x w t) w (t + 1)) w (t + 2)) w (t + 3) (rw i3 at p3))
+
+-- rounds look no further than their words
+pub rounds-take : (v : Vars) (a b : List ℕ) (k t : ℕ) → t ≤ k → take k a ≡ take k b → rounds v a t ≡ rounds v b t
+unfolding rounds roundAt
+rounds-take v a b k zero h e = refl
+rounds-take v a b k (suc t) h e =
+    let g : getD a t 0 ≡ getD b t 0 = sym (getD-take k a t 0 (omega arith)) ∙ ap (λ (l : List ℕ). getD l t 0) e ∙ getD-take k b t 0 (omega arith) in
+    cc (rounds-take v a b k t (omega arith) e)
+
+-- one turn of the first forty-eight rounds: the words that follow change none of those used
+pub turn-more : (v x y : Vars) (w z : List ℕ) (t : ℕ) → t + 4 ≤ 48 → x ≡ rounds v w t → y ≡ fourRounds x w t → z ≡ putFour w t → y ≡ rounds v z (t + 4)
+turn-more v x y w z t h p q e =
+    q ∙ rounds-four v x w t p
+    ∙ rounds-take v w z (16 + t) (t + 4) (omega arith) (sym (ap (take (16 + t)) e ∙ take-put-four w t))
+
+-- the last sixteen
+pub rest-more : (v x : Vars) (w : List ℕ) → x ≡ rounds v w 48
+    → fourRounds (fourRounds (fourRounds (fourRounds x w 48) w 52) w 56) w 60 ≡ rounds v w 64
+rest-more v x w p =
+    rounds-four v (fourRounds (fourRounds (fourRounds x w 48) w 52) w 56) w 60
+    (rounds-four v (fourRounds (fourRounds x w 48) w 52) w 56 (rounds-four v (fourRounds x w 48) w 52 (rounds-four v x w 48 p)))
+
+-- a block's compression, in the order in which the code computes it
+pub compress-by : (v x r : Vars) (m l w : List ℕ) (at : ℕ) {s : Vars} → take 16 l ≡ words m at 16 → w ≡ schedule (take 16 l) 48 → x ≡ rounds v w 48
+    → s ≡ fourRounds (fourRounds (fourRounds (fourRounds x w 48) w 52) w 56) w 60 → r ≡ added v s → r ≡ compress v m at
+unfolding compress
+compress-by v x r m l w at p q e f g = cc (rest-more v x w e)

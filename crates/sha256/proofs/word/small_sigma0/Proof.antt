@@ -1,0 +1,23 @@
+use Rattle.sha256.specs.Words.{σ0, SHR}
+use borrow.Author.Needs.{needs}
+use Rattle.sha256.proofs.word.small_sigma0.Statement.{statement}
+use Rattle.sha256.proofs.word.small_sigma0.Tie as tie
+use Rattle.sha256.proofs.word.small_sigma0.Reads as reads
+use Rattle.sha256.proofs.word.small_sigma0.Lts as lts
+use Rattle.sha256.proofs.word.rotr.Reads as rotr-reads
+
+-- src/word.rt:49:5
+rotr-requires : tie.Need-rotr-requires
+rotr-requires c κs = search needs
+
+-- src/word.rt:49:18
+rotr-requires-2 : tie.Need-rotr-requires-2
+rotr-requires-2 c κs = search needs
+
+-- src/word.rt:46:1
+returns : tie.Need-returns
+unfolding σ0 SHR
+returns c = cc
+
+pub small-sigma0-spec : {M : Type 1} → statement M
+small-sigma0-spec = tie.close (tie.spec rotr-requires rotr-requires-2 returns)

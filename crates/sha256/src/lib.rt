@@ -1,0 +1,3 @@
+// SHA-256 (FIPS 180-4) and HMAC on it (RFC 2104).
+mod rounds;
+mod word;

@@ -1,0 +1,194 @@
+// FIPS 180-4 §6.2.2: the compression of one block. The schedule's words are made between the rounds, four at a time.
+use crate::word::{add, big_sigma0, big_sigma1, ch, maj, small_sigma0, small_sigma1};
+
+ghost use mathlib.Core.Path.{_≡_};
+ghost use Prim.Native.Nat.{_<_, _≤_, _+_};
+ghost use lib.ListN.{length, take};
+ghost use Rattle.laws.specs.Bytes.{be16, be32};
+ghost use Rattle.sha256.specs.Constants.{K256};
+ghost use Rattle.sha256.specs.Compression as fips;
+
+// A hash value, and the working variables: eight words.
+pub(crate) struct Vars {
+    pub(crate) a: u32,
+    pub(crate) b: u32,
+    pub(crate) c: u32,
+    pub(crate) d: u32,
+    pub(crate) e: u32,
+    pub(crate) f: u32,
+    pub(crate) g: u32,
+    pub(crate) h: u32,
+}
+
+// FIPS 180-4 §4.2.2.
+const K: [u32; 64] = [
+    0x428a2f98, 0x71374491, 0xb5c0fbcf, 0xe9b5dba5, 0x3956c25b, 0x59f111f1, 0x923f82a4, 0xab1c5ed5,
+    0xd807aa98, 0x12835b01, 0x243185be, 0x550c7dc3, 0x72be5d74, 0x80deb1fe, 0x9bdc06a7, 0xc19bf174,
+    0xe49b69c1, 0xefbe4786, 0x0fc19dc6, 0x240ca1cc, 0x2de92c6f, 0x4a7484aa, 0x5cb0a9dc, 0x76f988da,
+    0x983e5152, 0xa831c66d, 0xb00327c8, 0xbf597fc7, 0xc6e00bf3, 0xd5a79147, 0x06ca6351, 0x14292967,
+    0x27b70a85, 0x2e1b2138, 0x4d2c6dfc, 0x53380d13, 0x650a7354, 0x766a0abb, 0x81c2c92e, 0x92722c85,
+    0xa2bfe8a1, 0xa81a664b, 0xc24b8b70, 0xc76c51a3, 0xd192e819, 0xd6990624, 0xf40e3585, 0x106aa070,
+    0x19a4c116, 0x1e376c08, 0x2748774c, 0x34b0bcb5, 0x391c0cb3, 0x4ed8aa4a, 0x5b9cca4f, 0x682e6ff3,
+    0x748f82ee, 0x78a5636f, 0x84c87814, 0x8cc70208, 0x90befffa, 0xa4506ceb, 0xbef9a3f7, 0xc67178f2,
+];
+
+// The sixty-four constants, to be lent to each compression.
+pub(crate) fn constants() -> [u32; 64]
+    ensures { λ r. ⌜ r ≡ K256 ⌝ }
+{
+    K
+}
+
+fn wide(x: u8) -> u32
+    ensures { λ r. ⌜ (r ≡ x) × (r < 256) ⌝ }
+{
+    x as u32
+}
+
+fn half_at(m: &[u8], at: usize) -> u32
+    requires { ⌜ at + 2 ≤ length (now m) ⌝ }
+    ensures { λ r. ⌜ (r ≡ be16 (now (m .entry)) at) × (r < 65536) ⌝ }
+{
+    wide(m[at]) * 256 + wide(m[at + 1])
+}
+
+fn word_at(m: &[u8], at: usize) -> u32
+    requires { ⌜ at + 4 ≤ length (now m) ⌝ }
+    ensures { λ r. ⌜ r ≡ be32 (now (m .entry)) at ⌝ }
+{
+    half_at(m, at) * 65536 + half_at(m, at + 2)
+}
+
+// The block's sixteen words, before room for the others.
+fn load(m: &[u8], at: usize) -> [u32; 64]
+    requires { ⌜ at + 64 ≤ length (now m) ⌝ }
+    ensures { λ r. ⌜ (length r ≡ 64) × (take 16 r ≡ fips.words (now (m .entry)) at 16) ⌝ }
+{
+    let mut w = [0u32; 64];
+    let mut n: usize = 0;
+    while n < 16 {
+        w[n] = word_at(m, at + 4 * n);
+        n += 1;
+    }
+    w
+}
+
+fn mixed(a: u32, b: u32, c: u32, d: u32) -> u32
+    ensures { λ r. ⌜ r ≡ fips.mixed a b c d ⌝ }
+{
+    add(add(add(small_sigma1(a), b), small_sigma0(c)), d)
+}
+
+fn put_word(w: &mut [u32; 64], n: usize)
+    requires { ⌜ n < 48 ⌝ }
+    ensures { λ _. ⌜ now (w .exit) ≡ fips.putWord (now (w .entry)) n ⌝ }
+{
+    w[16 + n] = mixed(w[14 + n], w[9 + n], w[1 + n], w[n]);
+}
+
+fn put_four(w: &mut [u32; 64], n: usize)
+    requires { ⌜ n + 4 ≤ 48 ⌝ }
+    ensures { λ _. ⌜ now (w .exit) ≡ fips.putFour (now (w .entry)) n ⌝ }
+{
+    put_word(w, n);
+    put_word(w, n + 1);
+    put_word(w, n + 2);
+    put_word(w, n + 3);
+}
+
+fn t1(v: Vars, k: u32, w: u32) -> u32
+    ensures { λ r. ⌜ r ≡ fips.T1 v k w ⌝ }
+{
+    add(add(add(add(v.h, big_sigma1(v.e)), ch(v.e, v.f, v.g)), k), w)
+}
+
+fn t2(v: Vars) -> u32
+    ensures { λ r. ⌜ r ≡ fips.T2 v ⌝ }
+{
+    add(big_sigma0(v.a), maj(v.a, v.b, v.c))
+}
+
+fn turned(v: Vars, k: u32, w: u32) -> Vars
+    ensures { λ r. ⌜ r ≡ fips.turned v k w ⌝ }
+{
+    let x = t1(v, k, w);
+    let y = t2(v);
+    Vars {
+        a: add(x, y),
+        b: v.a,
+        c: v.b,
+        d: v.c,
+        e: add(v.d, x),
+        f: v.e,
+        g: v.f,
+        h: v.g,
+    }
+}
+
+fn round_at(v: Vars, w: &[u32; 64], k: &[u32; 64], t: usize) -> Vars
+    requires { ⌜ (now k ≡ K256) × (t < 64) ⌝ }
+    ensures { λ r. ⌜ r ≡ fips.roundAt v (now (w .entry)) t ⌝ }
+{
+    turned(v, k[t], w[t])
+}
+
+fn four_rounds(v: Vars, w: &[u32; 64], k: &[u32; 64], t: usize) -> Vars
+    requires { ⌜ (now k ≡ K256) × (t + 4 ≤ 64) ⌝ }
+    ensures { λ r. ⌜ r ≡ fips.fourRounds v (now (w .entry)) t ⌝ }
+{
+    let x = round_at(v, w, k, t);
+    let y = round_at(x, w, k, t + 1);
+    let z = round_at(y, w, k, t + 2);
+    round_at(z, w, k, t + 3)
+}
+
+// The first forty-eight rounds; between them the forty-eight words that follow the block's.
+fn most(v: Vars, w: &mut [u32; 64], k: &[u32; 64]) -> Vars
+    requires { ⌜ (now k ≡ K256) × (length (now w) ≡ 64) ⌝ }
+    ensures { λ r. ⌜ (r ≡ fips.rounds v (now (w .exit)) 48) × (now (w .exit) ≡ fips.schedule (take 16 (now (w .entry))) 48) ⌝ }
+{
+    let mut x = v;
+    let mut t: usize = 0;
+    while t < 48 {
+        x = four_rounds(x, w, k, t);
+        put_four(w, t);
+        t += 4;
+    }
+    x
+}
+
+// The last sixteen rounds.
+fn rest(v: Vars, w: &[u32; 64], k: &[u32; 64]) -> Vars
+    requires { ⌜ now k ≡ K256 ⌝ }
+    ensures { λ r. ⌜ r ≡ fips.fourRounds (fips.fourRounds (fips.fourRounds (fips.fourRounds v (now (w .entry)) 48) (now (w .entry)) 52) (now (w .entry)) 56) (now (w .entry)) 60 ⌝ }
+{
+    let x = four_rounds(v, w, k, 48);
+    let y = four_rounds(x, w, k, 52);
+    let z = four_rounds(y, w, k, 56);
+    four_rounds(z, w, k, 60)
+}
+
+fn added(x: Vars, y: Vars) -> Vars
+    ensures { λ r. ⌜ r ≡ fips.added x y ⌝ }
+{
+    Vars {
+        a: add(x.a, y.a),
+        b: add(x.b, y.b),
+        c: add(x.c, y.c),
+        d: add(x.d, y.d),
+        e: add(x.e, y.e),
+        f: add(x.f, y.f),
+        g: add(x.g, y.g),
+        h: add(x.h, y.h),
+    }
+}
+
+// The hash value after the block at a place of the message.
+pub(crate) fn compress(v: Vars, m: &[u8], at: usize, k: &[u32; 64]) -> Vars
+    requires { ⌜ (at + 64 ≤ length (now m)) × (now k ≡ K256) ⌝ }
+    ensures { λ r. ⌜ r ≡ fips.compress v (now (m .entry)) at ⌝ }
+{
+    let mut w = load(m, at);
+    let x = most(v, &mut w, k);
+    added(v, rest(x, &w, k))
+}
