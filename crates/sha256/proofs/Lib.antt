@@ -1,2 +1,5 @@
 pub mod Bitwise
 pub mod Schedules
+pub mod Stores
+pub mod Laying
+pub mod Hashing

@@ -1,3 +1,6 @@
 pub mod Words
 pub mod Constants
 pub mod Compression
+pub mod Parts
+pub mod Digests
+pub mod Macs

@@ -1,0 +1,61 @@
+-- Blocks of a message in parts, and of a message behind a block that was hashed already. Assumes nothing.
+use mathlib.Core.Path.{_≡_, _∙_, sym, ap, refl}
+use mathlib.Core.List.{List, _++_, append-assoc}
+use Prim.Native.Nat.{ℕ, zero, suc, _+_, _-_, _*_, _/_, _<_, _≤_}
+use native.Mathlib.Nat.{zero-add}
+use native.Mathlib.Numerals.{add-one}
+use native.Mathlib.Omega.{arith}
+use lib.ListN.{getD, length, length-append, List·getD-append}
+use lib.Seq.{getD-append-add}
+use Rattle.sha256.specs.declared.rounds.Vars.{Vars}
+use Rattle.sha256.specs.Compression.{words, schedule, rounds, added, compress, blocks, hashed}
+
+words-eq : (a b : List ℕ) (i j : ℕ) → ((k : ℕ) → k < 64 → getD a (i + k) 0 ≡ getD b (j + k) 0) → (n : ℕ) → n ≤ 16 → words a i n ≡ words b j n
+unfolding words
+words-eq a b i j h zero l = refl
+words-eq a b i j h (suc n) l =
+    let e : (i k : ℕ) → i + 4 * n + k ≡ i + (4 * n + k) = λ i k. omega arith in
+    let f : (i k : ℕ) → i + 4 * n + 2 + k ≡ i + (4 * n + 2 + k) = λ i k. omega arith in
+    cc (words-eq a b i j h n (omega arith), h (4 * n) (omega arith), h (4 * n + 1) (omega arith), h (4 * n + 2) (omega arith), h (4 * n + 2 + 1) (omega arith),
+    e i 1, e i 2, e j 1, e j 2, f i 1, f j 1)
+
+-- the same sixty-four bytes give the same hash value
+pub compress-eq : (v : Vars) (a b : List ℕ) (i j : ℕ) → ((k : ℕ) → k < 64 → getD a (i + k) 0 ≡ getD b (j + k) 0) → compress v a i ≡ compress v b j
+unfolding compress
+compress-eq v a b i j h = ap (λ (w : List ℕ). added v (rounds v (schedule w 48) 64)) (words-eq a b i j h 16 (omega arith))
+
+-- a block that lies in the third part
+pub in-third : (v : Vars) (first second third tail : List ℕ) (at : ℕ) → length first + length second ≤ at → at + 64 ≤ length first + length second + length third
+    → compress v third (at - (length first + length second)) ≡ compress v (first ++ (second ++ (third ++ tail))) at
+in-third v first second third tail at h l =
+    compress-eq v third (first ++ (second ++ (third ++ tail))) (at - (length first + length second)) at
+    (λ k p.
+    let n = at - (length first + length second) + k in
+    let e : at + k ≡ length first + (length second + n) = omega arith in
+    sym (ap (λ (i : ℕ). getD (first ++ (second ++ (third ++ tail))) i 0) e ∙ getD-append-add first (second ++ (third ++ tail)) (length second + n) 0
+    ∙ getD-append-add second (third ++ tail) n 0 ∙ List·getD-append third tail 0 n (omega arith)))
+
+-- a block that was put together
+pub put-together : (v : Vars) (m b : List ℕ) (at : ℕ) → ((j : ℕ) → j < 64 → getD b j 0 ≡ getD m (at + j) 0) → compress v b 0 ≡ compress v m at
+put-together v m b at h = compress-eq v b m 0 at (λ k p. ap (λ (i : ℕ). getD b i 0) (zero-add k) ∙ h k p)
+
+pub blocks-more : (v x r : Vars) (m : List ℕ) (n : ℕ) → x ≡ blocks v m n → r ≡ compress x m (64 * n) → r ≡ blocks v m (n + 1)
+unfolding blocks
+blocks-more v x r m n p q = rw add-one (cc)
+
+blocks-behind : (v : Vars) (b m : List ℕ) → length b ≡ 64 → (n : ℕ) → blocks v (b ++ m) (suc n) ≡ blocks (compress v b 0) m n
+unfolding blocks
+blocks-behind v b m l zero = compress-eq v (b ++ m) b (64 * 0) 0 (λ k p. ap (λ (i : ℕ). getD (b ++ m) i 0) (omega arith) ∙ List·getD-append b m 0 (0 + k) (omega arith))
+blocks-behind v b m l (suc n) =
+    ap (λ (x : Vars). compress x (b ++ m) (64 * suc n)) (blocks-behind v b m l n)
+    ∙ compress-eq (blocks (compress v b 0) m n) (b ++ m) m (64 * suc n) (64 * n)
+    (λ k p.
+    let e : 64 * suc n + k ≡ length b + (64 * n + k) = omega arith in
+    ap (λ (i : ℕ). getD (b ++ m) i 0) e ∙ getD-append-add b m (64 * n + k) 0)
+
+-- a message behind one block, from the hash value after that block
+pub hashed-behind : (v : Vars) (b m : List ℕ) → length b ≡ 64 → hashed v (b ++ m) ≡ hashed (compress v b 0) m
+unfolding hashed
+hashed-behind v b m l =
+    let e : length (b ++ m) / 64 ≡ suc (length m / 64) = rw length-append (omega arith) in
+    ap (blocks v (b ++ m)) e ∙ blocks-behind v b m l (length m / 64)

@@ -1,0 +1,86 @@
+use mathlib.Core.List.{_++_, append-assoc}
+use lib.ListN.{length-append, replicate}
+use native.Mathlib.Omega.{arith}
+use Rattle.sha256.proofs.Laying.{laid-append, laid-message}
+use borrow.Author.Needs.{needs}
+use Rattle.sha256.proofs.parts.assembled.Statement.{statement}
+use Rattle.sha256.proofs.parts.assembled.Tie as tie
+use Rattle.sha256.proofs.parts.assembled.Reads as reads
+use Rattle.sha256.proofs.parts.assembled.Lts as lts
+use Rattle.sha256.proofs.parts.gather.Reads as gather-reads
+
+-- src/parts.rt:70:12
+slice-aggregate-gather : tie.Need-slice-aggregate-gather
+slice-aggregate-gather c = search needs
+
+-- src/parts.rt:70:5
+gather-requires : tie.Need-gather-requires
+gather-requires c κs = search needs
+
+-- src/parts.rt:71:12
+slice-aggregate-gather-2 : tie.Need-slice-aggregate-gather-2
+slice-aggregate-gather-2 c = search needs
+
+-- src/parts.rt:71:5
+gather-requires-2 : tie.Need-gather-requires-2
+gather-requires-2 c κs = search needs
+
+-- src/parts.rt:72:12
+slice-aggregate-gather-3 : tie.Need-slice-aggregate-gather-3
+slice-aggregate-gather-3 c = search needs
+
+-- src/parts.rt:72:31
+add-gather : tie.Need-add-gather
+add-gather c = search needs
+
+-- src/parts.rt:72:5
+gather-requires-3 : tie.Need-gather-requires-3
+gather-requires-3 c κs = search needs
+
+-- src/parts.rt:73:12
+slice-aggregate-gather-4 : tie.Need-slice-aggregate-gather-4
+slice-aggregate-gather-4 c = search needs
+
+-- src/parts.rt:73:30
+add-gather-2 : tie.Need-add-gather-2
+add-gather-2 c = search needs
+
+-- src/parts.rt:73:30
+add-gather-3 : tie.Need-add-gather-3
+add-gather-3 c = search needs
+
+-- src/parts.rt:73:5
+gather-requires-4 : tie.Need-gather-requires-4
+gather-requires-4 c κs = search needs
+
+-- src/parts.rt:65:1
+returns : tie.Need-returns
+returns c = 
+    let a = c .before .before .before .before .before .before .before .before .before .before .before .before .before .before .before .before .args in
+    let b1 = c .before .before .before .before .before .before .before .before .before .before .gather .last .0 in
+    let b2 = c .before .before .before .before .before .before .before .gather2 .last .0 in
+    let b3 = c .before .before .before .before .gather3 .last .0 in
+    let b4 = c .before .gather4 .last .0 in
+    let m2 = a .first .now ++ a .second .now in
+    let m3 = m2 ++ a .third .now in
+    let p = laid-append (replicate 64 0) b1 b2 (a .first .now) (a .second .now) 0 _ (a .at) (omega arith) (c .before .before .before .before .before .before .before .before .before .before .gather .ensures .1) (c .before .before .before .before .before .before .before .gather2 .ensures .1) in
+    let q = laid-append (replicate 64 0) b2 b3 m2 (a .third .now) 0 _ (a .at) (simp length-append (omega arith)) p (c .before .before .before .before .gather3 .ensures .1) in
+    let s = laid-append (replicate 64 0) b3 b4 m3 (a .tail .now) 0 _ (a .at) (simp length-append (omega arith)) q (c .before .gather4 .ensures .1) in
+    (search needs, simp append-assoc at (laid-message (m3 ++ a .tail .now) b4 (a .at) s))
+
+pub assembled-spec : {M : Type 1} → statement M
+assembled-spec =
+    tie.close
+    (tie.spec
+    slice-aggregate-gather
+    gather-requires
+    slice-aggregate-gather-2
+    gather-requires-2
+    slice-aggregate-gather-3
+    add-gather
+    gather-requires-3
+    slice-aggregate-gather-4
+    add-gather-2
+    add-gather-3
+    gather-requires-4
+    returns)

@@ -1,0 +1,104 @@
+// A message given as consecutive parts, which are never copied together. A block that lies in the third part is hashed where it stands; one that
+// touches a seam is put together first:
+//
+//     message     |  first  | second |            third            | tail |
+//     blocks      |     |     |     |     |     |     |     |     |     |
+//                 laid  laid  laid  in third ..               laid  laid
+use crate::rounds::{compress, Vars};
+
+ghost use mathlib.Core.Path.{_≡_};
+ghost use mathlib.Core.List.{_++_};
+ghost use Prim.Native.Nat.{ℕ, _<_, _≤_, _+_, _*_, _^_};
+ghost use lib.ListN.{length, getD};
+ghost use Rattle.sha256.specs.Constants.{K256};
+ghost use Rattle.sha256.specs.Compression as fips;
+ghost use Rattle.sha256.specs.Parts.{laid, laidFrom};
+
+// The least number that is neither below a nor below b.
+fn larger(a: usize, b: usize) -> usize
+    ensures { λ r. ⌜ (a ≤ r) × (b ≤ r) × ((i : ℕ) → b ≤ i → a ≤ i → r ≤ i) ⌝ }
+{
+    if a < b {
+        return b;
+    }
+    a
+}
+
+// The greatest number that is neither above a nor above b.
+fn smaller(a: usize, b: usize) -> usize
+    ensures { λ r. ⌜ (r ≤ a) × (r ≤ b) × ((i : ℕ) → i ≤ a → i ≤ b → i ≤ r) ⌝ }
+{
+    if a < b {
+        return a;
+    }
+    b
+}
+
+// The places from `from` up to `to` of the message are copied out of the part that holds them.
+fn lay(block: &mut [u8], part: &[u8], ahead: usize, at: usize, from: usize, to: usize)
+    requires { ⌜ (length (now block) ≡ 64) × (at ≤ from) × (ahead ≤ from) × (from ≤ to) × (to ≤ at + 64) × (to ≤ ahead + length (now part)) ⌝ }
+    ensures { λ _. ⌜ (length (now (block .exit)) ≡ 64) × ((j : ℕ) → getD (now (block .exit)) j 0 ≡ laidFrom (now (block .entry)) (now (part .entry)) ahead at from to j) ⌝ }
+{
+    let mut i = from;
+    while i < to {
+        block[i - at] = part[i - ahead];
+        i += 1;
+    }
+}
+
+// A part that starts at `ahead` in the message is laid over the block that starts at `at`.
+fn gather(block: &mut [u8], part: &[u8], ahead: usize, at: usize)
+    requires { ⌜ (length (now block) ≡ 64) × (at + 64 < 2 ^ 64) × (ahead + length (now part) < 2 ^ 64) ⌝ }
+    ensures { λ _. ⌜ (length (now (block .exit)) ≡ 64) × ((j : ℕ) → j < 64 → getD (now (block .exit)) j 0 ≡ laid (now (block .entry)) (now (part .entry)) ahead at j) ⌝ }
+{
+    let end = ahead + part.len();
+    if end <= at {
+        return;
+    }
+    if at + 64 <= ahead {
+        return;
+    }
+    lay(block, part, ahead, at, larger(ahead, at), smaller(end, at + 64));
+}
+
+// The block at a place of the message; behind the message's end stand zeros.
+fn assembled(first: &[u8], second: &[u8], third: &[u8], tail: &[u8], at: usize) -> [u8; 64]
+    requires { ⌜ (at + 64 < 2 ^ 64) × (length (now first) + (length (now second) + (length (now third) + length (now tail))) < 2 ^ 64) ⌝ }
+    ensures { λ r. ⌜ (length r ≡ 64) × ((j : ℕ) → j < 64 → getD r j 0 ≡ getD (now (first .entry) ++ (now (second .entry) ++ (now (third .entry) ++ now (tail .entry)))) (at + j) 0) ⌝ }
+{
+    let mut block = [0u8; 64];
+    gather(&mut block, first, 0, at);
+    gather(&mut block, second, first.len(), at);
+    gather(&mut block, third, first.len() + second.len(), at);
+    gather(&mut block, tail, first.len() + second.len() + third.len(), at);
+    block
+}
+
+fn absorb(v: Vars, first: &[u8], second: &[u8], third: &[u8], tail: &[u8], at: usize, k: &[u32; 64]) -> Vars
+    requires { ⌜ (at + 64 < 2 ^ 64) × (length (now first) + (length (now second) + (length (now third) + length (now tail))) < 2 ^ 64) × (now k ≡ K256) ⌝ }
+    ensures { λ r. ⌜ r ≡ fips.compress v (now (first .entry) ++ (now (second .entry) ++ (now (third .entry) ++ now (tail .entry)))) at ⌝ }
+{
+    let ahead = first.len() + second.len();
+    if ahead <= at {
+        if at + 64 <= ahead + third.len() {
+            return compress(v, third, at - ahead, k);
+        }
+    }
+    let block = assembled(first, second, third, tail, at);
+    compress(v, &block, 0, k)
+}
+
+// The hash value after a message that is whole blocks.
+pub(crate) fn hash(v: Vars, first: &[u8], second: &[u8], third: &[u8], tail: &[u8], k: &[u32; 64]) -> Vars
+    requires { ⌜ (length (now first) + (length (now second) + (length (now third) + length (now tail))) < 2 ^ 62) × (now k ≡ K256) ⌝ }
+    ensures { λ r. ⌜ r ≡ fips.hashed v (now (first .entry) ++ (now (second .entry) ++ (now (third .entry) ++ now (tail .entry)))) ⌝ }
+{
+    let count = (first.len() + second.len() + third.len() + tail.len()) / 64;
+    let mut x = v;
+    let mut n: usize = 0;
+    while n < count {
+        x = absorb(x, first, second, third, tail, 64 * n, k);
+        n += 1;
+    }
+    x
+}

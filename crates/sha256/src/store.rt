@@ -1,0 +1,67 @@
+// Numbers written as bytes, the highest first: a padding's length, a digest's words.
+use crate::rounds::Vars;
+
+ghost use mathlib.Core.Path.{_≡_};
+ghost use Prim.Native.Nat.{_<_, _≤_, _+_, _^_};
+ghost use lib.ListN.{length, take};
+ghost use lib.Seq.{sets};
+ghost use Rattle.laws.specs.Bytes.{bytes16, bytes32, bytes64};
+ghost use Rattle.sha256.specs.Digests.{zeros, padding, bytesOf};
+
+fn put16(out: &mut [u8], at: usize, x: u32)
+    requires { ⌜ (at + 2 ≤ length (now out)) × (x < 65536) ⌝ }
+    ensures { λ _. ⌜ now (out .exit) ≡ sets (now (out .entry)) at (bytes16 x) ⌝ }
+{
+    out[at] = (x / 256) as u8;
+    out[at + 1] = (x % 256) as u8;
+}
+
+fn put32(out: &mut [u8], at: usize, x: u32)
+    requires { ⌜ at + 4 ≤ length (now out) ⌝ }
+    ensures { λ _. ⌜ now (out .exit) ≡ sets (now (out .entry)) at (bytes32 x) ⌝ }
+{
+    put16(out, at, x / 65536);
+    put16(out, at + 2, x % 65536);
+}
+
+fn put64(out: &mut [u8], at: usize, x: u64)
+    requires { ⌜ at + 8 ≤ length (now out) ⌝ }
+    ensures { λ _. ⌜ now (out .exit) ≡ sets (now (out .entry)) at (bytes64 x) ⌝ }
+{
+    put32(out, at, (x / 4294967296) as u32);
+    put32(out, at + 4, (x % 4294967296) as u32);
+}
+
+// How many zeros stand in the padding of a message of so many bytes.
+pub(crate) fn zeros_of(total: usize) -> usize
+    ensures { λ r. ⌜ (r ≡ zeros total) × (r < 64) ⌝ }
+{
+    (119 - total % 64) % 64
+}
+
+// The padding of a message of so many bytes, before room: 9 + zeros_of(total) bytes of these.
+pub(crate) fn padding_of(total: usize) -> [u8; 72]
+    requires { ⌜ total < 2 ^ 61 ⌝ }
+    ensures { λ r. ⌜ take (9 + zeros total) r ≡ padding total ⌝ }
+{
+    let mut p = [0u8; 72];
+    p[0] = 0x80;
+    put64(&mut p, 1 + zeros_of(total), (8 * total) as u64);
+    p
+}
+
+// The thirty-two bytes of a hash value.
+pub(crate) fn bytes_of(v: Vars) -> [u8; 32]
+    ensures { λ r. ⌜ r ≡ bytesOf v ⌝ }
+{
+    let mut d = [0u8; 32];
+    put32(&mut d, 0, v.a);
+    put32(&mut d, 4, v.b);
+    put32(&mut d, 8, v.c);
+    put32(&mut d, 12, v.d);
+    put32(&mut d, 16, v.e);
+    put32(&mut d, 20, v.f);
+    put32(&mut d, 24, v.g);
+    put32(&mut d, 28, v.h);
+    d
+}
