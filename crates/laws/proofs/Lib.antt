@@ -7,3 +7,4 @@ pub mod Sames
 pub mod Bools
 pub mod Numbers
 pub mod Parts
+pub mod Sameness

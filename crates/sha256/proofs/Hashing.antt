@@ -16,8 +16,19 @@ words-eq a b i j h zero l = refl
 words-eq a b i j h (suc n) l =
     let e : (i k : ℕ) → i + 4 * n + k ≡ i + (4 * n + k) = λ i k. omega arith in
     let f : (i k : ℕ) → i + 4 * n + 2 + k ≡ i + (4 * n + 2 + k) = λ i k. omega arith in
-    cc (words-eq a b i j h n (omega arith), h (4 * n) (omega arith), h (4 * n + 1) (omega arith), h (4 * n + 2) (omega arith), h (4 * n + 2 + 1) (omega arith),
-    e i 1, e i 2, e j 1, e j 2, f i 1, f j 1)
+    cc (
+      words-eq a b i j h n (omega arith),
+      h (4 * n) (omega arith),
+      h (4 * n + 1) (omega arith),
+      h (4 * n + 2) (omega arith),
+      h (4 * n + 2 + 1) (omega arith),
+      e i 1,
+      e i 2,
+      e j 1,
+      e j 2,
+      f i 1,
+      f j 1,
+    )
 
 -- the same sixty-four bytes give the same hash value
 pub compress-eq : (v : Vars) (a b : List ℕ) (i j : ℕ) → ((k : ℕ) → k < 64 → getD a (i + k) 0 ≡ getD b (j + k) 0) → compress v a i ≡ compress v b j

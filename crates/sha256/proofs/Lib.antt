@@ -3,3 +3,6 @@ pub mod Schedules
 pub mod Stores
 pub mod Laying
 pub mod Hashing
+pub mod Digesting
+pub mod Keys
+pub mod Tags

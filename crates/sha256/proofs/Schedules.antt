@@ -20,8 +20,12 @@ words-more m w at n r h p e = rw add-one (take-suc-set w n r h ∙ cc)
 next-word-take : (w : List ℕ) (n : ℕ) → nextWord (take (16 + n) w) n ≡ nextWord w n
 unfolding nextWord
 next-word-take w n =
-    cc (getD-take (16 + n) w (14 + n) 0 (omega arith), getD-take (16 + n) w (9 + n) 0 (omega arith),
-    getD-take (16 + n) w (1 + n) 0 (omega arith), getD-take (16 + n) w n 0 (omega arith))
+    cc (
+      getD-take (16 + n) w (14 + n) 0 (omega arith),
+      getD-take (16 + n) w (9 + n) 0 (omega arith),
+      getD-take (16 + n) w (1 + n) 0 (omega arith),
+      getD-take (16 + n) w n 0 (omega arith),
+    )
 
 -- one word more of the schedule
 put-more : (m w : List ℕ) (n : ℕ) → 16 + n < length w → take (16 + n) w ≡ schedule m n → take (16 + (n + 1)) (putWord w n) ≡ schedule m (n + 1)

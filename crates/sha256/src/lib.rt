@@ -1,5 +1,76 @@
-// SHA-256 (FIPS 180-4) and HMAC on it (RFC 2104).
+// SHA-256 (FIPS 180-4) and HMAC on it (RFC 2104), of bytes wherever they stand: no call copies a message or keeps a state between calls.
+// The three parts of a message are hashed one behind the other, as if they stood so in memory.
+mod key;
+mod message;
 mod parts;
 mod rounds;
 mod store;
+mod tag;
 mod word;
+
+use key::key_block;
+use key::masked;
+use message::digest_behind;
+use message::digest_from;
+ghost use mathlib.Core.Path.{_≡_};
+ghost use mathlib.Core.List.{_++_};
+ghost use lib.ListN.{length};
+ghost use Rattle.laws.specs.Same.{same};
+ghost use Rattle.sha256.specs.Digests as fips;
+ghost use Rattle.sha256.specs.Macs as rfc;
+
+// RFC 2104's byte of the inner pad.
+const IPAD: u8 = 0x36;
+
+// RFC 2104's byte of the outer pad.
+const OPAD: u8 = 0x5c;
+
+// The SHA-256 digest of a message.
+pub fn digest(message: &[u8]) -> [u8; 32]
+    ensures { λ r. ⌜ r ≡ fips.digest (now (message .entry)) ⌝ }
+{
+    digest_from(&message[0..0], &message[0..0], message)
+}
+
+// The SHA-256 digest of a message in three parts.
+pub fn digest_parts(first: &[u8], second: &[u8], third: &[u8]) -> [u8; 32]
+    ensures { λ r. ⌜ r ≡ fips.digest (now (first .entry) ++ (now (second .entry) ++ now (third .entry))) ⌝ }
+{
+    digest_from(first, second, third)
+}
+
+// The HMAC-SHA-256 of a message, under a key of any length.
+pub fn hmac(key: &[u8], message: &[u8]) -> [u8; 32]
+    ensures { λ r. ⌜ r ≡ rfc.hmac (now (key .entry)) (now (message .entry)) ⌝ }
+{
+    hmac_parts(key, &message[0..0], &message[0..0], message)
+}
+
+// The HMAC-SHA-256 of a message in three parts, under a key of any length.
+pub fn hmac_parts(key: &[u8], first: &[u8], second: &[u8], third: &[u8]) -> [u8; 32]
+    ensures { λ r. ⌜ r ≡ rfc.hmac (now (key .entry)) (now (first .entry) ++ (now (second .entry) ++ now (third .entry))) ⌝ }
+{
+    let block = key_block(key);
+    let inner = masked(&block, IPAD);
+    let digest = digest_behind(&inner, first, second, third);
+    let outer = masked(&block, OPAD);
+    outer_digest(&outer, &digest)
+}
+
+fn outer_digest(outer: &[u8], inner: &[u8]) -> [u8; 32]
+    requires { ⌜ length (now outer) ≡ 64 ⌝ }
+    ensures { λ r. ⌜ r ≡ fips.digest (now (outer .entry) ++ now (inner .entry)) ⌝ }
+{
+    digest_behind(outer, &inner[0..0], &inner[0..0], inner)
+}
+
+// Whether a tag is the one computed. It reads every byte and ors the differences, so that its time tells nothing of where they differ;
+// a tag that is not of thirty-two bytes is another.
+pub fn same_tag(ours: [u8; 32], theirs: &[u8]) -> bool
+    ensures { λ r. ⌜ r ≡ same ours (now (theirs .entry)) ⌝ }
+{
+    if theirs.len() == 32 {
+        return tag::differences(&ours, theirs) == 0;
+    }
+    false
+}

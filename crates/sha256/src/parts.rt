@@ -4,8 +4,8 @@
 //     message     |  first  | second |            third            | tail |
 //     blocks      |     |     |     |     |     |     |     |     |     |
 //                 laid  laid  laid  in third ..               laid  laid
-use crate::rounds::{compress, Vars};
-
+use crate::rounds::Vars;
+use crate::rounds::compress;
 ghost use mathlib.Core.Path.{_≡_};
 ghost use mathlib.Core.List.{_++_};
 ghost use Prim.Native.Nat.{ℕ, _<_, _≤_, _+_, _*_, _^_};
@@ -58,7 +58,14 @@ fn gather(block: &mut [u8], part: &[u8], ahead: usize, at: usize)
     if at + 64 <= ahead {
         return;
     }
-    lay(block, part, ahead, at, larger(ahead, at), smaller(end, at + 64));
+    lay(
+        block,
+        part,
+        ahead,
+        at,
+        larger(ahead, at),
+        smaller(end, at + 64),
+    );
 }
 
 // The block at a place of the message; behind the message's end stand zeros.
@@ -70,11 +77,24 @@ fn assembled(first: &[u8], second: &[u8], third: &[u8], tail: &[u8], at: usize) 
     gather(&mut block, first, 0, at);
     gather(&mut block, second, first.len(), at);
     gather(&mut block, third, first.len() + second.len(), at);
-    gather(&mut block, tail, first.len() + second.len() + third.len(), at);
+    gather(
+        &mut block,
+        tail,
+        first.len() + second.len() + third.len(),
+        at,
+    );
     block
 }
 
-fn absorb(v: Vars, first: &[u8], second: &[u8], third: &[u8], tail: &[u8], at: usize, k: &[u32; 64]) -> Vars
+fn absorb(
+    v: Vars,
+    first: &[u8],
+    second: &[u8],
+    third: &[u8],
+    tail: &[u8],
+    at: usize,
+    k: &[u32; 64],
+) -> Vars
     requires { ⌜ (at + 64 < 2 ^ 64) × (length (now first) + (length (now second) + (length (now third) + length (now tail))) < 2 ^ 64) × (now k ≡ K256) ⌝ }
     ensures { λ r. ⌜ r ≡ fips.compress v (now (first .entry) ++ (now (second .entry) ++ (now (third .entry) ++ now (tail .entry)))) at ⌝ }
 {
@@ -89,7 +109,14 @@ fn absorb(v: Vars, first: &[u8], second: &[u8], third: &[u8], tail: &[u8], at: u
 }
 
 // The hash value after a message that is whole blocks.
-pub(crate) fn hash(v: Vars, first: &[u8], second: &[u8], third: &[u8], tail: &[u8], k: &[u32; 64]) -> Vars
+pub(crate) fn hash(
+    v: Vars,
+    first: &[u8],
+    second: &[u8],
+    third: &[u8],
+    tail: &[u8],
+    k: &[u32; 64],
+) -> Vars
     requires { ⌜ (length (now first) + (length (now second) + (length (now third) + length (now tail))) < 2 ^ 62) × (now k ≡ K256) ⌝ }
     ensures { λ r. ⌜ r ≡ fips.hashed v (now (first .entry) ++ (now (second .entry) ++ (now (third .entry) ++ now (tail .entry)))) ⌝ }
 {

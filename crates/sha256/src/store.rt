@@ -1,6 +1,5 @@
 // Numbers written as bytes, the highest first: a padding's length, a digest's words.
 use crate::rounds::Vars;
-
 ghost use mathlib.Core.Path.{_≡_};
 ghost use Prim.Native.Nat.{_<_, _≤_, _+_, _^_};
 ghost use lib.ListN.{length, take};

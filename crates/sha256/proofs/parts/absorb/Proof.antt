@@ -1,52 +1,40 @@
+-- The block has the message's sixty-four bytes, where it stands or put together. Assumes nothing.
 use mathlib.Core.List.{_++_}
-use native.Mathlib.Omega.{arith}
 use mathlib.Core.Path.{_∙_}
-use Rattle.sha256.proofs.Hashing.{in-third, put-together}
+use native.Mathlib.Omega.{arith}
 use borrow.Author.Needs.{needs}
+use Rattle.sha256.proofs.Hashing.{in-third, put-together}
 use Rattle.sha256.proofs.parts.absorb.Statement.{statement}
 use Rattle.sha256.proofs.parts.absorb.Tie as tie
-use Rattle.sha256.proofs.parts.absorb.Reads as reads
-use Rattle.sha256.proofs.parts.absorb.Lts as lts
-use Rattle.sha256.proofs.parts.assembled.Reads as assembled-reads
-use Rattle.sha256.proofs.rounds.compress.Reads as compress-reads
 
--- src/parts.rt:81:17
 add-ahead : tie.Need-add-ahead
 add-ahead c = search needs
 
--- src/parts.rt:83:12
 add-if2 : tie.Need-add-if2
 add-if2 c = search needs
 
--- src/parts.rt:83:23
 add-if2-2 : tie.Need-add-if2-2
 add-if2-2 c = search needs
 
--- src/parts.rt:84:13
 compress-requires : tie.Need-compress-requires
 compress-requires c κs = search needs
 
--- src/parts.rt:84:13
 returns : tie.Need-returns
-returns c = 
+returns c =
     let a = c .before .before .before .before .before .before .before .args in
     c .compress .ensures ∙ in-third (a .v) (a .first .now) (a .second .now) (a .third .now) (a .tail .now) (a .at) (omega arith) (omega arith)
 
--- src/parts.rt:87:17
 assembled-requires : tie.Need-assembled-requires
 assembled-requires c κs = search needs
 
--- src/parts.rt:88:17
 slice-aggregate-compress : tie.Need-slice-aggregate-compress
 slice-aggregate-compress c = search needs
 
--- src/parts.rt:88:5
 compress-requires-2 : tie.Need-compress-requires-2
 compress-requires-2 c κs = search needs
 
--- src/parts.rt:77:1
 returns-2 : tie.Need-returns-2
-returns-2 c = 
+returns-2 c =
     let a = c .before .before .before .before .before .before .before .before .args in
     c .compress2 .ensures ∙ put-together (a .v) (a .first .now ++ (a .second .now ++ (a .third .now ++ a .tail .now))) (c .before .before .assembled .result) (a .at) (c .before .before .assembled .ensures .1)
 

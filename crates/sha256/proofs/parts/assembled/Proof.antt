@@ -1,61 +1,47 @@
+-- Four parts laid one behind the other are the message laid, and over zeros that is the message's block. Assumes nothing.
 use mathlib.Core.List.{_++_, append-assoc}
-use lib.ListN.{length-append, replicate}
 use native.Mathlib.Omega.{arith}
-use Rattle.sha256.proofs.Laying.{laid-append, laid-message}
+use lib.ListN.{length-append, replicate}
 use borrow.Author.Needs.{needs}
+use Rattle.sha256.proofs.Laying.{laid-append, laid-message}
 use Rattle.sha256.proofs.parts.assembled.Statement.{statement}
 use Rattle.sha256.proofs.parts.assembled.Tie as tie
-use Rattle.sha256.proofs.parts.assembled.Reads as reads
-use Rattle.sha256.proofs.parts.assembled.Lts as lts
-use Rattle.sha256.proofs.parts.gather.Reads as gather-reads
 
--- src/parts.rt:70:12
 slice-aggregate-gather : tie.Need-slice-aggregate-gather
 slice-aggregate-gather c = search needs
 
--- src/parts.rt:70:5
 gather-requires : tie.Need-gather-requires
 gather-requires c κs = search needs
 
--- src/parts.rt:71:12
 slice-aggregate-gather-2 : tie.Need-slice-aggregate-gather-2
 slice-aggregate-gather-2 c = search needs
 
--- src/parts.rt:71:5
 gather-requires-2 : tie.Need-gather-requires-2
 gather-requires-2 c κs = search needs
 
--- src/parts.rt:72:12
 slice-aggregate-gather-3 : tie.Need-slice-aggregate-gather-3
 slice-aggregate-gather-3 c = search needs
 
--- src/parts.rt:72:31
 add-gather : tie.Need-add-gather
 add-gather c = search needs
 
--- src/parts.rt:72:5
 gather-requires-3 : tie.Need-gather-requires-3
 gather-requires-3 c κs = search needs
 
--- src/parts.rt:73:12
 slice-aggregate-gather-4 : tie.Need-slice-aggregate-gather-4
 slice-aggregate-gather-4 c = search needs
 
--- src/parts.rt:73:30
 add-gather-2 : tie.Need-add-gather-2
 add-gather-2 c = search needs
 
--- src/parts.rt:73:30
 add-gather-3 : tie.Need-add-gather-3
 add-gather-3 c = search needs
 
--- src/parts.rt:73:5
 gather-requires-4 : tie.Need-gather-requires-4
 gather-requires-4 c κs = search needs
 
--- src/parts.rt:65:1
 returns : tie.Need-returns
-returns c = 
+returns c =
     let a = c .before .before .before .before .before .before .before .before .before .before .before .before .before .before .before .before .args in
     let b1 = c .before .before .before .before .before .before .before .before .before .before .gather .last .0 in
     let b2 = c .before .before .before .before .before .before .before .gather2 .last .0 in

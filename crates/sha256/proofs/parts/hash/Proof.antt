@@ -1,16 +1,14 @@
-use lib.ListN.{length, length-append}
-use borrow.Author.Needs.{needs}
-use native.Mathlib.Omega.{arith}
+-- The invariant: n blocks of the message are hashed. Assumes nothing.
 use mathlib.Core.Path.{_≡_, ap, _∙_}
 use mathlib.Core.List.{_++_}
 use Prim.Native.Nat.{_≤_, _-_, _/_}
+use native.Mathlib.Omega.{arith}
+use lib.ListN.{length, length-append}
+use borrow.Author.Needs.{needs}
 use Rattle.sha256.specs.Compression.{blocks, hashed}
 use Rattle.sha256.proofs.Hashing.{blocks-more}
 use Rattle.sha256.proofs.parts.hash.Statement.{statement}
 use Rattle.sha256.proofs.parts.hash.Tie as tie
-use Rattle.sha256.proofs.parts.hash.Reads as reads
-use Rattle.sha256.proofs.parts.hash.Lts as lts
-use Rattle.sha256.proofs.parts.absorb.Reads as absorb-reads
 
 abbrev Inv-loop : tie.InvT-loop
 Inv-loop first second third tail k count x₀ n₀ x n = (n ≤ count) × (x ≡ blocks x₀ (first ++ (second ++ (third ++ tail))) n)
@@ -18,47 +16,37 @@ Inv-loop first second third tail k count x₀ n₀ x n = (n ≤ count) × (x ≡
 abbrev μ-loop : tie.MeasureT-loop
 μ-loop first second third tail k count x₀ n₀ x n = count - n
 
--- src/parts.rt:96:18
 add-count : tie.Need-add-count Inv-loop μ-loop
 add-count c = search needs
 
--- src/parts.rt:96:18
 add-count-2 : tie.Need-add-count-2 Inv-loop μ-loop
 add-count-2 c = search needs
 
--- src/parts.rt:96:18
 add-count-3 : tie.Need-add-count-3 Inv-loop μ-loop
 add-count-3 c = search needs
 
--- src/parts.rt:99:5
 loop-holds : tie.Need-loop-holds Inv-loop μ-loop
 unfolding blocks
 loop-holds c = search needs
 
--- src/parts.rt:100:51
 mul-absorb : tie.Need-mul-absorb Inv-loop μ-loop
 mul-absorb c = search needs
 
--- src/parts.rt:100:9
 absorb-requires : tie.Need-absorb-requires Inv-loop μ-loop
 absorb-requires c κs = search needs
 
--- src/parts.rt:101:9
 add-n : tie.Need-add-n Inv-loop μ-loop
 add-n c = search needs
 
--- src/parts.rt:99:5
 loop-less : tie.Need-loop-less Inv-loop μ-loop
 loop-less c = search needs
 
--- src/parts.rt:99:5
 loop-again : tie.Need-loop-again Inv-loop μ-loop
 loop-again c = (search needs, blocks-more _ _ _ _ _ (c .before .before .loop .inv .1) (c .absorb .ensures))
 
--- src/parts.rt:92:1
 returns : tie.Need-returns Inv-loop μ-loop
 unfolding hashed
-returns c = 
+returns c =
     let a = c .before .before .before .before .before .before .args in
     let m = a .first .now ++ (a .second .now ++ (a .third .now ++ a .tail .now)) in
     let e : c .before .loop .n ≡ length m / 64 = simp length-append (omega arith) in

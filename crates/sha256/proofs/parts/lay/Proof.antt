@@ -1,15 +1,14 @@
+-- The invariant: the places passed are laid. Assumes nothing.
 use mathlib.Core.Path.{refl}
-use borrow.Author.Needs.{needs}
-use native.Mathlib.Omega.{arith}
 use mathlib.Core.Path.{_≡_}
 use Prim.Native.Nat.{ℕ, _≤_, _-_}
+use native.Mathlib.Omega.{arith}
 use lib.ListN.{length, getD}
+use borrow.Author.Needs.{needs}
 use Rattle.sha256.specs.Parts.{laidFrom}
 use Rattle.sha256.proofs.Laying.{laid-none, laid-more}
 use Rattle.sha256.proofs.parts.lay.Statement.{statement}
 use Rattle.sha256.proofs.parts.lay.Tie as tie
-use Rattle.sha256.proofs.parts.lay.Reads as reads
-use Rattle.sha256.proofs.parts.lay.Lts as lts
 
 abbrev Inv-loop : tie.InvT-loop
 Inv-loop block₀ part ahead at from to i₀ block i =
@@ -18,43 +17,33 @@ Inv-loop block₀ part ahead at from to i₀ block i =
 abbrev μ-loop : tie.MeasureT-loop
 μ-loop block₀ part ahead at from to i₀ block i = to - i
 
--- src/parts.rt:23:5
 loop-holds : tie.Need-loop-holds Inv-loop μ-loop
 loop-holds c = (search needs, search needs, search needs, laid-none _ _ _ _ _)
 
--- src/parts.rt:24:30
 sub-block : tie.Need-sub-block Inv-loop μ-loop
 sub-block c = search needs
 
--- src/parts.rt:24:25
 shared-slice-read-block : tie.Need-shared-slice-read-block Inv-loop μ-loop
 shared-slice-read-block c = search needs
 
--- src/parts.rt:24:15
 sub-block-2 : tie.Need-sub-block-2 Inv-loop μ-loop
 sub-block-2 c = search needs
 
--- src/parts.rt:24:9
 slice-write-block : tie.Need-slice-write-block Inv-loop μ-loop
 slice-write-block c = search needs
 
--- src/parts.rt:25:9
 add-i : tie.Need-add-i Inv-loop μ-loop
 add-i c = search needs
 
--- src/parts.rt:23:5
 loop-less : tie.Need-loop-less Inv-loop μ-loop
 loop-less c = search needs
 
--- src/parts.rt:23:5
 loop-again : tie.Need-loop-again Inv-loop μ-loop
 loop-again c = (search needs, search needs, search needs, laid-more _ _ _ _ (c .before .before .loop .block) (c .before .before .before .args .from) (c .before .before .loop .i) _ (omega arith) (omega arith) (omega arith) (c .before .before .loop .inv .3) refl)
 
--- src/parts.rt:18:1
 same-length : tie.Need-same-length Inv-loop μ-loop
 same-length c = search needs
 
--- src/parts.rt:18:1
 returns : tie.Need-returns Inv-loop μ-loop
 returns c = let e : c .before .loop .i ≡ c .before .before .args .to = omega arith in
     (search needs, λ j. rw e at (c .before .loop .inv .3 j))

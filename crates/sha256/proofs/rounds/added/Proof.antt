@@ -1,44 +1,33 @@
-use Rattle.sha256.specs.Compression.{added}
+-- The eight sums are the definition's. Assumes nothing.
 use borrow.Author.Needs.{needs}
+use Rattle.sha256.specs.Compression.{added}
 use Rattle.sha256.proofs.rounds.added.Statement.{statement}
 use Rattle.sha256.proofs.rounds.added.Tie as tie
-use Rattle.sha256.proofs.rounds.added.Reads as reads
-use Rattle.sha256.proofs.rounds.added.Lts as lts
-use Rattle.sha256.proofs.word.add.Reads as add-reads
 
--- src/rounds.rt:168:12
 add-requires : tie.Need-add-requires
 add-requires c κs = search needs
 
--- src/rounds.rt:169:12
 add-requires-2 : tie.Need-add-requires-2
 add-requires-2 c κs = search needs
 
--- src/rounds.rt:170:12
 add-requires-3 : tie.Need-add-requires-3
 add-requires-3 c κs = search needs
 
--- src/rounds.rt:171:12
 add-requires-4 : tie.Need-add-requires-4
 add-requires-4 c κs = search needs
 
--- src/rounds.rt:172:12
 add-requires-5 : tie.Need-add-requires-5
 add-requires-5 c κs = search needs
 
--- src/rounds.rt:173:12
 add-requires-6 : tie.Need-add-requires-6
 add-requires-6 c κs = search needs
 
--- src/rounds.rt:174:12
 add-requires-7 : tie.Need-add-requires-7
 add-requires-7 c κs = search needs
 
--- src/rounds.rt:175:12
 add-requires-8 : tie.Need-add-requires-8
 add-requires-8 c κs = search needs
 
--- src/rounds.rt:164:1
 returns : tie.Need-returns
 unfolding added
 returns c = cc

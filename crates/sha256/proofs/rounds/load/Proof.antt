@@ -1,15 +1,13 @@
-use native.Mathlib.Omega.{arith}
+-- The invariant: so many words are loaded as have been passed. Assumes nothing.
 use mathlib.Core.Path.{_≡_}
 use Prim.Native.Nat.{_≤_, _-_}
+use native.Mathlib.Omega.{arith}
 use lib.ListN.{length, take}
+use borrow.Author.Needs.{needs}
 use Rattle.sha256.specs.Compression.{words}
 use Rattle.sha256.proofs.Schedules.{words-more}
-use borrow.Author.Needs.{needs}
 use Rattle.sha256.proofs.rounds.load.Statement.{statement}
 use Rattle.sha256.proofs.rounds.load.Tie as tie
-use Rattle.sha256.proofs.rounds.load.Reads as reads
-use Rattle.sha256.proofs.rounds.load.Lts as lts
-use Rattle.sha256.proofs.rounds.word_at.Reads as word-at-reads
 
 abbrev Inv-loop : tie.InvT-loop
 Inv-loop m at w₀ n₀ w n = (n ≤ 16) × (length w ≡ 64) × (take n w ≡ words m at n)
@@ -17,44 +15,34 @@ Inv-loop m at w₀ n₀ w n = (n ≤ 16) × (length w ≡ 64) × (take n w ≡ w
 abbrev μ-loop : tie.MeasureT-loop
 μ-loop m at w₀ n₀ w n = 16 - n
 
--- src/rounds.rt:62:5
 loop-holds : tie.Need-loop-holds Inv-loop μ-loop
 unfolding words
 loop-holds c = search needs
 
--- src/rounds.rt:63:32
 mul-word-at : tie.Need-mul-word-at Inv-loop μ-loop
 mul-word-at c = search needs
 
--- src/rounds.rt:63:27
 add-word-at : tie.Need-add-word-at Inv-loop μ-loop
 add-word-at c = search needs
 
--- src/rounds.rt:63:16
 word-at-requires : tie.Need-word-at-requires Inv-loop μ-loop
 word-at-requires c κs = search needs
 
--- src/rounds.rt:63:9
 mul-w : tie.Need-mul-w Inv-loop μ-loop
 mul-w c = search needs
 
--- src/rounds.rt:63:9
 array-write-w : tie.Need-array-write-w Inv-loop μ-loop
 array-write-w c = search needs
 
--- src/rounds.rt:64:9
 add-n : tie.Need-add-n Inv-loop μ-loop
 add-n c = search needs
 
--- src/rounds.rt:62:5
 loop-less : tie.Need-loop-less Inv-loop μ-loop
 loop-less c = search needs
 
--- src/rounds.rt:62:5
 loop-again : tie.Need-loop-again Inv-loop μ-loop
 loop-again c = (search needs, search needs, words-more _ _ _ _ _ (omega arith) (c .before .before .loop .inv .2) (c .word-at .ensures))
 
--- src/rounds.rt:56:1
 returns : tie.Need-returns Inv-loop μ-loop
 returns c = let e : c .before .loop .n ≡ 16 = omega arith in (search needs, rw e at (c .before .loop .inv .2))
 

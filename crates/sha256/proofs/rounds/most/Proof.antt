@@ -1,17 +1,14 @@
-use native.Mathlib.Omega.{arith}
+-- The invariant: t rounds are done, and 16 + t words of the schedule stand; a turn adds four to both, and the words it adds change none that were used. Assumes nothing.
 use mathlib.Core.Path.{_≡_, _∙_, ap, sym}
 use Prim.Native.Nat.{_+_, _≤_, _-_, _%_}
+use native.Mathlib.Omega.{arith}
 use lib.Seq.{take-all}
 use lib.ListN.{length, take}
+use borrow.Author.Needs.{needs}
 use Rattle.sha256.specs.Compression.{schedule, rounds}
 use Rattle.sha256.proofs.Schedules.{put-four-more, turn-more, length-put-four}
-use borrow.Author.Needs.{needs}
 use Rattle.sha256.proofs.rounds.most.Statement.{statement}
 use Rattle.sha256.proofs.rounds.most.Tie as tie
-use Rattle.sha256.proofs.rounds.most.Reads as reads
-use Rattle.sha256.proofs.rounds.most.Lts as lts
-use Rattle.sha256.proofs.rounds.four_rounds.Reads as four-rounds-reads
-use Rattle.sha256.proofs.rounds.put_four.Reads as put-four-reads
 
 abbrev Inv-loop : tie.InvT-loop
 Inv-loop w₀ k x₀ t₀ w x t = (t ≤ 48) × (t % 4 ≡ 0) × (length w ≡ 64) × (take (16 + t) w ≡ schedule (take 16 w₀) t) × (x ≡ rounds x₀ w t)
@@ -19,35 +16,31 @@ Inv-loop w₀ k x₀ t₀ w x t = (t ≤ 48) × (t % 4 ≡ 0) × (length w ≡ 6
 abbrev μ-loop : tie.MeasureT-loop
 μ-loop w₀ k x₀ t₀ w x t = 48 - t
 
--- src/rounds.rt:152:5
 loop-holds : tie.Need-loop-holds Inv-loop μ-loop
 unfolding schedule rounds
 loop-holds c = search needs
 
--- src/rounds.rt:153:9
 four-rounds-requires : tie.Need-four-rounds-requires Inv-loop μ-loop
 four-rounds-requires c κs = search needs
 
--- src/rounds.rt:154:9
 put-four-requires : tie.Need-put-four-requires Inv-loop μ-loop
 put-four-requires c κs = search needs
 
--- src/rounds.rt:155:9
 add-t : tie.Need-add-t Inv-loop μ-loop
 add-t c = search needs
 
--- src/rounds.rt:152:5
 loop-less : tie.Need-loop-less Inv-loop μ-loop
 loop-less c = search needs
 
--- src/rounds.rt:152:5
 loop-again : tie.Need-loop-again Inv-loop μ-loop
-loop-again c =
-    (search needs, search needs, ap length (c .put-four .ensures) ∙ length-put-four _ _ ∙ c .before .before .before .before .before .loop .inv .2,
-    ap (take (16 + (c .before .before .before .before .before .loop .t + 4))) (c .put-four .ensures) ∙ put-four-more _ _ _ (omega arith) (c .before .before .before .before .before .loop .inv .2) (c .before .before .before .before .before .loop .inv .3),
-    turn-more _ _ _ _ _ _ (omega arith) (c .before .before .before .before .before .loop .inv .4) (c .before .before .four-rounds .ensures) (c .put-four .ensures))
+loop-again c = (
+  search needs,
+  search needs,
+  ap length (c .put-four .ensures) ∙ length-put-four _ _ ∙ c .before .before .before .before .before .loop .inv .2,
+  ap (take (16 + (c .before .before .before .before .before .loop .t + 4))) (c .put-four .ensures) ∙ put-four-more _ _ _ (omega arith) (c .before .before .before .before .before .loop .inv .2) (c .before .before .before .before .before .loop .inv .3),
+  turn-more _ _ _ _ _ _ (omega arith) (c .before .before .before .before .before .loop .inv .4) (c .before .before .four-rounds .ensures) (c .put-four .ensures),
+)
 
--- src/rounds.rt:146:1
 returns : tie.Need-returns Inv-loop μ-loop
 returns c =
     let e : c .before .loop .t ≡ 48 = omega arith in

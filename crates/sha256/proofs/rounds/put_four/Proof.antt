@@ -1,40 +1,30 @@
-use Rattle.sha256.specs.Compression.{putFour}
+-- Four words, each put into what the one before left. Assumes nothing.
 use borrow.Author.Needs.{needs}
+use Rattle.sha256.specs.Compression.{putFour}
 use Rattle.sha256.proofs.rounds.put_four.Statement.{statement}
 use Rattle.sha256.proofs.rounds.put_four.Tie as tie
-use Rattle.sha256.proofs.rounds.put_four.Reads as reads
-use Rattle.sha256.proofs.rounds.put_four.Lts as lts
-use Rattle.sha256.proofs.rounds.put_word.Reads as put-word-reads
 
--- src/rounds.rt:86:5
 put-word-requires : tie.Need-put-word-requires
 put-word-requires c κs = search needs
 
--- src/rounds.rt:87:17
 add-put-word : tie.Need-add-put-word
 add-put-word c = search needs
 
--- src/rounds.rt:87:5
 put-word-requires-2 : tie.Need-put-word-requires-2
 put-word-requires-2 c κs = search needs
 
--- src/rounds.rt:88:17
 add-put-word-2 : tie.Need-add-put-word-2
 add-put-word-2 c = search needs
 
--- src/rounds.rt:88:5
 put-word-requires-3 : tie.Need-put-word-requires-3
 put-word-requires-3 c κs = search needs
 
--- src/rounds.rt:89:17
 add-put-word-3 : tie.Need-add-put-word-3
 add-put-word-3 c = search needs
 
--- src/rounds.rt:89:5
 put-word-requires-4 : tie.Need-put-word-requires-4
 put-word-requires-4 c κs = search needs
 
--- src/rounds.rt:82:1
 returns : tie.Need-returns
 unfolding putFour
 returns c = cc

@@ -1,27 +1,20 @@
+-- Sixteen rounds as four times four. Assumes nothing.
 use borrow.Author.Needs.{needs}
 use Rattle.sha256.proofs.rounds.rest.Statement.{statement}
 use Rattle.sha256.proofs.rounds.rest.Tie as tie
-use Rattle.sha256.proofs.rounds.rest.Reads as reads
-use Rattle.sha256.proofs.rounds.rest.Lts as lts
-use Rattle.sha256.proofs.rounds.four_rounds.Reads as four-rounds-reads
 
--- src/rounds.rt:158:9
 four-rounds-requires : tie.Need-four-rounds-requires
 four-rounds-requires c κs = search needs
 
--- src/rounds.rt:159:9
 four-rounds-requires-2 : tie.Need-four-rounds-requires-2
 four-rounds-requires-2 c κs = search needs
 
--- src/rounds.rt:160:9
 four-rounds-requires-3 : tie.Need-four-rounds-requires-3
 four-rounds-requires-3 c κs = search needs
 
--- src/rounds.rt:161:5
 four-rounds-requires-4 : tie.Need-four-rounds-requires-4
 four-rounds-requires-4 c κs = search needs
 
--- src/rounds.rt:154:1
 returns : tie.Need-returns
 returns c = cc
 

@@ -1,77 +1,58 @@
-use Rattle.sha256.proofs.Stores.{words-by}
-use Rattle.sha256.specs.Digests.{bytesOf}
+-- Eight runs of four fill the thirty-two bytes. Assumes nothing.
 use borrow.Author.Needs.{needs}
+use Rattle.sha256.specs.Digests.{bytesOf}
+use Rattle.sha256.proofs.Stores.{words-by}
 use Rattle.sha256.proofs.store.bytes_of.Statement.{statement}
 use Rattle.sha256.proofs.store.bytes_of.Tie as tie
-use Rattle.sha256.proofs.store.bytes_of.Reads as reads
-use Rattle.sha256.proofs.store.bytes_of.Lts as lts
-use Rattle.sha256.proofs.store.put32.Reads as put32-reads
 
--- src/store.rt:58:11
 slice-aggregate-put32 : tie.Need-slice-aggregate-put32
 slice-aggregate-put32 c = search needs
 
--- src/store.rt:58:5
 put32-requires : tie.Need-put32-requires
 put32-requires c κs = search needs
 
--- src/store.rt:59:11
 slice-aggregate-put32-2 : tie.Need-slice-aggregate-put32-2
 slice-aggregate-put32-2 c = search needs
 
--- src/store.rt:59:5
 put32-requires-2 : tie.Need-put32-requires-2
 put32-requires-2 c κs = search needs
 
--- src/store.rt:60:11
 slice-aggregate-put32-3 : tie.Need-slice-aggregate-put32-3
 slice-aggregate-put32-3 c = search needs
 
--- src/store.rt:60:5
 put32-requires-3 : tie.Need-put32-requires-3
 put32-requires-3 c κs = search needs
 
--- src/store.rt:61:11
 slice-aggregate-put32-4 : tie.Need-slice-aggregate-put32-4
 slice-aggregate-put32-4 c = search needs
 
--- src/store.rt:61:5
 put32-requires-4 : tie.Need-put32-requires-4
 put32-requires-4 c κs = search needs
 
--- src/store.rt:62:11
 slice-aggregate-put32-5 : tie.Need-slice-aggregate-put32-5
 slice-aggregate-put32-5 c = search needs
 
--- src/store.rt:62:5
 put32-requires-5 : tie.Need-put32-requires-5
 put32-requires-5 c κs = search needs
 
--- src/store.rt:63:11
 slice-aggregate-put32-6 : tie.Need-slice-aggregate-put32-6
 slice-aggregate-put32-6 c = search needs
 
--- src/store.rt:63:5
 put32-requires-6 : tie.Need-put32-requires-6
 put32-requires-6 c κs = search needs
 
--- src/store.rt:64:11
 slice-aggregate-put32-7 : tie.Need-slice-aggregate-put32-7
 slice-aggregate-put32-7 c = search needs
 
--- src/store.rt:64:5
 put32-requires-7 : tie.Need-put32-requires-7
 put32-requires-7 c κs = search needs
 
--- src/store.rt:65:11
 slice-aggregate-put32-8 : tie.Need-slice-aggregate-put32-8
 slice-aggregate-put32-8 c = search needs
 
--- src/store.rt:65:5
 put32-requires-8 : tie.Need-put32-requires-8
 put32-requires-8 c κs = search needs
 
--- src/store.rt:54:1
 returns : tie.Need-returns
 unfolding bytesOf
 returns c = words-by _ _ _ _ _ _ _ _ _ _ _ _ _ _ _ _ (c .before .before .before .before .before .before .before .before .before .before .before .before .before .before .before .before .before .before .before .before .before .before .put32 .ensures) (c .before .before .before .before .before .before .before .before .before .before .before .before .before .before .before .before .before .before .before .put322 .ensures) (c .before .before .before .before .before .before .before .before .before .before .before .before .before .before .before .before .put323 .ensures) (c .before .before .before .before .before .before .before .before .before .before .before .before .before .put324 .ensures) (c .before .before .before .before .before .before .before .before .before .before .put325 .ensures) (c .before .before .before .before .before .before .before .put326 .ensures) (c .before .before .before .before .put327 .ensures) (c .before .put328 .ensures)

@@ -1,40 +1,30 @@
+-- The byte 0x80, zeros that were there, and eight bytes stored behind them. Assumes nothing.
 use mathlib.Core.Path.{refl}
 use native.Mathlib.Omega.{arith}
+use borrow.Author.Needs.{needs}
 use Rattle.sha256.specs.Digests.{padding}
 use Rattle.sha256.proofs.Stores.{padding-by}
-use borrow.Author.Needs.{needs}
 use Rattle.sha256.proofs.store.padding_of.Statement.{statement}
 use Rattle.sha256.proofs.store.padding_of.Tie as tie
-use Rattle.sha256.proofs.store.padding_of.Reads as reads
-use Rattle.sha256.proofs.store.padding_of.Lts as lts
-use Rattle.sha256.proofs.store.put64.Reads as put64-reads
-use Rattle.sha256.proofs.store.zeros_of.Reads as zeros-of-reads
 
--- src/store.rt:48:5
 array-write-p : tie.Need-array-write-p
 array-write-p c = search needs
 
--- src/store.rt:49:11
 slice-aggregate-put64 : tie.Need-slice-aggregate-put64
 slice-aggregate-put64 c = search needs
 
--- src/store.rt:49:23
 zeros-of-requires : tie.Need-zeros-of-requires
 zeros-of-requires c κs = search needs
 
--- src/store.rt:49:19
 add-put64 : tie.Need-add-put64
 add-put64 c = search needs
 
--- src/store.rt:49:41
 mul-put64 : tie.Need-mul-put64
 mul-put64 c = search needs
 
--- src/store.rt:49:5
 put64-requires : tie.Need-put64-requires
 put64-requires c κs = search needs
 
--- src/store.rt:43:1
 returns : tie.Need-returns
 unfolding padding
 returns c = padding-by _ _ _ _ _ (c .before .put64 .ensures) (c .before .before .zeros-of .ensures .0) (omega arith) refl

@@ -1,41 +1,32 @@
+-- Two runs of four, one behind the other, are a run of eight. Assumes nothing.
 use Prim.Native.Nat.{_/_, _%_}
-use Rattle.laws.specs.Bytes.{bytes32}
 use native.Mathlib.Omega.{arith}
-use Rattle.sha256.proofs.Stores.{sets-two}
 use borrow.Author.Needs.{needs}
+use Rattle.laws.specs.Bytes.{bytes32}
+use Rattle.sha256.proofs.Stores.{sets-two}
 use Rattle.sha256.proofs.store.put64.Statement.{statement}
 use Rattle.sha256.proofs.store.put64.Tie as tie
-use Rattle.sha256.proofs.store.put64.Reads as reads
-use Rattle.sha256.proofs.store.put64.Lts as lts
-use Rattle.sha256.proofs.store.put32.Reads as put32-reads
 
--- src/store.rt:31:20
 cast-put32 : tie.Need-cast-put32
 cast-put32 c = search needs
 
--- src/store.rt:31:5
 put32-requires : tie.Need-put32-requires
 put32-requires c κs = search needs
 
--- src/store.rt:32:16
 add-put32 : tie.Need-add-put32
 add-put32 c = search needs
 
--- src/store.rt:32:24
 cast-put32-2 : tie.Need-cast-put32-2
 cast-put32-2 c = search needs
 
--- src/store.rt:32:5
 put32-requires-2 : tie.Need-put32-requires-2
 put32-requires-2 c κs = search needs
 
--- src/store.rt:27:1
 same-length : tie.Need-same-length
 same-length c = search needs
 
--- src/store.rt:27:1
 returns : tie.Need-returns
-returns c = 
+returns c =
     let a = c .before .before .before .before .before .before .before .before .before .args in
     sets-two (bytes32 (a .x / 4294967296)) (bytes32 (a .x % 4294967296)) (a .out .now) _ _ (a .at) _ (c .before .before .before .before .before .before .put32 .ensures) (c .before .before .put322 .ensures) (omega arith)
 

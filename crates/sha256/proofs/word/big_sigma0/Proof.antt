@@ -1,24 +1,18 @@
-use Rattle.sha256.specs.Words.{Σ0}
+-- The three rotations are those of the definition. Assumes nothing.
 use borrow.Author.Needs.{needs}
+use Rattle.sha256.specs.Words.{Σ0}
 use Rattle.sha256.proofs.word.big_sigma0.Statement.{statement}
 use Rattle.sha256.proofs.word.big_sigma0.Tie as tie
-use Rattle.sha256.proofs.word.big_sigma0.Reads as reads
-use Rattle.sha256.proofs.word.big_sigma0.Lts as lts
-use Rattle.sha256.proofs.word.rotr.Reads as rotr-reads
 
--- src/word.rt:37:5
 rotr-requires : tie.Need-rotr-requires
 rotr-requires c κs = search needs
 
--- src/word.rt:37:18
 rotr-requires-2 : tie.Need-rotr-requires-2
 rotr-requires-2 c κs = search needs
 
--- src/word.rt:37:32
 rotr-requires-3 : tie.Need-rotr-requires-3
 rotr-requires-3 c κs = search needs
 
--- src/word.rt:34:1
 returns : tie.Need-returns
 unfolding Σ0
 returns c = cc

@@ -1,24 +1,18 @@
-use Rattle.sha256.specs.Words.{Σ1}
+-- The three rotations are those of the definition. Assumes nothing.
 use borrow.Author.Needs.{needs}
+use Rattle.sha256.specs.Words.{Σ1}
 use Rattle.sha256.proofs.word.big_sigma1.Statement.{statement}
 use Rattle.sha256.proofs.word.big_sigma1.Tie as tie
-use Rattle.sha256.proofs.word.big_sigma1.Reads as reads
-use Rattle.sha256.proofs.word.big_sigma1.Lts as lts
-use Rattle.sha256.proofs.word.rotr.Reads as rotr-reads
 
--- src/word.rt:43:5
 rotr-requires : tie.Need-rotr-requires
 rotr-requires c κs = search needs
 
--- src/word.rt:43:18
 rotr-requires-2 : tie.Need-rotr-requires-2
 rotr-requires-2 c κs = search needs
 
--- src/word.rt:43:32
 rotr-requires-3 : tie.Need-rotr-requires-3
 rotr-requires-3 c κs = search needs
 
--- src/word.rt:40:1
 returns : tie.Need-returns
 unfolding Σ1
 returns c = cc

@@ -1,12 +1,10 @@
+-- Bit by bit the short form is the standard's. Assumes nothing.
 use native.Mathlib.Omega.{arith}
 use Rattle.sha256.specs.Words.{Ch, complement}
 use Rattle.sha256.proofs.Bitwise.{ch-by}
 use Rattle.sha256.proofs.word.ch.Statement.{statement}
 use Rattle.sha256.proofs.word.ch.Tie as tie
-use Rattle.sha256.proofs.word.ch.Reads as reads
-use Rattle.sha256.proofs.word.ch.Lts as lts
 
--- src/word.rt:21:1
 returns : tie.Need-returns
 unfolding Ch complement
 returns c = ch-by 32 (c .args .x) (c .args .y) (c .args .z) (omega arith) (omega arith) (omega arith)

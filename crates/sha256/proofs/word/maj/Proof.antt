@@ -1,12 +1,10 @@
+-- Bit by bit the short form is the standard's. Assumes nothing.
 use native.Mathlib.Omega.{arith}
 use Rattle.sha256.specs.Words.{Maj}
 use Rattle.sha256.proofs.Bitwise.{maj-by}
 use Rattle.sha256.proofs.word.maj.Statement.{statement}
 use Rattle.sha256.proofs.word.maj.Tie as tie
-use Rattle.sha256.proofs.word.maj.Reads as reads
-use Rattle.sha256.proofs.word.maj.Lts as lts
 
--- src/word.rt:28:1
 returns : tie.Need-returns
 unfolding Maj
 returns c = maj-by 32 (c .args .x) (c .args .y) (c .args .z) (omega arith) (omega arith) (omega arith)

@@ -1,24 +1,19 @@
+-- The body is the definition. Assumes nothing.
 use mathlib.Core.Path.{refl}
-use Rattle.sha256.specs.Words.{ROTR}
 use borrow.Author.Needs.{needs}
+use Rattle.sha256.specs.Words.{ROTR}
 use Rattle.sha256.proofs.word.rotr.Statement.{statement}
 use Rattle.sha256.proofs.word.rotr.Tie as tie
-use Rattle.sha256.proofs.word.rotr.Reads as reads
-use Rattle.sha256.proofs.word.rotr.Lts as lts
 
--- src/word.rt:17:6
 shr-result : tie.Need-shr-result
 shr-result c = search needs
 
--- src/word.rt:17:23
 sub-result : tie.Need-sub-result
 sub-result c = search needs
 
--- src/word.rt:17:17
 shl-result : tie.Need-shl-result
 shl-result c = search needs
 
--- src/word.rt:13:1
 returns : tie.Need-returns
 unfolding ROTR
 returns c = refl

@@ -1,20 +1,15 @@
-use Rattle.sha256.specs.Words.{σ0, SHR}
+-- The rotations and the shift are those of the definition. Assumes nothing.
 use borrow.Author.Needs.{needs}
+use Rattle.sha256.specs.Words.{σ0, SHR}
 use Rattle.sha256.proofs.word.small_sigma0.Statement.{statement}
 use Rattle.sha256.proofs.word.small_sigma0.Tie as tie
-use Rattle.sha256.proofs.word.small_sigma0.Reads as reads
-use Rattle.sha256.proofs.word.small_sigma0.Lts as lts
-use Rattle.sha256.proofs.word.rotr.Reads as rotr-reads
 
--- src/word.rt:49:5
 rotr-requires : tie.Need-rotr-requires
 rotr-requires c κs = search needs
 
--- src/word.rt:49:18
 rotr-requires-2 : tie.Need-rotr-requires-2
 rotr-requires-2 c κs = search needs
 
--- src/word.rt:46:1
 returns : tie.Need-returns
 unfolding σ0 SHR
 returns c = cc

@@ -1,0 +1,55 @@
+-- The invariant: the bytes passed are masked. Assumes nothing.
+use mathlib.Core.Path.{_≡_, sym, _∙_}
+use Prim.Native.Nat.{_≤_, _-_}
+use native.Mathlib.Omega.{arith}
+use lib.ListN.{length, take}
+use lib.Seq.{take-all}
+use borrow.Author.Needs.{needs}
+use Rattle.sha256.specs.Macs.{masked}
+use Rattle.sha256.proofs.Keys.{masked-more}
+use Rattle.sha256.proofs.key.masked.Statement.{statement}
+use Rattle.sha256.proofs.key.masked.Tie as tie
+
+abbrev Inv-loop : tie.InvT-loop
+Inv-loop key pad block₀ i₀ block i = (i ≤ 64) × (length block ≡ 64) × (take i block ≡ masked pad (take i key))
+
+abbrev μ-loop : tie.MeasureT-loop
+μ-loop key pad block₀ i₀ block i = 64 - i
+
+loop-holds : tie.Need-loop-holds Inv-loop μ-loop
+unfolding masked
+loop-holds c = search needs
+
+element-copy-out-block : tie.Need-element-copy-out-block Inv-loop μ-loop
+element-copy-out-block c = search needs
+
+array-write-block : tie.Need-array-write-block Inv-loop μ-loop
+array-write-block c = search needs
+
+add-i : tie.Need-add-i Inv-loop μ-loop
+add-i c = search needs
+
+loop-less : tie.Need-loop-less Inv-loop μ-loop
+loop-less c = search needs
+
+loop-again : tie.Need-loop-again Inv-loop μ-loop
+loop-again c = (search needs, search needs, masked-more _ (c .before .before .loop .i) (c .before .before .before .args .key .now) (c .before .before .loop .block) (omega arith) (omega arith) (c .before .before .loop .inv .2))
+
+returns : tie.Need-returns Inv-loop μ-loop
+returns c =
+    let e : c .before .loop .i ≡ 64 = omega arith in
+    sym (take-all 64 (c .before .loop .block) (omega arith)) ∙ rw (e, take-all 64 (c .before .before .args .key .now) (omega arith)) at (c .before .loop .inv .2)
+
+pub masked-spec : {M : Type 1} → statement M
+masked-spec =
+    tie.close
+    (tie.spec
+    Inv-loop
+    μ-loop
+    loop-holds
+    element-copy-out-block
+    array-write-block
+    add-i
+    loop-less
+    loop-again
+    returns)

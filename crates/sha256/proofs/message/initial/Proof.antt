@@ -1,0 +1,12 @@
+-- The eight words are the definition's. Assumes nothing.
+use mathlib.Core.Path.{refl}
+use Rattle.sha256.specs.Constants.{H0}
+use Rattle.sha256.proofs.message.initial.Statement.{statement}
+use Rattle.sha256.proofs.message.initial.Tie as tie
+
+returns : tie.Need-returns
+unfolding H0
+returns c = refl
+
+pub initial-spec : {M : Type 1} → statement M
+initial-spec = tie.close (tie.spec returns)

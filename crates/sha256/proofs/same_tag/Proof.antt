@@ -1,0 +1,26 @@
+-- Tags of different lengths are not the same. Assumes nothing.
+use mathlib.Core.Path.{sym}
+use native.Mathlib.Omega.{arith}
+use lib.ListN.{length}
+use borrow.Author.Needs.{needs}
+use Rattle.laws.proofs.Sameness.{same-length}
+use Rattle.sha256.proofs.same_tag.Statement.{statement}
+use Rattle.sha256.proofs.same_tag.Tie as tie
+
+slice-aggregate-differences : tie.Need-slice-aggregate-differences
+slice-aggregate-differences c = search needs
+
+differences-requires : tie.Need-differences-requires
+differences-requires c κs = search needs
+
+returns : tie.Need-returns
+returns c = search needs
+
+returns-2 : tie.Need-returns-2
+returns-2 c =
+    let a = c .before .before .args in
+    sym (same-length (a .t1) (a .theirs .now) (λ e. c .if1 .left (omega arith)))
+
+pub same-tag-spec : {M : Type 1} → statement M
+same-tag-spec =
+    tie.close (tie.spec slice-aggregate-differences differences-requires returns returns-2)

@@ -1,0 +1,58 @@
+-- The invariant: no bit is set exactly where the bytes passed are the same. Assumes nothing.
+use mathlib.Core.Path.{_≡_, _∙_, ap₂}
+use Prim.Native.Nat.{_≤_, _-_}
+use native.Mathlib.Omega.{arith}
+use lib.Dec.{eqb}
+use lib.ListN.{take}
+use lib.Seq.{take-all}
+use borrow.Author.Needs.{needs}
+use Rattle.laws.specs.Same.{same}
+use Rattle.sha256.proofs.Tags.{differ-more}
+use Rattle.sha256.proofs.tag.differences.Statement.{statement}
+use Rattle.sha256.proofs.tag.differences.Tie as tie
+
+abbrev Inv-loop : tie.InvT-loop
+Inv-loop ours theirs bits₀ i₀ bits i = (i ≤ 32) × (eqb bits 0 ≡ same (take i ours) (take i theirs))
+
+abbrev μ-loop : tie.MeasureT-loop
+μ-loop ours theirs bits₀ i₀ bits i = 32 - i
+
+loop-holds : tie.Need-loop-holds Inv-loop μ-loop
+loop-holds c = search needs
+
+shared-slice-read-bits : tie.Need-shared-slice-read-bits Inv-loop μ-loop
+shared-slice-read-bits c = search needs
+
+shared-slice-read-bits-2 : tie.Need-shared-slice-read-bits-2 Inv-loop μ-loop
+shared-slice-read-bits-2 c = search needs
+
+add-i : tie.Need-add-i Inv-loop μ-loop
+add-i c = search needs
+
+loop-less : tie.Need-loop-less Inv-loop μ-loop
+loop-less c = search needs
+
+loop-again : tie.Need-loop-again Inv-loop μ-loop
+loop-again c =
+    let a = c .before .before .before .before .args in
+    (search needs, differ-more (a .ours .now) (a .theirs .now) (c .before .before .before .loop .bits) (c .before .before .before .loop .i) (omega arith) (omega arith) (c .before .before .before .loop .inv .1))
+
+returns : tie.Need-returns Inv-loop μ-loop
+returns c =
+    let a = c .before .before .args in
+    let e : c .before .loop .i ≡ 32 = omega arith in
+    rw e at (c .before .loop .inv .1) ∙ ap₂ same (take-all 32 (a .ours .now) (omega arith)) (take-all 32 (a .theirs .now) (omega arith))
+
+pub differences-spec : {M : Type 1} → statement M
+differences-spec =
+    tie.close
+    (tie.spec
+    Inv-loop
+    μ-loop
+    loop-holds
+    shared-slice-read-bits
+    shared-slice-read-bits-2
+    add-i
+    loop-less
+    loop-again
+    returns)
