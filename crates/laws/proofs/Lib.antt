@@ -8,3 +8,4 @@ pub mod Bools
 pub mod Numbers
 pub mod Parts
 pub mod Sameness
+pub mod Stores

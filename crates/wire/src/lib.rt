@@ -5,3 +5,5 @@ pub mod header;
 mod numbers;
 pub mod payload;
 pub mod refusals;
+mod stores;
+pub mod writer;

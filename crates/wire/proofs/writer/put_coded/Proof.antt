@@ -1,0 +1,31 @@
+-- Three stores, each where the one before it ends.
+use mathlib.Core.Path.{refl}
+use mathlib.Core.List.{[], _∷_}
+use Rattle.laws.specs.Bytes.{bytes16}
+use Rattle.laws.proofs.Stores.{run, then}
+use borrow.Author.Needs.{needs}
+use Rattle.wire.proofs.writer.put_coded.Statement.{statement}
+use Rattle.wire.proofs.writer.put_coded.Tie as tie
+
+store16-requires : tie.Need-store16-requires
+store16-requires c κs = search needs
+
+store8-requires : tie.Need-store8-requires
+store8-requires c κs = search needs
+
+store8-requires-2 : tie.Need-store8-requires-2
+store8-requires-2 c κs = search needs
+
+same-length : tie.Need-same-length
+same-length c = search needs
+
+returns : tie.Need-returns
+returns c =
+    let s = c .before .before .before .before .before .before .before .before .before .before .before .before .before .args in
+    let mode = then (bytes16 (s .mode)) 0 (run 0 (s .out .now)) (c .before .before .before .before .before .before .before .before .before .before .store16 .ensures) refl in
+    let kind = then (s .kind ∷ []) 2 mode (c .before .before .before .before .before .before .store8 .ensures) refl in
+    then (s .code ∷ []) 3 kind (c .before .before .store82 .ensures) refl .is
+
+pub put-coded-spec : {M : Type 1} → statement M
+put-coded-spec =
+    tie.close (tie.spec store16-requires store8-requires store8-requires-2 same-length returns)

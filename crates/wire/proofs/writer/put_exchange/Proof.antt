@@ -1,0 +1,58 @@
+-- Five runs, each where the one before it ends.
+use mathlib.Core.Path.{_≡_, refl, ap, _∙_}
+use native.Mathlib.Omega.{arith}
+use Prim.Native.Nat.{_+_}
+use mathlib.Core.List.{_++_}
+use Rattle.wire.proofs.Writing.{exchange-stored}
+use lib.ListN.{length, length-append}
+use lib.Seq.{sets}
+use Rattle.laws.specs.Bytes.{bytes16, bytes32}
+use Rattle.laws.proofs.Stores.{run, then}
+use Rattle.wire.specs.Writer.{exchangeBytes}
+use borrow.Author.Needs.{needs}
+use Rattle.wire.proofs.writer.put_exchange.Statement.{statement}
+use Rattle.wire.proofs.writer.put_exchange.Tie as tie
+
+store16-requires : tie.Need-store16-requires
+store16-requires c κs = search needs
+
+put-nonce-requires : tie.Need-put-nonce-requires
+put-nonce-requires c κs = search needs
+
+store32-requires : tie.Need-store32-requires
+store32-requires c κs = search needs
+
+put-coordinate-requires : tie.Need-put-coordinate-requires
+put-coordinate-requires c κs = search needs
+
+put-coordinate-requires-2 : tie.Need-put-coordinate-requires-2
+put-coordinate-requires-2 c κs = search needs
+
+same-length : tie.Need-same-length
+same-length c = search needs
+
+returns : tie.Need-returns
+unfolding exchangeBytes
+returns c =
+    let s = c .before .before .before .before .before .before .before .before .before .before .before .before .before .before .before .before .before .before .before .before .before .before .before .before .args in
+    let nonce = c .before .before .before .before .before .before .before .before .before .before .before .before .before .before .put-nonce .ensures in
+    let x = c .before .before .before .before .before .before .put-coordinate .ensures in
+    let y = c .before .before .put-coordinate2 .ensures in
+    let r0 = then (bytes16 32) 4 (run 4 (s .out .now)) (c .before .before .before .before .before .before .before .before .before .before .before .before .before .before .before .before .before .before .store16 .ensures) refl in
+    let r1 = then (s .request .nonce) 6 r0 (nonce .0) refl in
+    let r2 = then (bytes32 16384) 14 r1 (c .before .before .before .before .before .before .before .before .before .before .store32 .ensures) (simp length-append (omega arith)) in
+    let r3 = then (bytes16 32 ++ s .request .x) 18 r2 (x .0) (simp length-append (omega arith)) in
+    let r4 = then (bytes16 32 ++ s .request .y) 52 r3 (y .0) (simp length-append (omega arith)) in
+    (r4 .is ∙ ap (sets (s .out .now) 4) (exchange-stored (s .request)), simp length-append (omega arith))
+
+pub put-exchange-spec : {M : Type 1} → statement M
+put-exchange-spec =
+    tie.close
+    (tie.spec
+    store16-requires
+    put-nonce-requires
+    store32-requires
+    put-coordinate-requires
+    put-coordinate-requires-2
+    same-length
+    returns)

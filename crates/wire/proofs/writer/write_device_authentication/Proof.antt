@@ -1,0 +1,69 @@
+-- Refused by the first test or the second, or one run of stores from the start of the output.
+use mathlib.Core.Path.{refl}
+use native.Mathlib.Omega.{arith}
+use Prim.Native.Nat.{_+_}
+use lib.ListN.{length}
+use Rattle.wire.proofs.Writing.{told-bad, told-short, told-none, refused, wrote, length-device, device-sizes}
+use Rattle.wire.specs.Writer.{badDevice, deviceAuthentication}
+use borrow.Author.Needs.{needs}
+use Rattle.wire.proofs.writer.write_device_authentication.Statement.{statement}
+use Rattle.wire.proofs.writer.write_device_authentication.Tie as tie
+
+cast-if1 : tie.Need-cast-if1
+cast-if1 c = search needs
+
+cast-if1-2 : tie.Need-cast-if1-2
+cast-if1-2 c = search needs
+
+returns : tie.Need-returns
+returns c =
+    let s = c .before .before .before .before .args in
+    let certificate = s .certificate .now in
+    let thumbprint = s .thumbprint .now in
+    refused (badDevice (s .kind) (s .mode) certificate thumbprint) (7 + length certificate + length thumbprint) (deviceAuthentication (s .kind) (s .mode) certificate thumbprint) (s .out .now) _ (told-bad _ _ (c .if1 .taken)) λ z. omega arith
+
+add-size : tie.Need-add-size
+add-size c = search needs
+
+add-size-2 : tie.Need-add-size-2
+add-size-2 c =
+    let s = c .before .before .before .before .args in
+    omega (arith, device-sizes (s .kind) (s .mode) (s .certificate .now) (s .thumbprint .now) (c .if1 .left))
+
+returns-2 : tie.Need-returns-2
+returns-2 c =
+    let s = c .before .before .before .before .before .args in
+    let certificate = s .certificate .now in
+    let thumbprint = s .thumbprint .now in
+    refused (badDevice (s .kind) (s .mode) certificate thumbprint) (7 + length certificate + length thumbprint) (deviceAuthentication (s .kind) (s .mode) certificate thumbprint) (s .out .now) _ (told-short _ _ (c .before .if1 .left) (c .if2 .taken)) λ z. omega arith
+
+put-device-requires : tie.Need-put-device-requires
+put-device-requires c κs =
+    let s = c .before .before .before .before .before .before .args in
+    let certificate = s .certificate .now in
+    let thumbprint = s .thumbprint .now in
+    device-sizes (s .kind) (s .mode) certificate thumbprint (c .before .before .if1 .left)
+
+same-length : tie.Need-same-length
+same-length c = search needs
+
+returns-3 : tie.Need-returns-3
+returns-3 c =
+    let s = c .before .before .before .before .before .before .before .before .before .args in
+    let certificate = s .certificate .now in
+    let thumbprint = s .thumbprint .now in
+    wrote (badDevice (s .kind) (s .mode) certificate thumbprint) (7 + length certificate + length thumbprint) (deviceAuthentication (s .kind) (s .mode) certificate thumbprint) (s .out .now) _ (told-none _ _ (c .before .before .before .before .before .if1 .left) (c .before .before .before .before .if2 .left)) refl (length-device (s .kind) (s .mode) certificate thumbprint) (c .before .before .put-device .ensures)
+
+pub write-device-authentication-spec : {M : Type 1} → statement M
+write-device-authentication-spec =
+    tie.close
+    (tie.spec
+    cast-if1
+    cast-if1-2
+    returns
+    add-size
+    add-size-2
+    returns-2
+    put-device-requires
+    same-length
+    returns-3)

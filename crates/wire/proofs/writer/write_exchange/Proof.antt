@@ -1,0 +1,42 @@
+-- Refused, or one run of stores from the start of the output.
+use mathlib.Core.Path.{refl}
+use Rattle.wire.proofs.Writing.{refused, wrote}
+use Rattle.wire.specs.Writer.{badMode, coded, exchangeBytes}
+use native.Mathlib.Omega.{arith}
+use mathlib.Core.List.{_++_}
+use Rattle.laws.proofs.Stores.{stored-twice}
+use borrow.Author.Needs.{needs}
+use Rattle.wire.proofs.writer.write_exchange.Statement.{statement}
+use Rattle.wire.proofs.writer.write_exchange.Tie as tie
+
+write-refusal-requires : tie.Need-write-refusal-requires
+write-refusal-requires c κs = search needs
+
+returns : tie.Need-returns
+returns c = let s = c .before .before .before .args in refused (badMode (s .mode)) 86 (coded (s .mode) (s .kind) (s .code) ++ exchangeBytes (s .request)) (s .out .now) _ (c .before .write-refusal .ensures) (c .if1 .taken)
+
+put-coded-requires : tie.Need-put-coded-requires
+put-coded-requires c κs = search needs
+
+put-exchange-requires : tie.Need-put-exchange-requires
+put-exchange-requires c κs = search needs
+
+same-length : tie.Need-same-length
+same-length c = search needs
+
+returns-2 : tie.Need-returns-2
+returns-2 c =
+    let s = c .before .before .before .before .before .before .before .before .before .before .before .args in
+    let e = c .before .before .put-exchange .ensures in
+    wrote (badMode (s .mode)) 86 (coded (s .mode) (s .kind) (s .code) ++ exchangeBytes (s .request)) (s .out .now) _ (c .before .before .before .before .before .before .before .before .before .write-refusal .ensures) (c .before .before .before .before .before .before .before .before .if1 .left) (omega (arith, e .1)) (stored-twice (coded (s .mode) (s .kind) (s .code)) (exchangeBytes (s .request)) (s .out .now) 0 4 (c .before .before .before .before .before .before .put-coded .ensures) (e .0) refl)
+
+pub write-exchange-spec : {M : Type 1} → statement M
+write-exchange-spec =
+    tie.close
+    (tie.spec
+    write-refusal-requires
+    returns
+    put-coded-requires
+    put-exchange-requires
+    same-length
+    returns-2)

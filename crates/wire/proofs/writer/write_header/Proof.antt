@@ -1,0 +1,31 @@
+-- Refused, or one run of stores from the start of the output.
+use mathlib.Core.Path.{refl}
+use Rattle.wire.proofs.Writing.{refused, wrote}
+use Rattle.wire.specs.Writer.{headerBytes}
+use mathlib.Core.Bool.{false}
+use borrow.Author.Needs.{needs}
+use Rattle.wire.proofs.writer.write_header.Statement.{statement}
+use Rattle.wire.proofs.writer.write_header.Tie as tie
+
+write-refusal-requires : tie.Need-write-refusal-requires
+write-refusal-requires c κs = search needs
+
+returns : tie.Need-returns
+unfolding headerBytes
+returns c = let s = c .before .before .before .args in refused false 40 (headerBytes (s .header) (s .size)) (s .out .now) _ (c .before .write-refusal .ensures) (c .if1 .taken)
+
+put-header-requires : tie.Need-put-header-requires
+put-header-requires c κs = search needs
+
+same-length : tie.Need-same-length
+same-length c = search needs
+
+returns-2 : tie.Need-returns-2
+unfolding headerBytes
+returns-2 c =
+    let s = c .before .before .before .before .before .before .before .args in
+    wrote false 40 (headerBytes (s .header) (s .size)) (s .out .now) _ (c .before .before .before .before .before .write-refusal .ensures) (c .before .before .before .before .if1 .left) refl (c .before .before .put-header .ensures)
+
+pub write-header-spec : {M : Type 1} → statement M
+write-header-spec =
+    tie.close (tie.spec write-refusal-requires returns put-header-requires same-length returns-2)
