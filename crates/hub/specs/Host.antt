@@ -1,0 +1,81 @@
+-- The host's states: 0 waiting for a request, 1 waiting for authentication, 2 passed, 3 Ready, 4 Failed; and what a Connect message does in each.
+use Prim.Native.Nat.{ℕ}
+use mathlib.Core.List.{List, [], _∷_}
+use mathlib.Core.Bool.{Bool, cond, _&&_}
+use lib.Dec.{eqb, leb}
+use Rattle.laws.specs.Same.{same}
+use Rattle.wire.specs.Refusals.{notAllowed}
+use Rattle.wire.specs.declared.payload.Request.{Request}
+use Rattle.hub.specs.declared.Connection.{Connection}
+use Rattle.hub.specs.declared.Stepped.{Stepped}
+use Rattle.hub.specs.declared.Answer.{Answer}
+use Rattle.hub.specs.declared.Answer.the-variants.{Refused, Reply, Again, Failure}
+
+-- A step's connection and answer.
+abbrev pub stepped : Connection → Answer → Stepped
+stepped c a = record { connection = c; answer = a }
+
+-- "Every refusal leaves connection … alone."
+abbrev pub refuse : Connection → ℕ → Stepped
+refuse c n = stepped c (Refused n)
+
+-- "remember SessionID, nonce, X, Y; go to 1"
+abbrev pub requested : Connection → ℕ → Request → Connection
+requested c session r =
+    record {
+      size = c .size;
+      state = 1;
+      session = session;
+      nonce = r .nonce;
+      x = r .x;
+      y = r .y;
+      digest = c .digest;
+      progress = c .progress;
+    }
+
+-- "remember the SHA-256 of the certificate", and go to a state
+abbrev pub judged : Connection → List ℕ → ℕ → Connection
+judged c digest state =
+    record {
+      size = c .size;
+      state = state;
+      session = c .session;
+      nonce = c .nonce;
+      x = c .x;
+      y = c .y;
+      digest = digest;
+      progress = c .progress;
+    }
+
+-- "with the same nonce, X and Y"
+abbrev pub knows : Connection → Request → Bool
+knows c r = same (c .nonce) (r .nonce) && same (c .x) (r .x) && same (c .y) (r .y)
+
+-- One of the states from a to b.
+abbrev pub within : ℕ → ℕ → Connection → Bool
+within a b c = leb a (c .state) && leb (c .state) b
+
+-- What a Connect message of this type does, sentence by sentence of "Host states"; the rows exclude each other.
+abbrev pub hostRows : Connection → ℕ → ℕ → Request → List ℕ → ℕ → List (Bool × Stepped)
+hostRows c type session r digest verdict =
+    (eqb type 0 && eqb (c .state) 0, stepped (requested c session r) (Reply 1))
+    ∷ (eqb type 0 && within 1 3 c && knows c r, stepped c (Again 1))
+    ∷ (eqb type 2 && eqb (c .state) 1 && eqb verdict 1, stepped (judged c digest 2) (Reply 3))
+    ∷ (eqb type 2 && eqb (c .state) 1 && eqb verdict 0, stepped (judged c digest 4) Failure)
+    ∷ (eqb type 2 && within 2 3 c && same (c .digest) digest, stepped c (Again 3))
+    ∷ (eqb type 6 && eqb (c .state) 2, stepped (judged c (c .digest) 3) (Reply 7))
+    ∷ (eqb type 6 && eqb (c .state) 3, stepped c (Again 7))
+    ∷ []
+
+-- The first row that applies; "All else, and all of state 4: refusal 15."
+abbrev pub firstRow : List (Bool × Stepped) → Stepped → Stepped
+firstRow [] other = other
+firstRow (row ∷ rows) other = cond (row .0) (row .1) (firstRow rows other)
+
+-- No nonce, X and Y: what stands for them where a type has none.
+abbrev pub emptyRequest : Request
+emptyRequest = record { nonce = []; x = []; y = [] }
+
+-- What a Connect message does.
+unfoldable pub host : Connection → ℕ → ℕ → Request → List ℕ → ℕ → Stepped
+host c type session r digest verdict = firstRow (hostRows c type session r digest verdict) (refuse c notAllowed)

@@ -1,0 +1,137 @@
+// Enrolment: what a Connect message does in each state.
+ghost use mathlib.Core.Path.{_≡_};
+ghost use mathlib.Core.List.{[]};
+ghost use Rattle.hub.specs.Host.{host, emptyRequest, knows, refuse, requested, judged};
+use super::Answer;
+use super::Connection;
+use super::FAILED;
+use super::PASSED;
+use super::READY;
+use super::REQUESTED;
+use super::Stepped;
+use super::WAITING;
+use joining::compare::alike;
+use wire::payload::CONNECTION_RESPONSE;
+use wire::payload::DEVICE_RESPONSE;
+use wire::payload::DONE_RESPONSE;
+use wire::payload::Request;
+use wire::refusals;
+
+impl Connection {
+    // Nothing changes, and the number of the refusal is answered.
+    pub(crate) fn refuse(self, number: u8) -> Stepped
+        ensures { λ r. ⌜ r ≡ refuse self number ⌝ }
+    {
+        Stepped {
+            connection: self,
+            answer: Answer::Refused(number),
+        }
+    }
+
+    // The request is remembered.
+    fn requested(self, session: u64, request: Request) -> Connection
+        ensures { λ r. ⌜ r ≡ requested self session request ⌝ }
+    {
+        let nonce = request.nonce;
+        let x = request.x;
+        let y = request.y;
+        let mut next = self;
+        next.state = REQUESTED;
+        next.session = session;
+        next.nonce = nonce;
+        next.x = x;
+        next.y = y;
+        next
+    }
+
+    // The certificate's digest is remembered, in this state.
+    fn judged(self, digest: [u8; 32], state: u8) -> Connection
+        ensures { λ r. ⌜ r ≡ judged self digest state ⌝ }
+    {
+        let mut next = self;
+        next.digest = digest;
+        next.state = state;
+        next
+    }
+
+    // The request has the nonce, X and Y that are remembered.
+    fn knows(self, request: Request) -> bool
+        ensures { λ r. ⌜ r ≡ knows self request ⌝ }
+    {
+        let nonce = self.nonce;
+        let x = self.x;
+        let y = self.y;
+        let other_nonce = request.nonce;
+        let other_x = request.x;
+        let other_y = request.y;
+        alike(&nonce, &other_nonce) & alike(&x, &other_x) & alike(&y, &other_y)
+    }
+
+    // A Connection Request.
+    pub(crate) fn request(self, session: u64, request: Request) -> Stepped
+        ensures { λ r. ⌜ r ≡ host self 0 session request [] 0 ⌝ }
+    {
+        let state = self.state;
+        if state == WAITING {
+            return Stepped {
+                connection: self.requested(session, request),
+                answer: Answer::Reply(CONNECTION_RESPONSE),
+            };
+        }
+        if (REQUESTED <= state) & (state <= READY) & self.knows(request) {
+            return Stepped {
+                connection: self,
+                answer: Answer::Again(CONNECTION_RESPONSE),
+            };
+        }
+        self.refuse(refusals::NOT_ALLOWED)
+    }
+
+    // A Device Authentication Request whose certificate has this digest.
+    pub(crate) fn authenticate(self, digest: [u8; 32], verdict: u8) -> Stepped
+        ensures { λ r. ⌜ r ≡ host self 2 0 emptyRequest digest verdict ⌝ }
+    {
+        let state = self.state;
+        if (state == REQUESTED) & (verdict == 1) {
+            return Stepped {
+                connection: self.judged(digest, PASSED),
+                answer: Answer::Reply(DEVICE_RESPONSE),
+            };
+        }
+        if (state == REQUESTED) & (verdict == 0) {
+            return Stepped {
+                connection: self.judged(digest, FAILED),
+                answer: Answer::Failure,
+            };
+        }
+        let known = self.digest;
+        if (PASSED <= state) & (state <= READY) & alike(&known, &digest) {
+            return Stepped {
+                connection: self,
+                answer: Answer::Again(DEVICE_RESPONSE),
+            };
+        }
+        self.refuse(refusals::NOT_ALLOWED)
+    }
+
+    // An Authentication Done Request.
+    pub(crate) fn finish(self) -> Stepped
+        ensures { λ r. ⌜ r ≡ host self 6 0 emptyRequest [] 0 ⌝ }
+    {
+        let state = self.state;
+        if state == PASSED {
+            let digest = self.digest;
+            return Stepped {
+                connection: self.judged(digest, READY),
+                answer: Answer::Reply(DONE_RESPONSE),
+            };
+        }
+        if state == READY {
+            return Stepped {
+                connection: self,
+                answer: Answer::Again(DONE_RESPONSE),
+            };
+        }
+        self.refuse(refusals::NOT_ALLOWED)
+    }
+}
