@@ -32,8 +32,8 @@ mark-known S i h = ap (λ (b : Bool). set S i b) (sym h) ∙ set-getD S i false
 abbrev pub answerAt : Start → List Bool → ℕ → Arrival
 answerAt s S i =
     cond (eqb (come (s .count) S) (s .count)) (Refused 17)
-    (cond (has S i) (Repeat (come (s .count) S))
-    (cond (eqb (come (s .count) S + 1) (s .count)) (Complete (length (s .report)) (s .count)) (Taken (come (s .count) S + 1))))
+    (cond (has S i) (Repeat (tally S))
+    (cond (eqb (come (s .count) S + 1) (s .count)) (Complete (length (s .report)) (s .count)) (Taken (tally S + 1))))
 
 module _ (s : Start) (f : Fair s) (S : List Bool) (w : Lawful s S) (i : ℕ) (l : i < s .count) where
   abbrev bytes : List ℕ

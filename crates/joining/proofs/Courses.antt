@@ -15,7 +15,7 @@ use Rattle.joining.specs.declared.Piece.{Piece}
 use Rattle.joining.specs.declared.Joined.{Joined}
 use Rattle.joining.specs.declared.Arrival.{Arrival}
 use Rattle.joining.specs.declared.Arrival.the-variants.{Refused, Taken, Repeat, Complete}
-use Rattle.joining.specs.Heard.{most, come, has, mark, none}
+use Rattle.joining.specs.Heard.{most, tally, come, has, mark, none}
 use Rattle.joining.specs.Join.{expecting, join, reportAfter}
 use Rattle.joining.proofs.Heards.{has-none, come-mark, come-full, full-come}
 use Rattle.joining.proofs.Coming.{Start, Fair, Lawful, pieceOf, bytesOf, heldAt, byteAt, bufferAt, listed-length, none-lawful, held-none, buffer-none, whole}
@@ -247,10 +247,10 @@ module _ (s : Start) (f : Fair s) (m : Machine (s .size)) where
               sym (set-has s f es (under r) i) ∙ a,
               λ j k n. sym (set-has s f es (under r) j) ∙ sym (getD-set-other S i j true false n) ∙ come-full (s .count) (mark S i) t j k,
             )
-        last a false e e′ = not-so (Taken (come (s .count) S + 1)) (rw (e, a, e′)) (m .done-taken (come (s .count) S + 1))
+        last a false e e′ = not-so (Taken (tally S + 1)) (rw (e, a, e′)) (m .done-taken (tally S + 1))
 
         known : (t : Bool) → eqb (come (s .count) S) (s .count) ≡ false → has S i ≡ t → LastMissing (s .count) i es
-        known true e a = not-so (Repeat (come (s .count) S)) (rw (e, a)) (m .done-repeat (come (s .count) S))
+        known true e a = not-so (Repeat (tally S)) (rw (e, a)) (m .done-repeat (tally S))
         known false e a = last a (eqb (come (s .count) S + 1) (s .count)) e refl
 
         late : (t : Bool) → eqb (come (s .count) S) (s .count) ≡ t → LastMissing (s .count) i es

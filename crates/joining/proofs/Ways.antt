@@ -11,13 +11,13 @@ use Rattle.joining.specs.declared.Progress.{Progress}
 use Rattle.joining.specs.declared.Piece.{Piece}
 use Rattle.joining.specs.declared.Joined.{Joined}
 use Rattle.joining.specs.declared.Arrival.the-variants.{Refused, Taken, Repeat, Complete}
-use Rattle.joining.specs.Heard.{most, come, has, mark}
+use Rattle.joining.specs.Heard.{most, tally, come, has, mark}
 use Rattle.joining.specs.Report.{put}
 use Rattle.joining.specs.Join.{Fitting, lastOf, expecting, completes, taken, joinRefusal, join, reportAfter}
-use Rattle.joining.proofs.Heards.{come-mark}
+use Rattle.joining.proofs.Heards.{tally-mark, come-mark}
 
 module _ (F : ℕ) (h : Progress) (p : Piece) (size : ℕ) (f : Fitting F h p size) (new : has (h .heard) (p .index) ≡ false) (long : length (h .heard) ≡ most)
-    (n l : ℕ) (counted : n ≡ come (p .count) (h .heard)) (ends : l ≡ lastOf h p size) where
+    (a n l : ℕ) (all : a ≡ tally (h .heard)) (counted : n ≡ come (p .count) (h .heard)) (ends : l ≡ lastOf h p size) where
   marked : come (p .count) (mark (h .heard) (p .index)) ≡ n + 1
   marked = rw counted (come-mark (p .count) (h .heard) (p .index) (f .under) (omega (arith, f .under, f .few)) new)
 
@@ -29,10 +29,10 @@ module _ (F : ℕ) (h : Progress) (p : Piece) (size : ℕ) (f : Fitting F h p si
       → _≡_ {A = Joined}
       (record {
         progress = record { expected = h .expected; heard = mark (h .heard) (p .index); count = p .count; channel = p .channel; last = l };
-        answer = Taken (n + 1);
+        answer = Taken (a + 1);
       })
       (taken F h p size)
-  way-taken m = rw (marked, ne-eqb (n + 1) (p .count) m, ends)
+  way-taken m = rw (marked, ne-eqb (n + 1) (p .count) m, ends, tally-mark (h .heard) (p .index) (omega (arith, f .under, f .few)) new, all)
 
 module _ (F : ℕ) (h : Progress) (p : Piece) (bytes report : List ℕ) (r : ℕ) (given : r ≡ joinRefusal F h p bytes report) where
   -- The answer, what is remembered and the report buffer are those of the definitions.
@@ -44,7 +44,7 @@ module _ (F : ℕ) (h : Progress) (p : Piece) (bytes report : List ℕ) (r : ℕ
   way-refused m = (rw (← given, ne-eqb r 0 m), rw (← given, ne-eqb r 0 m))
 
   module _ (none : r ≡ 0) where
-    pub way-repeat : has (h .heard) (p .index) ≡ true → (n : ℕ) → n ≡ come (p .count) (h .heard)
+    pub way-repeat : has (h .heard) (p .index) ≡ true → (n : ℕ) → n ≡ tally (h .heard)
         → Joins (record { progress = h; answer = Repeat n }) report
     unfolding join reportAfter
     way-repeat k n e = (rw (← given, eq-eqb r 0 none, k, e), rw (← given, eq-eqb r 0 none, k))

@@ -14,12 +14,12 @@ abbrev pub bit : Bool → ℕ
 bit true = 1
 bit false = 0
 
--- How many indexes are heard.
+-- "how many different pieces of this message have come": how many indexes are heard.
 abbrev pub tally : List Bool → ℕ
 tally [] = 0
 tally (b ∷ bs) = bit b + tally bs
 
--- "how many different pieces of this message have come": the indexes heard of a message of `count` pieces.
+-- How many of the first `count` indexes are heard.
 abbrev pub come : ℕ → List Bool → ℕ
 come count heard = tally (take count heard)
 

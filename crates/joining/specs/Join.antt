@@ -91,7 +91,7 @@ extended held piece size =
       last = lastOf held piece size;
     }
 
--- With this piece all of its message have come: not "when the last index comes", but the last missing one.
+-- With this piece every index under the count is heard: it was the last missing one, not the one with the last index.
 abbrev pub completes : Progress → Piece → Bool
 completes held piece = eqb (come (piece .count) (mark (held .heard) (piece .index))) (piece .count)
 
@@ -101,14 +101,14 @@ abbrev pub taken : ℕ → Progress → Piece → ℕ → Joined
 taken F held piece size =
     cond (completes held piece)
     (record { progress = expecting (held .expected + 1); answer = Complete (F * (piece .count - 1) + lastOf held piece size) (piece .count) })
-    (record { progress = extended held piece size; answer = Taken (come (piece .count) (mark (held .heard) (piece .index))) })
+    (record { progress = extended held piece size; answer = Taken (tally (mark (held .heard) (piece .index))) })
 
 -- What is answered and remembered: a refusal or a Repeat changes nothing.
 unfoldable pub join : ℕ → Progress → Piece → List ℕ → List ℕ → Joined
 join F held piece bytes report =
     cond (eqb (joinRefusal F held piece bytes report) 0)
     (cond (has (held .heard) (piece .index))
-    (record { progress = held; answer = Repeat (come (piece .count) (held .heard)) })
+    (record { progress = held; answer = Repeat (tally (held .heard)) })
     (taken F held piece (length bytes)))
     (record { progress = held; answer = Refused (joinRefusal F held piece bytes report) })
 

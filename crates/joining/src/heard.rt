@@ -2,7 +2,7 @@
 ghost use mathlib.Core.Path.{_≡_};
 ghost use Prim.Native.Nat.{_≤_};
 ghost use lib.ListN.{length};
-ghost use Rattle.joining.specs.Heard.{come, most};
+ghost use Rattle.joining.specs.Heard.{come, most, tally};
 
 // The largest number of pieces that a report has.
 pub const PIECES: usize = wire::header::MOST_PIECES as usize;
@@ -19,4 +19,11 @@ pub(crate) fn count_heard(heard: [bool; PIECES], count: usize) -> usize
         i += 1;
     }
     n
+}
+
+// How many indexes are heard.
+pub(crate) fn count_all(heard: [bool; PIECES]) -> usize
+    ensures { λ r. ⌜ (r ≡ tally heard) × (r ≤ most) ⌝ }
+{
+    count_heard(heard, PIECES)
 }

@@ -65,7 +65,7 @@ fn unlike(held: Progress, piece: Piece) -> bool
     ensures { λ r. ⌜ r ≡ unlike held piece ⌝ }
 {
     let heard = held.heard;
-    let any = heard::count_heard(heard, PIECES) != 0;
+    let any = heard::count_all(heard) != 0;
     any & ((held.count != piece.count) | (held.channel != piece.channel))
 }
 
@@ -181,13 +181,15 @@ fn advance(size: usize, held: Progress, piece: Piece, given: usize) -> Joined
     let index = piece.index;
     let count = piece.count;
     let mut heard = held.heard;
+    let all = heard::count_all(heard) + 1;
     let come = heard::count_heard(heard, count) + 1;
     let last = last_of(held.last, piece, given);
     if come == count {
+        let length = size * (count - 1) + last as usize;
         return Joined {
             progress: Progress::expecting(held.expected + 1),
             answer: Arrival::Complete {
-                length: size * (count - 1) + last as usize,
+                length,
                 heard: count,
             },
         };
@@ -201,7 +203,7 @@ fn advance(size: usize, held: Progress, piece: Piece, given: usize) -> Joined
             channel: piece.channel,
             last,
         },
-        answer: Arrival::Taken(come),
+        answer: Arrival::Taken(all),
     }
 }
 
@@ -236,7 +238,7 @@ impl Progress {
         if heard[index] {
             return Joined {
                 progress: self,
-                answer: Arrival::Repeat(heard::count_heard(heard, piece.count)),
+                answer: Arrival::Repeat(heard::count_all(heard)),
             };
         }
         store(report, size * index, payload);

@@ -36,8 +36,8 @@ array-read-if2 : tie.Need-array-read-if2
 unfolding mostPieces
 array-read-if2 c = let k = known (c .before) in let u = k .0 .under in let f = k .0 .few in search needs
 
-count-heard-requires : tie.Need-count-heard-requires
-count-heard-requires c κs = known (c .before .before) .0 .few
+count-all-requires : tie.Need-count-all-requires
+count-all-requires c κs = search needs
 
 same-length-2 : tie.Need-same-length-2
 same-length-2 c = search needs
@@ -47,7 +47,7 @@ returns-2 c =
     let r = c .before .before .before in
     let s = entry r .args in
     way-repeat (s .size) (s .self) (s .piece) (s .payload .now) (s .report .now) _ (r .before .refusal .ensures) (r .if1 .left)
-    (c .before .if2 .taken) _ (c .count-heard .ensures .0)
+    (c .before .if2 .taken) _ (c .count-all .ensures .0)
 
 mul-store : tie.Need-mul-store
 mul-store c = let k = known (c .before .before .before) in omega (arith, k .1)
@@ -77,7 +77,7 @@ join-spec =
     same-length
     returns
     array-read-if2
-    count-heard-requires
+    count-all-requires
     same-length-2
     returns-2
     mul-store
