@@ -3,3 +3,5 @@ pub mod Reading
 pub mod Sound
 pub mod Payloads
 pub mod Writing
+pub mod ReadBack
+pub mod Examples

@@ -4,3 +4,4 @@ pub mod Fields
 pub mod Reader
 pub mod Payload
 pub mod Writer
+pub mod Examples
