@@ -27,3 +27,7 @@ or-assoc false b c = refl
 pub or-none : (a : Bool) → (a || false) ≡ a
 or-none true = refl
 or-none false = refl
+
+pub or-true : (a : Bool) → (a || true) ≡ true
+or-true true = refl
+or-true false = refl

@@ -6,7 +6,7 @@ use mathlib.Core.List.{List, [], _∷_, _++_, append-assoc, append-nil}
 use native.Mathlib.Omega.{arith}
 use native.Mathlib.Numerals.{add-one}
 use lib.ListN.{length, getD, take, drop, set, length-append, length-drop}
-use lib.Seq.{drop-length, take-suc, drop-cons, getD-drop, set-at}
+use lib.Seq.{take-at, drop-at, drop-length, take-suc, drop-cons, getD-drop, set-at}
 use Rattle.laws.specs.Bytes.{be8, bytesAt}
 
 pub length-bytesAt : (m : List ℕ) (at n : ℕ) → length (bytesAt m at n) ≡ n
@@ -33,3 +33,9 @@ filled-more m l at i b h e =
 -- A list that holds as many of them as it is long.
 pub filled-all : (m l : List ℕ) (at i : ℕ) → i ≡ length l → bytesAt m at i ++ drop i l ≡ bytesAt m at (length l)
 filled-all m l at i e = rw (e, drop-length l, append-nil)
+
+-- A part that was put between two others is read back.
+pub part-back : (a x b : List ℕ) (at n : ℕ) → length a ≡ at → length x ≡ n → bytesAt (a ++ (x ++ b)) at n ≡ x
+part-back a x b at n e f =
+    let k : at + n ≤ length (a ++ (x ++ b)) = simp length-append (omega arith) in
+    rw (bytesAt-part (a ++ (x ++ b)) at n k, drop-at a (x ++ b) at e) (take-at x b n f)

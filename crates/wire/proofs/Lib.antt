@@ -4,4 +4,5 @@ pub mod Sound
 pub mod Payloads
 pub mod Writing
 pub mod ReadBack
+pub mod PayloadBack
 pub mod Examples

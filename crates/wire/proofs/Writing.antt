@@ -4,13 +4,13 @@ use mathlib.Core.Path.{_≡_, refl, sym, ap, _∙_}
 use mathlib.Core.List.{List, [], _∷_, _++_, append-assoc}
 use mathlib.Core.Bool.{Bool, true, false, not, _&&_, _||_}
 use native.Mathlib.Omega.{arith}
-use borrow.Author.Tests.{eq-eqb, ne-eqb, ltb-false, lt-ltb, le-ltb}
+use borrow.Author.Tests.{eq-eqb, ne-eqb, ltb-false, eqb-false, lt-ltb, le-ltb}
 use lib.ListN.{length, drop, length-append}
 use lib.Seq.{sets}
 use lib.Dec.{ltb, eqb}
 use Rattle.laws.specs.Bytes.{bytes16, bytes32}
 use Rattle.laws.proofs.Firsts.{first-quiet}
-use Rattle.laws.proofs.Bools.{or-false}
+use Rattle.laws.proofs.Bools.{or-false, or4-false}
 use Rattle.laws.proofs.Stores.{sets-start}
 use Rattle.wire.specs.Refusals.{wrongPayload, noRoom}
 use Rattle.wire.specs.Writer.{writeRefusal, written, output, badMode, exchangeBytes, badDevice, deviceAuthentication}
@@ -66,11 +66,26 @@ module _ (kind mode : ℕ) (certificate thumbprint : List ℕ) where
   unfolding deviceAuthentication
   length-device = simp length-append (omega arith)
 
-  pub device-sizes : badDevice kind mode certificate thumbprint ≡ false → (length certificate ≤ 2048) × (length thumbprint ≤ 512)
-  device-sizes e =
-      let t = or-false (not-device || badMode mode || eqb (length certificate) 0 || ltb 2048 (length certificate)) (ltb 512 (length thumbprint)) e in
-      let c = or-false (not-device || badMode mode || eqb (length certificate) 0) (ltb 2048 (length certificate)) (t .0) in
-      (ltb-false 2048 (length certificate) (c .1), ltb-false 512 (length thumbprint) (t .1))
-    where
-      not-device : Bool
-      not-device = not (eqb kind 2) && not (eqb kind 3)
+  abbrev other : Bool
+  other = not (eqb kind 2) && not (eqb kind 3)
+
+  -- The tests of `badDevice` as facts.
+  pub record Device : Type 0 where
+    pub kinds : other ≡ false
+    pub modes : mode ≤ 2
+    pub some : 1 ≤ length certificate
+    pub certificates : length certificate ≤ 2048
+    pub thumbprints : length thumbprint ≤ 512
+
+  pub device : badDevice kind mode certificate thumbprint ≡ false → Device
+  device e =
+      let t = or-false (other || badMode mode || eqb (length certificate) 0 || ltb 2048 (length certificate)) (ltb 512 (length thumbprint)) e in
+      let c = or4-false other (badMode mode) (eqb (length certificate) 0) (ltb 2048 (length certificate)) (t .0) in
+      let n = eqb-false (length certificate) 0 (c .2) in
+      record {
+        kinds = c .0;
+        modes = ltb-false 2 mode (c .1);
+        some = omega arith;
+        certificates = ltb-false 2048 (length certificate) (c .3);
+        thumbprints = ltb-false 512 (length thumbprint) (t .1);
+      }

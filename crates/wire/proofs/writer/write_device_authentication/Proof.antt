@@ -3,7 +3,7 @@ use mathlib.Core.Path.{refl}
 use native.Mathlib.Omega.{arith}
 use Prim.Native.Nat.{_+_}
 use lib.ListN.{length}
-use Rattle.wire.proofs.Writing.{told-bad, told-short, told-none, refused, wrote, length-device, device-sizes}
+use Rattle.wire.proofs.Writing.{told-bad, told-short, told-none, refused, wrote, length-device, device}
 use Rattle.wire.specs.Writer.{badDevice, deviceAuthentication}
 use borrow.Author.Needs.{needs}
 use Rattle.wire.proofs.writer.write_device_authentication.Statement.{statement}
@@ -28,7 +28,7 @@ add-size c = search needs
 add-size-2 : tie.Need-add-size-2
 add-size-2 c =
     let s = c .before .before .before .before .args in
-    omega (arith, device-sizes (s .kind) (s .mode) (s .certificate .now) (s .thumbprint .now) (c .if1 .left))
+    omega (arith, device (s .kind) (s .mode) (s .certificate .now) (s .thumbprint .now) (c .if1 .left))
 
 returns-2 : tie.Need-returns-2
 returns-2 c =
@@ -42,7 +42,8 @@ put-device-requires c κs =
     let s = c .before .before .before .before .before .before .args in
     let certificate = s .certificate .now in
     let thumbprint = s .thumbprint .now in
-    device-sizes (s .kind) (s .mode) certificate thumbprint (c .before .before .if1 .left)
+    let d = device (s .kind) (s .mode) certificate thumbprint (c .before .before .if1 .left) in
+    (d .certificates, d .thumbprints)
 
 same-length : tie.Need-same-length
 same-length c = search needs
