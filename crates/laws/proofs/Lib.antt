@@ -9,3 +9,4 @@ pub mod Numbers
 pub mod Parts
 pub mod Sameness
 pub mod Stores
+pub mod Order

@@ -1,13 +1,14 @@
 -- Parts laid over a block one after the other are their concatenation laid over it. Assumes nothing.
 use mathlib.Core.Path.{_≡_, _∙_, sym, ap, refl}
-use mathlib.Core.Logic.{_⊎_, inl, inr, ⊎-elim}
+use mathlib.Core.Logic.{_⊎_, ⊎-elim}
 use mathlib.Core.Bool.{Bool, true, false, cond, _&&_}
 use mathlib.Core.List.{List, _++_}
-use Prim.Native.Nat.{ℕ, zero, suc, _+_, _-_, _<_, _≤_, zero-le, suc-le-suc}
+use Prim.Native.Nat.{ℕ, suc, _+_, _-_, _<_, _≤_}
 use native.Mathlib.Omega.{arith}
 use lib.ListN.{getD, length, set, replicate, length-append, List·getD-append, List·getD-eq-default, getD-replicate}
 use lib.Seq.{getD-append-add, getD-set-same, getD-set-other}
 use borrow.Author.Tests.{lt-ltb, le-ltb, le-leb, lt-leb}
+use Rattle.laws.proofs.Order.{lt-or-ge}
 use Rattle.sha256.specs.Parts.{within, laid, laidFrom}
 
 and-false : (b : Bool) → (b && false) ≡ false
@@ -26,11 +27,6 @@ module _ (block part : List ℕ) (ahead at lo hi j : ℕ) where
   laid-behind : hi ≤ at + j → laidFrom block part ahead at lo hi j ≡ getD block j 0
   unfolding laidFrom
   laid-behind p = rw (le-ltb (at + j) hi p, and-false)
-
-lt-or-ge : (a b : ℕ) → (a < b) ⊎ (b ≤ a)
-lt-or-ge a zero = inr zero-le
-lt-or-ge zero (suc b) = inl (suc-le-suc zero-le)
-lt-or-ge (suc a) (suc b) = ⊎-elim (λ p. inl (suc-le-suc p)) (λ q. inr (suc-le-suc q)) (lt-or-ge a b)
 
 -- a place is before, inside or behind
 place : {P : Type 0} (lo hi i : ℕ) → (i < lo → P) → (lo ≤ i → i < hi → P) → (hi ≤ i → P) → P

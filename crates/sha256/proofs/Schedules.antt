@@ -1,13 +1,18 @@
 -- The schedule and the rounds, step by step as the code makes them. Assumes nothing.
 use mathlib.Core.Path.{_≡_, _∙_, sym, ap, refl}
+use mathlib.Core.Logic.{⊎-elim}
+use mathlib.Core.Bool.{cond}
 use mathlib.Core.List.{List}
-use Prim.Native.Nat.{ℕ, zero, suc, _+_, _*_, _<_, _≤_}
+use Prim.Native.Nat.{ℕ, zero, suc, _+_, _*_, _%_, _<_, _≤_, min}
 use native.Mathlib.Omega.{arith}
 use native.Mathlib.Numerals.{add-one}
+use borrow.Author.Tests.{lt-ltb, le-ltb}
+use lib.Dec.{ltb}
 use lib.ListN.{getD, length, take, set, length-set}
 use lib.Seq.{take-suc-set, take-set-le, getD-take, take-take}
 use Rattle.laws.specs.Bytes.{be32}
 use Rattle.sha256.specs.declared.rounds.Vars.{Vars}
+use Rattle.laws.proofs.Order.{lt-or-ge}
 use Rattle.sha256.specs.Compression.{words, mixed, nextWord, schedule, putWord, putFour, roundAt, fourRounds, rounds, added, compress}
 
 -- one word more of the block
@@ -92,21 +97,38 @@ rounds-take v a b k (suc t) h e =
     let g : getD a t 0 ≡ getD b t 0 = sym (getD-take k a t 0 (omega arith)) ∙ ap (λ (l : List ℕ). getD l t 0) e ∙ getD-take k b t 0 (omega arith) in
     cc (rounds-take v a b k t (omega arith) e)
 
--- one turn of the first forty-eight rounds: the words that follow change none of those used
-pub turn-more : (v x y : Vars) (w z : List ℕ) (t : ℕ) → t + 4 ≤ 48 → x ≡ rounds v w t → y ≡ fourRounds x w t → z ≡ putFour w t → y ≡ rounds v z (t + 4)
-turn-more v x y w z t h p q e =
-    q ∙ rounds-four v x w t p
-    ∙ rounds-take v w z (16 + t) (t + 4) (omega arith) (sym (ap (take (16 + t)) e ∙ take-put-four w t))
+-- one turn: four rounds, and the words behind them, which change none of those used
+module _ (m w z : List ℕ) (t : ℕ) (l : length w ≡ 64) (e : z ≡ cond (ltb t 48) (putFour w t) w) where
+  inside : t < 48 → z ≡ putFour w t
+  inside h = e ∙ rw (lt-ltb t 48 h)
 
--- the last sixteen
-pub rest-more : (v x : Vars) (w : List ℕ) → x ≡ rounds v w 48
-    → fourRounds (fourRounds (fourRounds (fourRounds x w 48) w 52) w 56) w 60 ≡ rounds v w 64
-rest-more v x w p =
-    rounds-four v (fourRounds (fourRounds (fourRounds x w 48) w 52) w 56) w 60
-    (rounds-four v (fourRounds (fourRounds x w 48) w 52) w 56 (rounds-four v (fourRounds x w 48) w 52 (rounds-four v x w 48 p)))
+  past : 48 ≤ t → z ≡ w
+  past h = e ∙ rw (le-ltb t 48 h)
+
+  pub length-turn : length z ≡ 64
+  length-turn = ⊎-elim (λ h. ap length (inside h) ∙ length-put-four w t ∙ l) (λ h. ap length (past h) ∙ l) (lt-or-ge t 48)
+
+  pub schedule-turn : t % 4 ≡ 0 → take (16 + min t 48) w ≡ schedule m (min t 48) → take (16 + min (t + 4) 48) z ≡ schedule m (min (t + 4) 48)
+  schedule-turn d p =
+      ⊎-elim
+      (λ h.
+      let a : min t 48 ≡ t = omega arith in
+      let f : t + 4 ≤ 48 = omega arith in
+      let b : min (t + 4) 48 ≡ t + 4 = omega arith in
+      let q : take (16 + t) w ≡ schedule m t = rw a at p in
+      rw b (ap (take (16 + (t + 4))) (inside h) ∙ put-four-more m w t f l q))
+      (λ h.
+      let a : min (t + 4) 48 ≡ min t 48 = omega arith in
+      rw a (ap (take (16 + min t 48)) (past h) ∙ p)) (lt-or-ge t 48)
+
+  pub rounds-turn : (v x y : Vars) → x ≡ rounds v w t → y ≡ fourRounds x w t → y ≡ rounds v z (t + 4)
+  rounds-turn v x y p q =
+      q ∙ rounds-four v x w t p
+      ∙ ⊎-elim (λ h. rounds-take v w z (16 + t) (t + 4) (omega arith) (sym (ap (take (16 + t)) (inside h) ∙ take-put-four w t)))
+      (λ h. ap (λ (y : List ℕ). rounds v y (t + 4)) (sym (past h))) (lt-or-ge t 48)
 
 -- a block's compression, in the order in which the code computes it
-pub compress-by : (v x r : Vars) (m l w : List ℕ) (at : ℕ) {s : Vars} → take 16 l ≡ words m at 16 → w ≡ schedule (take 16 l) 48 → x ≡ rounds v w 48
-    → s ≡ fourRounds (fourRounds (fourRounds (fourRounds x w 48) w 52) w 56) w 60 → r ≡ added v s → r ≡ compress v m at
+pub compress-by : (v x r : Vars) (m l w : List ℕ) (at : ℕ) → take 16 l ≡ words m at 16 → w ≡ schedule (take 16 l) 48 → x ≡ rounds v w 64
+    → r ≡ added v x → r ≡ compress v m at
 unfolding compress
-compress-by v x r m l w at p q e f g = cc (rest-more v x w e)
+compress-by v x r m l w at p q e f = cc

@@ -7,7 +7,9 @@ use crate::word::maj;
 use crate::word::small_sigma0;
 use crate::word::small_sigma1;
 ghost use mathlib.Core.Path.{_≡_};
-ghost use Prim.Native.Nat.{_<_, _≤_, _+_};
+ghost use mathlib.Core.Bool.{cond};
+ghost use Prim.Native.Nat.{_<_, _≤_, _+_, _%_};
+ghost use lib.Dec.{ltb};
 ghost use lib.ListN.{length, take};
 ghost use Rattle.laws.specs.Bytes.{be16, be32};
 ghost use Rattle.sha256.specs.Constants.{K256};
@@ -203,30 +205,29 @@ fn four_rounds(v: Vars, w: &[u32; 64], k: &[u32; 64], t: usize) -> Vars
     round_at(z, w, k, t + 3)
 }
 
-// The first forty-eight rounds; between them the forty-eight words that follow the block's.
-fn most(v: Vars, w: &mut [u32; 64], k: &[u32; 64]) -> Vars
+// After the rounds from t on: the four words behind them, where there are any.
+fn put_next(w: &mut [u32; 64], t: usize)
+    requires { ⌜ (t % 4 ≡ 0) × (t + 4 ≤ 64) ⌝ }
+    ensures { λ _. ⌜ now (w .exit) ≡ cond (ltb t 48) (fips.putFour (now (w .entry)) t) (now (w .entry)) ⌝ }
+{
+    if t < 48 {
+        put_four(w, t);
+    }
+}
+
+// The sixty-four rounds, from a schedule whose first sixteen words stand.
+fn rounds(v: Vars, w: &mut [u32; 64], k: &[u32; 64]) -> Vars
     requires { ⌜ (now k ≡ K256) × (length (now w) ≡ 64) ⌝ }
-    ensures { λ r. ⌜ (r ≡ fips.rounds v (now (w .exit)) 48) × (now (w .exit) ≡ fips.schedule (take 16 (now (w .entry))) 48) ⌝ }
+    ensures { λ r. ⌜ (r ≡ fips.rounds v (now (w .exit)) 64) × (now (w .exit) ≡ fips.schedule (take 16 (now (w .entry))) 48) ⌝ }
 {
     let mut x = v;
     let mut t: usize = 0;
-    while t < 48 {
+    while t < 64 {
         x = four_rounds(x, w, k, t);
-        put_four(w, t);
+        put_next(w, t);
         t += 4;
     }
     x
-}
-
-// The last sixteen rounds.
-fn rest(v: Vars, w: &[u32; 64], k: &[u32; 64]) -> Vars
-    requires { ⌜ now k ≡ K256 ⌝ }
-    ensures { λ r. ⌜ r ≡ fips.fourRounds (fips.fourRounds (fips.fourRounds (fips.fourRounds v (now (w .entry)) 48) (now (w .entry)) 52) (now (w .entry)) 56) (now (w .entry)) 60 ⌝ }
-{
-    let x = four_rounds(v, w, k, 48);
-    let y = four_rounds(x, w, k, 52);
-    let z = four_rounds(y, w, k, 56);
-    four_rounds(z, w, k, 60)
 }
 
 fn added(x: Vars, y: Vars) -> Vars
@@ -250,6 +251,5 @@ pub(crate) fn compress(v: Vars, m: &[u8], at: usize, k: &[u32; 64]) -> Vars
     ensures { λ r. ⌜ r ≡ fips.compress v (now (m .entry)) at ⌝ }
 {
     let mut w = load(m, at);
-    let x = most(v, &mut w, k);
-    added(v, rest(x, &w, k))
+    added(v, rounds(v, &mut w, k))
 }

@@ -1,0 +1,66 @@
+-- The invariant: t rounds are done, and the schedule stands as far as it has to; a turn adds four to both, and the words it adds change none that were used. Assumes nothing.
+use mathlib.Core.Path.{_≡_, _∙_, sym}
+use Prim.Native.Nat.{_+_, _≤_, _-_, _%_, min}
+use native.Mathlib.Omega.{arith}
+use lib.ListN.{length, take}
+use lib.Seq.{take-all}
+use borrow.Author.Needs.{needs}
+use Rattle.sha256.specs.Compression.{schedule, rounds}
+use Rattle.sha256.proofs.Schedules.{length-turn, schedule-turn, rounds-turn}
+use Rattle.sha256.proofs.rounds.rounds.Statement.{statement}
+use Rattle.sha256.proofs.rounds.rounds.Tie as tie
+
+abbrev Inv-loop : tie.InvT-loop
+Inv-loop w₀ k x₀ t₀ w x t = (t ≤ 64) × (t % 4 ≡ 0) × (length w ≡ 64) × (take (16 + min t 48) w ≡ schedule (take 16 w₀) (min t 48)) × (x ≡ rounds x₀ w t)
+
+abbrev μ-loop : tie.MeasureT-loop
+μ-loop w₀ k x₀ t₀ w x t = 64 - t
+
+loop-holds : tie.Need-loop-holds Inv-loop μ-loop
+unfolding schedule rounds
+loop-holds c = search needs
+
+four-rounds-requires : tie.Need-four-rounds-requires Inv-loop μ-loop
+four-rounds-requires c κs = search needs
+
+put-next-requires : tie.Need-put-next-requires Inv-loop μ-loop
+put-next-requires c κs = search needs
+
+add-t : tie.Need-add-t Inv-loop μ-loop
+add-t c = search needs
+
+loop-less : tie.Need-loop-less Inv-loop μ-loop
+loop-less c = search needs
+
+loop-again : tie.Need-loop-again Inv-loop μ-loop
+loop-again c =
+    let i = c .before .before .before .before .before .loop .inv in
+    let m = take 16 (c .before .before .before .before .before .before .args .w .now) in
+    let w = c .before .before .before .before .before .loop .w in
+    let z = c .put-next .last .0 in
+    let t = c .before .before .before .before .before .loop .t in (
+      search needs,
+      search needs,
+      length-turn m w z t (i .2) (c .put-next .ensures),
+      schedule-turn m w z t (i .2) (c .put-next .ensures) (i .1) (i .3),
+      rounds-turn m w z t (i .2) (c .put-next .ensures) _ _ _ (i .4) (c .before .before .four-rounds .ensures),
+    )
+
+returns : tie.Need-returns Inv-loop μ-loop
+returns c =
+    let e : c .before .loop .t ≡ 64 = omega arith in
+    (rw e at (c .before .loop .inv .4), sym (take-all 64 (c .before .loop .w) (omega arith)) ∙ rw e at (c .before .loop .inv .3))
+
+pub rounds-spec : {M : Type 1} → statement M
+rounds-spec =
+    tie.close
+    (tie.spec
+    Inv-loop
+    μ-loop
+    loop-holds
+    four-rounds-requires
+    put-next-requires
+    add-t
+    loop-less
+    loop-again
+    returns)
