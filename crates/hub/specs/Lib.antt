@@ -1,3 +1,4 @@
 pub mod Answers
 pub mod Opening
 pub mod Host
+pub mod Hear

@@ -1,0 +1,2 @@
+pub mod Certificates
+pub mod Hearing
