@@ -10,12 +10,6 @@ returns : tie.Need-returns
 unfolding entryOf
 returns c = search tests
 
-shared-slice-read-kind : tie.Need-shared-slice-read-kind
-shared-slice-read-kind c = search needs
-
-shared-slice-read-size : tie.Need-shared-slice-read-size
-shared-slice-read-size c = search needs
-
 cast-size : tie.Need-cast-size
 cast-size c = omega (arith, c .shared-slice-known2 .given 1)
 
@@ -38,9 +32,6 @@ returns-5 : tie.Need-returns-5
 unfolding entryOf
 returns-5 c = search tests
 
-add-t4 : tie.Need-add-t4
-add-t4 c = search needs
-
 returns-6 : tie.Need-returns-6
 unfolding entryOf
 returns-6 c = search tests
@@ -50,13 +41,13 @@ read-entry-spec =
     tie.close
     (tie.spec
     returns
-    shared-slice-read-kind
-    shared-slice-read-size
+    (λ c. search needs)
+    (λ c. search needs)
     cast-size
     returns-2
     returns-3
     returns-4
     add-if5
     returns-5
-    add-t4
+    (λ c. search needs)
     returns-6)

@@ -4,12 +4,9 @@ use borrow.Author.Needs.{needs}
 use Rattle.wire.proofs.header.bad_flags.Statement.{statement}
 use Rattle.wire.proofs.header.bad_flags.Tie as tie
 
-is-sealed-requires : tie.Need-is-sealed-requires
-is-sealed-requires c κs = search needs
-
 returns : tie.Need-returns
 unfolding badFlags
 returns c = rw (c .is-sealed .ensures)
 
 pub bad-flags-spec : {M : Type 1} → statement M
-bad-flags-spec = tie.close (tie.spec is-sealed-requires returns)
+bad-flags-spec = tie.close (tie.spec (λ c κs. search needs) returns)

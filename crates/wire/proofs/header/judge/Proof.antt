@@ -21,22 +21,13 @@ returns-4 : tie.Need-returns-4
 unfolding headerRows
 returns-4 c = search tests
 
-bad-kind-requires : tie.Need-bad-kind-requires
-bad-kind-requires c κs = search needs
-
 returns-5 : tie.Need-returns-5
 unfolding headerRows
 returns-5 c = rw (← c .before .bad-kind .ensures) (search tests)
 
-bad-flags-requires : tie.Need-bad-flags-requires
-bad-flags-requires c κs = search needs
-
 returns-6 : tie.Need-returns-6
 unfolding headerRows
 returns-6 c = rw (← c .before .bad-flags .ensures, ← c .before .before .before .bad-kind .ensures) (search tests)
-
-bad-piece-requires : tie.Need-bad-piece-requires
-bad-piece-requires c κs = search needs
 
 returns-7 : tie.Need-returns-7
 unfolding headerRows
@@ -45,9 +36,6 @@ returns-7 c = rw (← c .before .bad-piece .ensures, ← c .before .before .befo
 returns-8 : tie.Need-returns-8
 unfolding headerRows
 returns-8 c = rw (← c .before .before .bad-piece .ensures, ← c .before .before .before .before .bad-flags .ensures, ← c .before .before .before .before .before .before .bad-kind .ensures) (search tests)
-
-is-sealed-requires : tie.Need-is-sealed-requires
-is-sealed-requires c κs = search needs
 
 returns-9 : tie.Need-returns-9
 unfolding headerRows
@@ -65,13 +53,13 @@ judge-spec =
     returns-2
     returns-3
     returns-4
-    bad-kind-requires
+    (λ c κs. search needs)
     returns-5
-    bad-flags-requires
+    (λ c κs. search needs)
     returns-6
-    bad-piece-requires
+    (λ c κs. search needs)
     returns-7
     returns-8
-    is-sealed-requires
+    (λ c κs. search needs)
     returns-9
     returns-10)

@@ -5,23 +5,11 @@ use borrow.Author.Needs.{needs}
 use Rattle.wire.proofs.header.read_header.Statement.{statement}
 use Rattle.wire.proofs.header.read_header.Tie as tie
 
-fields-requires : tie.Need-fields-requires
-fields-requires c κs = search needs
-
-tag-size-requires : tie.Need-tag-size-requires
-tag-size-requires c κs = search needs
-
 chain-of-requires : tie.Need-chain-of-requires
 chain-of-requires c κs = rw (c .tag-size .ensures, c .before .fields .ensures) (small-tag (c .before .before .before .args .message .now))
 
-refusal-requires : tie.Need-refusal-requires
-refusal-requires c κs = search needs
-
 returns : tie.Need-returns
 returns c = refused _ _ _ _ _ (c .before .before .before .before .fields .ensures) (c .before .before .before .tag-size .ensures) (c .before .before .chain-of .ensures) (c .before .refusal .ensures) (c .if1 .taken)
-
-leaves-requires : tie.Need-leaves-requires
-leaves-requires c κs = search needs
 
 sub-t9 : tie.Need-sub-t9
 sub-t9 c = omega (arith, fits _ _ _ _ _ (c .before .before .before .before .before .fields .ensures) (c .before .before .before .before .tag-size .ensures) (c .before .before .before .chain-of .ensures) (c .before .before .refusal .ensures) (c .before .if1 .left))
@@ -36,12 +24,12 @@ pub read-header-spec : {M : Type 1} → statement M
 read-header-spec =
     tie.close
     (tie.spec
-    fields-requires
-    tag-size-requires
+    (λ c κs. search needs)
+    (λ c κs. search needs)
     chain-of-requires
-    refusal-requires
+    (λ c κs. search needs)
     returns
-    leaves-requires
+    (λ c κs. search needs)
     sub-t9
     sub-t10
     returns-2)

@@ -5,15 +5,9 @@ use borrow.Author.Needs.{needs}
 use Rattle.wire.proofs.header.tag_size.Statement.{statement}
 use Rattle.wire.proofs.header.tag_size.Tie as tie
 
-cast-result : tie.Need-cast-result
-cast-result c = search needs
-
-mul-result : tie.Need-mul-result
-mul-result c = search needs
-
 returns : tie.Need-returns
 unfolding tagSize
 returns c = refl
 
 pub tag-size-spec : {M : Type 1} → statement M
-tag-size-spec = tie.close (tie.spec cast-result mul-result returns)
+tag-size-spec = tie.close (tie.spec (λ c. search needs) (λ c. search needs) returns)

@@ -5,12 +5,6 @@ use borrow.Author.Needs.{needs}
 use Rattle.wire.proofs.header.wanted.Statement.{statement}
 use Rattle.wire.proofs.header.wanted.Tie as tie
 
-number16-requires : tie.Need-number16-requires
-number16-requires c κs = search needs
-
-cast-length : tie.Need-cast-length
-cast-length c = search needs
-
 returns : tie.Need-returns
 unfolding wanted
 returns c = rw (← c .before .number16 .ensures) (search tests)
@@ -20,4 +14,4 @@ unfolding wanted
 returns-2 c = rw (← c .before .number16 .ensures) (search tests)
 
 pub wanted-spec : {M : Type 1} → statement M
-wanted-spec = tie.close (tie.spec number16-requires cast-length returns returns-2)
+wanted-spec = tie.close (tie.spec (λ c κs. search needs) (λ c. search needs) returns returns-2)

@@ -4,9 +4,6 @@ use borrow.Author.Needs.{needs}
 use Rattle.wire.proofs.payload.bad_payload.Statement.{statement}
 use Rattle.wire.proofs.payload.bad_payload.Tie as tie
 
-is-shaped-requires : tie.Need-is-shaped-requires
-is-shaped-requires c κs = search needs
-
 returns : tie.Need-returns
 unfolding badPayload
 returns c = rw (c .before .if1 .taken, c .is-shaped .ensures)
@@ -16,4 +13,4 @@ unfolding badPayload
 returns-2 c = rw (c .if1 .left)
 
 pub bad-payload-spec : {M : Type 1} → statement M
-bad-payload-spec = tie.close (tie.spec is-shaped-requires returns returns-2)
+bad-payload-spec = tie.close (tie.spec (λ c κs. search needs) returns returns-2)

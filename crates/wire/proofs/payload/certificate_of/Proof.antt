@@ -5,15 +5,6 @@ use borrow.Author.Needs.{needs}
 use Rattle.wire.proofs.payload.certificate_of.Statement.{statement}
 use Rattle.wire.proofs.payload.certificate_of.Tie as tie
 
-number16-requires : tie.Need-number16-requires
-number16-requires c κs = search needs
-
-cast-size : tie.Need-cast-size
-cast-size c = search needs
-
-add-if1 : tie.Need-add-if1
-add-if1 c = search needs
-
 returns : tie.Need-returns
 unfolding certificateOf
 returns c = rw (← c .before .number16 .ensures) (search tests)
@@ -23,4 +14,4 @@ unfolding certificateOf
 returns-2 c = rw (← c .before .number16 .ensures) (search tests)
 
 pub certificate-of-spec : {M : Type 1} → statement M
-certificate-of-spec = tie.close (tie.spec number16-requires cast-size add-if1 returns returns-2)
+certificate-of-spec = tie.close (tie.spec (λ c κs. search needs) (λ c. search needs) (λ c. search needs) returns returns-2)

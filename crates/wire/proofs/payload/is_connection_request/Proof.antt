@@ -4,19 +4,10 @@ use borrow.Author.Needs.{needs}
 use Rattle.wire.proofs.payload.is_connection_request.Statement.{statement}
 use Rattle.wire.proofs.payload.is_connection_request.Tie as tie
 
-starts-requires : tie.Need-starts-requires
-starts-requires c κs = search needs
-
-byte-requires : tie.Need-byte-requires
-byte-requires c κs = search needs
-
-exchanges-requires : tie.Need-exchanges-requires
-exchanges-requires c κs = search needs
-
 returns : tie.Need-returns
 unfolding isConnectionRequest
 returns c = cc
 
 pub is-connection-request-spec : {M : Type 1} → statement M
 is-connection-request-spec =
-    tie.close (tie.spec starts-requires byte-requires exchanges-requires returns)
+    tie.close (tie.spec (λ c κs. search needs) (λ c κs. search needs) (λ c κs. search needs) returns)

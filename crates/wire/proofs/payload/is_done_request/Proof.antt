@@ -4,12 +4,9 @@ use borrow.Author.Needs.{needs}
 use Rattle.wire.proofs.payload.is_done_request.Statement.{statement}
 use Rattle.wire.proofs.payload.is_done_request.Tie as tie
 
-starts-requires : tie.Need-starts-requires
-starts-requires c κs = search needs
-
 returns : tie.Need-returns
 unfolding isDoneRequest
 returns c = cc
 
 pub is-done-request-spec : {M : Type 1} → statement M
-is-done-request-spec = tie.close (tie.spec starts-requires returns)
+is-done-request-spec = tie.close (tie.spec (λ c κs. search needs) returns)

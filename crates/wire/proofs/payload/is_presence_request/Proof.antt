@@ -4,12 +4,9 @@ use borrow.Author.Needs.{needs}
 use Rattle.wire.proofs.payload.is_presence_request.Statement.{statement}
 use Rattle.wire.proofs.payload.is_presence_request.Tie as tie
 
-byte-requires : tie.Need-byte-requires
-byte-requires c κs = search needs
-
 returns : tie.Need-returns
 unfolding isPresenceRequest
 returns c = cc
 
 pub is-presence-request-spec : {M : Type 1} → statement M
-is-presence-request-spec = tie.close (tie.spec byte-requires returns)
+is-presence-request-spec = tie.close (tie.spec (λ c κs. search needs) returns)

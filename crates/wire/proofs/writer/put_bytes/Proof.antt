@@ -18,21 +18,6 @@ abbrev μ-loop : tie.MeasureT-loop
 loop-holds : tie.Need-loop-holds Inv-loop μ-loop
 loop-holds c = (omega arith, refl)
 
-add-store8 : tie.Need-add-store8 Inv-loop μ-loop
-add-store8 c = search needs
-
-shared-slice-read-store8 : tie.Need-shared-slice-read-store8 Inv-loop μ-loop
-shared-slice-read-store8 c = search needs
-
-store8-requires : tie.Need-store8-requires Inv-loop μ-loop
-store8-requires c κs = search needs
-
-add-i : tie.Need-add-i Inv-loop μ-loop
-add-i c = search needs
-
-loop-less : tie.Need-loop-less Inv-loop μ-loop
-loop-less c = search needs
-
 loop-again : tie.Need-loop-again Inv-loop μ-loop
 loop-again c =
     let s = c .before .before .before .before .before .before .before .before .before .args in
@@ -56,11 +41,11 @@ put-bytes-spec =
     Inv-loop
     μ-loop
     loop-holds
-    add-store8
-    shared-slice-read-store8
-    store8-requires
-    add-i
-    loop-less
+    (λ c. search needs)
+    (λ c. search needs)
+    (λ c κs. search needs)
+    (λ c. search needs)
+    (λ c. search needs)
     loop-again
     same-length
     returns)

@@ -7,18 +7,6 @@ use borrow.Author.Needs.{needs}
 use Rattle.wire.proofs.writer.put_coded.Statement.{statement}
 use Rattle.wire.proofs.writer.put_coded.Tie as tie
 
-store16-requires : tie.Need-store16-requires
-store16-requires c κs = search needs
-
-store8-requires : tie.Need-store8-requires
-store8-requires c κs = search needs
-
-store8-requires-2 : tie.Need-store8-requires-2
-store8-requires-2 c κs = search needs
-
-same-length : tie.Need-same-length
-same-length c = search needs
-
 returns : tie.Need-returns
 returns c =
     let s = c .before .before .before .before .before .before .before .before .before .before .before .before .before .args in
@@ -28,4 +16,4 @@ returns c =
 
 pub put-coded-spec : {M : Type 1} → statement M
 put-coded-spec =
-    tie.close (tie.spec store16-requires store8-requires store8-requires-2 same-length returns)
+    tie.close (tie.spec (λ c κs. search needs) (λ c κs. search needs) (λ c κs. search needs) (λ c. search needs) returns)

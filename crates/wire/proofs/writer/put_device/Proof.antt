@@ -12,39 +12,6 @@ use borrow.Author.Needs.{needs}
 use Rattle.wire.proofs.writer.put_device.Statement.{statement}
 use Rattle.wire.proofs.writer.put_device.Tie as tie
 
-put-start-requires : tie.Need-put-start-requires
-put-start-requires c κs = search needs
-
-cast-store16 : tie.Need-cast-store16
-cast-store16 c = search needs
-
-store16-requires : tie.Need-store16-requires
-store16-requires c κs = search needs
-
-put-bytes-requires : tie.Need-put-bytes-requires
-put-bytes-requires c κs = search needs
-
-cast-store16-2 : tie.Need-cast-store16-2
-cast-store16-2 c = search needs
-
-add-store16 : tie.Need-add-store16
-add-store16 c = search needs
-
-cast-store16-3 : tie.Need-cast-store16-3
-cast-store16-3 c = search needs
-
-store16-requires-2 : tie.Need-store16-requires-2
-store16-requires-2 c κs = search needs
-
-add-put-bytes : tie.Need-add-put-bytes
-add-put-bytes c = search needs
-
-put-bytes-requires-2 : tie.Need-put-bytes-requires-2
-put-bytes-requires-2 c κs = search needs
-
-same-length : tie.Need-same-length
-same-length c = search needs
-
 returns : tie.Need-returns
 returns c =
     let s = c .before .before .before .before .before .before .before .before .before .before .before .before .before .before .before .before .before .before .before .before .before .before .before .args in
@@ -62,15 +29,15 @@ pub put-device-spec : {M : Type 1} → statement M
 put-device-spec =
     tie.close
     (tie.spec
-    put-start-requires
-    cast-store16
-    store16-requires
-    put-bytes-requires
-    cast-store16-2
-    add-store16
-    cast-store16-3
-    store16-requires-2
-    add-put-bytes
-    put-bytes-requires-2
-    same-length
+    (λ c κs. search needs)
+    (λ c. search needs)
+    (λ c κs. search needs)
+    (λ c κs. search needs)
+    (λ c. search needs)
+    (λ c. search needs)
+    (λ c. search needs)
+    (λ c κs. search needs)
+    (λ c. search needs)
+    (λ c κs. search needs)
+    (λ c. search needs)
     returns)

@@ -13,24 +13,6 @@ use borrow.Author.Needs.{needs}
 use Rattle.wire.proofs.writer.put_exchange.Statement.{statement}
 use Rattle.wire.proofs.writer.put_exchange.Tie as tie
 
-store16-requires : tie.Need-store16-requires
-store16-requires c κs = search needs
-
-put-nonce-requires : tie.Need-put-nonce-requires
-put-nonce-requires c κs = search needs
-
-store32-requires : tie.Need-store32-requires
-store32-requires c κs = search needs
-
-put-coordinate-requires : tie.Need-put-coordinate-requires
-put-coordinate-requires c κs = search needs
-
-put-coordinate-requires-2 : tie.Need-put-coordinate-requires-2
-put-coordinate-requires-2 c κs = search needs
-
-same-length : tie.Need-same-length
-same-length c = search needs
-
 returns : tie.Need-returns
 unfolding exchangeBytes
 returns c =
@@ -49,10 +31,10 @@ pub put-exchange-spec : {M : Type 1} → statement M
 put-exchange-spec =
     tie.close
     (tie.spec
-    store16-requires
-    put-nonce-requires
-    store32-requires
-    put-coordinate-requires
-    put-coordinate-requires-2
-    same-length
+    (λ c κs. search needs)
+    (λ c κs. search needs)
+    (λ c κs. search needs)
+    (λ c κs. search needs)
+    (λ c κs. search needs)
+    (λ c. search needs)
     returns)

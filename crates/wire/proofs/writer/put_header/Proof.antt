@@ -9,39 +9,6 @@ use borrow.Author.Needs.{needs}
 use Rattle.wire.proofs.writer.put_header.Statement.{statement}
 use Rattle.wire.proofs.writer.put_header.Tie as tie
 
-store16-requires : tie.Need-store16-requires
-store16-requires c κs = search needs
-
-store16-requires-2 : tie.Need-store16-requires-2
-store16-requires-2 c κs = search needs
-
-store8-requires : tie.Need-store8-requires
-store8-requires c κs = search needs
-
-store8-requires-2 : tie.Need-store8-requires-2
-store8-requires-2 c κs = search needs
-
-store16-requires-3 : tie.Need-store16-requires-3
-store16-requires-3 c κs = search needs
-
-store32-requires : tie.Need-store32-requires
-store32-requires c κs = search needs
-
-store64-requires : tie.Need-store64-requires
-store64-requires c κs = search needs
-
-store16-requires-4 : tie.Need-store16-requires-4
-store16-requires-4 c κs = search needs
-
-store16-requires-5 : tie.Need-store16-requires-5
-store16-requires-5 c κs = search needs
-
-store64-requires-2 : tie.Need-store64-requires-2
-store64-requires-2 c κs = search needs
-
-store64-requires-3 : tie.Need-store64-requires-3
-store64-requires-3 c κs = search needs
-
 returns : tie.Need-returns
 unfolding headerBytes
 returns c =
@@ -77,16 +44,16 @@ pub put-header-spec : {M : Type 1} → statement M
 put-header-spec =
     tie.close
     (tie.spec
-    store16-requires
-    store16-requires-2
-    store8-requires
-    store8-requires-2
-    store16-requires-3
-    store32-requires
-    store64-requires
-    store16-requires-4
-    store16-requires-5
-    store64-requires-2
-    store64-requires-3
+    (λ c κs. search needs)
+    (λ c κs. search needs)
+    (λ c κs. search needs)
+    (λ c κs. search needs)
+    (λ c κs. search needs)
+    (λ c κs. search needs)
+    (λ c κs. search needs)
+    (λ c κs. search needs)
+    (λ c κs. search needs)
+    (λ c κs. search needs)
+    (λ c κs. search needs)
     same-length
     returns)

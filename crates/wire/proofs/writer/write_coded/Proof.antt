@@ -6,17 +6,8 @@ use borrow.Author.Needs.{needs}
 use Rattle.wire.proofs.writer.write_coded.Statement.{statement}
 use Rattle.wire.proofs.writer.write_coded.Tie as tie
 
-write-refusal-requires : tie.Need-write-refusal-requires
-write-refusal-requires c κs = search needs
-
 returns : tie.Need-returns
 returns c = let s = c .before .before .before .args in refused (s .bad) 4 (coded (s .mode) (s .kind) (s .code)) (s .out .now) _ (c .before .write-refusal .ensures) (c .if1 .taken)
-
-put-coded-requires : tie.Need-put-coded-requires
-put-coded-requires c κs = search needs
-
-same-length : tie.Need-same-length
-same-length c = search needs
 
 returns-2 : tie.Need-returns-2
 returns-2 c =
@@ -25,4 +16,4 @@ returns-2 c =
 
 pub write-coded-spec : {M : Type 1} → statement M
 write-coded-spec =
-    tie.close (tie.spec write-refusal-requires returns put-coded-requires same-length returns-2)
+    tie.close (tie.spec (λ c κs. search needs) returns (λ c κs. search needs) (λ c. search needs) returns-2)

@@ -6,21 +6,9 @@ use borrow.Author.Needs.{needs}
 use Rattle.wire.proofs.writer.write_connection_response.Statement.{statement}
 use Rattle.wire.proofs.writer.write_connection_response.Tie as tie
 
-write-exchange-requires : tie.Need-write-exchange-requires
-write-exchange-requires c κs = search needs
-
-same-length : tie.Need-same-length
-same-length c = search needs
-
 returns : tie.Need-returns
 unfolding responseSize connectionResponse
 returns c = rw (c .before .before .before .before .if1 .taken, or-none) (c .before .before .write-exchange .ensures)
-
-write-coded-requires : tie.Need-write-coded-requires
-write-coded-requires c κs = search needs
-
-same-length-2 : tie.Need-same-length-2
-same-length-2 c = search needs
 
 returns-2 : tie.Need-returns-2
 unfolding responseSize connectionResponse
@@ -30,9 +18,9 @@ pub write-connection-response-spec : {M : Type 1} → statement M
 write-connection-response-spec =
     tie.close
     (tie.spec
-    write-exchange-requires
-    same-length
+    (λ c κs. search needs)
+    (λ c. search needs)
     returns
-    write-coded-requires
-    same-length-2
+    (λ c κs. search needs)
+    (λ c. search needs)
     returns-2)

@@ -9,21 +9,12 @@ use borrow.Author.Needs.{needs}
 use Rattle.wire.proofs.writer.write_device_authentication.Statement.{statement}
 use Rattle.wire.proofs.writer.write_device_authentication.Tie as tie
 
-cast-if1 : tie.Need-cast-if1
-cast-if1 c = search needs
-
-cast-if1-2 : tie.Need-cast-if1-2
-cast-if1-2 c = search needs
-
 returns : tie.Need-returns
 returns c =
     let s = c .before .before .before .before .args in
     let certificate = s .certificate .now in
     let thumbprint = s .thumbprint .now in
     refused (badDevice (s .kind) (s .mode) certificate thumbprint) (7 + length certificate + length thumbprint) (deviceAuthentication (s .kind) (s .mode) certificate thumbprint) (s .out .now) _ (told-bad _ _ (c .if1 .taken)) λ z. omega arith
-
-add-size : tie.Need-add-size
-add-size c = search needs
 
 add-size-2 : tie.Need-add-size-2
 add-size-2 c =
@@ -45,9 +36,6 @@ put-device-requires c κs =
     let d = device (s .kind) (s .mode) certificate thumbprint (c .before .before .if1 .left) in
     (d .certificates, d .thumbprints)
 
-same-length : tie.Need-same-length
-same-length c = search needs
-
 returns-3 : tie.Need-returns-3
 returns-3 c =
     let s = c .before .before .before .before .before .before .before .before .before .args in
@@ -59,12 +47,12 @@ pub write-device-authentication-spec : {M : Type 1} → statement M
 write-device-authentication-spec =
     tie.close
     (tie.spec
-    cast-if1
-    cast-if1-2
+    (λ c. search needs)
+    (λ c. search needs)
     returns
-    add-size
+    (λ c. search needs)
     add-size-2
     returns-2
     put-device-requires
-    same-length
+    (λ c. search needs)
     returns-3)

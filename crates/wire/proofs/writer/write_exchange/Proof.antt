@@ -9,20 +9,8 @@ use borrow.Author.Needs.{needs}
 use Rattle.wire.proofs.writer.write_exchange.Statement.{statement}
 use Rattle.wire.proofs.writer.write_exchange.Tie as tie
 
-write-refusal-requires : tie.Need-write-refusal-requires
-write-refusal-requires c κs = search needs
-
 returns : tie.Need-returns
 returns c = let s = c .before .before .before .args in refused (badMode (s .mode)) 86 (coded (s .mode) (s .kind) (s .code) ++ exchangeBytes (s .request)) (s .out .now) _ (c .before .write-refusal .ensures) (c .if1 .taken)
-
-put-coded-requires : tie.Need-put-coded-requires
-put-coded-requires c κs = search needs
-
-put-exchange-requires : tie.Need-put-exchange-requires
-put-exchange-requires c κs = search needs
-
-same-length : tie.Need-same-length
-same-length c = search needs
 
 returns-2 : tie.Need-returns-2
 returns-2 c =
@@ -34,9 +22,9 @@ pub write-exchange-spec : {M : Type 1} → statement M
 write-exchange-spec =
     tie.close
     (tie.spec
-    write-refusal-requires
+    (λ c κs. search needs)
     returns
-    put-coded-requires
-    put-exchange-requires
-    same-length
+    (λ c κs. search needs)
+    (λ c κs. search needs)
+    (λ c. search needs)
     returns-2)

@@ -7,18 +7,9 @@ use borrow.Author.Needs.{needs}
 use Rattle.wire.proofs.writer.write_header.Statement.{statement}
 use Rattle.wire.proofs.writer.write_header.Tie as tie
 
-write-refusal-requires : tie.Need-write-refusal-requires
-write-refusal-requires c κs = search needs
-
 returns : tie.Need-returns
 unfolding headerBytes
 returns c = let s = c .before .before .before .args in refused false 40 (headerBytes (s .header) (s .size)) (s .out .now) _ (c .before .write-refusal .ensures) (c .if1 .taken)
-
-put-header-requires : tie.Need-put-header-requires
-put-header-requires c κs = search needs
-
-same-length : tie.Need-same-length
-same-length c = search needs
 
 returns-2 : tie.Need-returns-2
 unfolding headerBytes
@@ -28,4 +19,4 @@ returns-2 c =
 
 pub write-header-spec : {M : Type 1} → statement M
 write-header-spec =
-    tie.close (tie.spec write-refusal-requires returns put-header-requires same-length returns-2)
+    tie.close (tie.spec (λ c κs. search needs) returns (λ c κs. search needs) (λ c. search needs) returns-2)
