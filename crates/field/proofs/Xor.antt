@@ -1,0 +1,58 @@
+-- The laws of `xor`. Assumes nothing.
+use mathlib.Core.Path.{_≡_, refl, sym, ap, ap₂, _∙_}
+use Prim.Native.Nat.{ℕ, _*_, _/_, _<_}
+use native.Mathlib.Nat.{add-zero}
+use lib.Bits.{bitXor, xor-comm, xor-self, xor-zero-r, xor-zero-l, xor-shr, xor-lt, xor-block}
+use lib.Dec.{lit<}
+use Rattle.laws.proofs.Xor.{xor-assoc}
+use Rattle.field.specs.Xor.{xor}
+
+pub is-bit-xor : (a b : ℕ) → xor a b ≡ bitXor a b
+unfolding xor
+is-bit-xor a b = refl
+
+pub comm : (a b : ℕ) → xor a b ≡ xor b a
+unfolding xor
+comm = xor-comm
+
+pub self : (a : ℕ) → xor a a ≡ 0
+unfolding xor
+self = xor-self
+
+pub zero-r : (a : ℕ) → xor a 0 ≡ a
+unfolding xor
+zero-r = xor-zero-r
+
+pub zero-l : (a : ℕ) → xor 0 a ≡ a
+unfolding xor
+zero-l = xor-zero-l
+
+pub byte : (a b : ℕ) → a < 256 → b < 256 → xor a b < 256
+unfolding xor
+byte a b ha hb = xor-lt 8 a b ha hb
+
+pub assoc : (a b c : ℕ) → xor (xor a b) c ≡ xor a (xor b c)
+unfolding xor
+assoc = xor-assoc
+
+pub left-comm : (a b c : ℕ) → xor a (xor b c) ≡ xor b (xor a c)
+left-comm a b c = sym (assoc a b c) ∙ ap (λ (x : ℕ). xor x c) (comm a b) ∙ assoc b a c
+
+-- twice the same cancels
+pub cancel : (a b : ℕ) → xor (xor a b) b ≡ a
+cancel a b = assoc a b b ∙ ap (xor a) (self b) ∙ zero-r a
+
+-- two sums of two, regrouped
+pub swap4 : (a b c d : ℕ) → xor (xor a b) (xor c d) ≡ xor (xor a c) (xor b d)
+swap4 a b c d = assoc a b (xor c d) ∙ ap (xor a) (left-comm b c d) ∙ sym (assoc a c (xor b d))
+
+-- a sum doubled, and its eighth digit
+pub double : (a b : ℕ) → xor a b * 2 ≡ xor (a * 2) (b * 2)
+unfolding xor
+double a b =
+    sym (add-zero (bitXor a b * 2)) ∙ sym (xor-block 1 a b 0 0 (lit< tt) (lit< tt))
+    ∙ ap₂ bitXor (add-zero (a * 2)) (add-zero (b * 2))
+
+pub top : (a b : ℕ) → xor a b / 128 ≡ xor (a / 128) (b / 128)
+unfolding xor
+top a b = xor-shr a b 7

@@ -1,0 +1,6 @@
+pub mod Runs
+pub mod Xor
+pub mod Field
+pub mod Sbox
+pub mod Mix
+pub mod Words

@@ -1,0 +1,12 @@
+-- Lists given by their elements.
+use mathlib.Core.List.{List, [], _∷_}
+use Prim.Native.Nat.{ℕ, zero, suc}
+
+-- f i, f (i + 1) and so on, n of them.
+unfoldable pub run {ℓ} : {A : Type ℓ} → (ℕ → A) → ℕ → ℕ → List A
+run f i zero = []
+run f i (suc n) = f i ∷ run f (suc i) n
+
+-- The table of f: what f gives for each byte, in order.
+unfoldable pub table : (ℕ → ℕ) → List ℕ
+table f = run f 0 256

@@ -1,0 +1,7 @@
+-- The exclusive or of two numbers, bit by bit: what `^` computes, under a name that stays shut, so that a nest of it stays small.
+-- Its laws are in proofs/Xor.
+use Prim.Native.Nat.{ℕ}
+use lib.Bits.{bitXor}
+
+unfoldable pub xor : ℕ → ℕ → ℕ
+xor a b = bitXor a b

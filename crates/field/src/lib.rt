@@ -1,0 +1,2 @@
+// The byte field of AES (FIPS 197, section 4), the substitution of bytes, and the tables by which both are computed.
+pub mod tables;
