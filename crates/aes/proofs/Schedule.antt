@@ -1,0 +1,91 @@
+-- The round keys: each is a block, the code makes the next, and the 44 words that they hold are those of FIPS 197, 5.2. Assumes nothing.
+use mathlib.Core.Path.{_≡_, refl, sym, ap, ap₂, _∙_, subst}
+use mathlib.Core.List.{List, [], _∷_}
+use Prim.Native.Nat.{ℕ, zero, suc, _+_, _-_, _*_, _/_, _%_, _≤_, _<_}
+use native.Mathlib.Numerals.{add-one}
+use native.Mathlib.Omega.{arith}
+use lib.Dec.{lit<}
+use lib.ListN.{getD, length}
+use Rattle.field.specs.Runs.{run}
+use Rattle.field.specs.Xor.{xor}
+use Rattle.field.specs.Field.{xtime}
+use Rattle.field.specs.Sbox.{sbox}
+use Rattle.field.proofs.Runs.{run-from-zero, Filled}
+use Rattle.field.proofs.Xor.{byte}
+use Rattle.field.proofs.Linear.{xtime-byte}
+use Rattle.field.proofs.Sbox.{sbox-byte}
+use Rattle.aes.specs.State.{block, Block}
+use Rattle.aes.specs.Key.{rcon, turnedByte, nextByte, nextKey, roundKey, expandKey, keyWord}
+use Rattle.aes.proofs.Steps.{block-at, block-of}
+
+-- ---- one round key more
+
+pub rcon-more : (n x y : ℕ) → x ≡ rcon n → y ≡ xtime x → y ≡ rcon (n + 1)
+unfolding rcon
+rcon-more n x y ex ey = rw add-one (cc)
+
+pub key-more : (key : List ℕ) (n x : ℕ) (k r : List ℕ) → k ≡ roundKey key n → x ≡ rcon n → r ≡ nextKey k x → r ≡ roundKey key (n + 1)
+unfolding roundKey
+key-more key n x k r ek ex er = rw add-one (cc)
+
+-- the key itself is the first
+pub first-key : (f : ℕ → List ℕ) (x : List ℕ) (xs : List (List ℕ)) → length (x ∷ xs) ≡ 11 → x ≡ f 0 → Filled 11 [] f (x ∷ xs) 1
+first-key f x xs l e = record { upto = omega arith; len = l; done = here }
+  where
+    here : (k : ℕ) → k < 1 → getD (x ∷ xs) k [] ≡ f k
+    here k h = let z : k ≡ 0 = omega arith in ap (λ (j : ℕ). getD (x ∷ xs) j []) z ∙ e ∙ ap f (sym z)
+
+-- the sixteen bytes as the code adds them, where p, q, r, s are added to the first word
+abbrev pub nextRows : List ℕ → ℕ → ℕ → ℕ → ℕ → List ℕ
+nextRows k p q r s =
+    xor (getD k 0 0) p ∷ xor (getD k 1 0) q ∷ xor (getD k 2 0) r ∷ xor (getD k 3 0) s ∷
+    xor (getD k 4 0) (xor (getD k 0 0) p) ∷ xor (getD k 5 0) (xor (getD k 1 0) q) ∷
+    xor (getD k 6 0) (xor (getD k 2 0) r) ∷ xor (getD k 7 0) (xor (getD k 3 0) s) ∷
+    xor (getD k 8 0) (xor (getD k 4 0) (xor (getD k 0 0) p)) ∷ xor (getD k 9 0) (xor (getD k 5 0) (xor (getD k 1 0) q)) ∷
+    xor (getD k 10 0) (xor (getD k 6 0) (xor (getD k 2 0) r)) ∷ xor (getD k 11 0) (xor (getD k 7 0) (xor (getD k 3 0) s)) ∷
+    xor (getD k 12 0) (xor (getD k 8 0) (xor (getD k 4 0) (xor (getD k 0 0) p))) ∷
+    xor (getD k 13 0) (xor (getD k 9 0) (xor (getD k 5 0) (xor (getD k 1 0) q))) ∷
+    xor (getD k 14 0) (xor (getD k 10 0) (xor (getD k 6 0) (xor (getD k 2 0) r))) ∷
+    xor (getD k 15 0) (xor (getD k 11 0) (xor (getD k 7 0) (xor (getD k 3 0) s))) ∷ []
+
+pub next-by : (k : List ℕ) (c p q r s : ℕ) → p ≡ sbox (getD k 13 0) → q ≡ sbox (getD k 14 0) → r ≡ sbox (getD k 15 0) → s ≡ sbox (getD k 12 0)
+    → nextRows k (xor p c) q r s ≡ nextKey k c
+unfolding nextKey nextByte turnedByte block run
+next-by k c p q r s ep eq er es = λ t. nextRows k (xor (ep t) c) (eq t) (er t) (es t)
+
+-- ---- round keys are blocks
+
+rcon-byte : (n : ℕ) → rcon n < 256
+unfolding rcon
+rcon-byte zero = lit< tt
+rcon-byte (suc n) = xtime-byte (rcon n) (rcon-byte n)
+
+turned-byte : (k : List ℕ) (c r : ℕ) → c < 256 → Block k → turnedByte k c r < 256
+unfolding turnedByte
+turned-byte k c zero hc b = byte _ _ (sbox-byte _ (b .bytes 13 (lit< tt))) hc
+turned-byte k c (suc r) hc b = sbox-byte _ (b .bytes _ (omega arith))
+
+next-byte : (k : List ℕ) (c j r : ℕ) → c < 256 → Block k → j < 4 → r < 4 → nextByte k c j r < 256
+unfolding nextByte
+next-byte k c zero r hc b hj hr = byte _ _ (b .bytes r (omega arith)) (turned-byte k c r hc b)
+next-byte k c (suc j) r hc b hj hr = byte _ _ (b .bytes (4 * suc j + r) (omega arith)) (next-byte k c j r hc b (omega arith) hr)
+
+next-block : (k : List ℕ) (c : ℕ) → c < 256 → Block k → Block (nextKey k c)
+unfolding nextKey
+next-block k c hc b = block-of _ (λ i h. next-byte k c (i / 4) (i % 4) hc b (omega arith) (omega arith))
+
+pub roundKey-block : (key : List ℕ) → Block key → (n : ℕ) → Block (roundKey key n)
+unfolding roundKey
+roundKey-block key b zero = b
+roundKey-block key b (suc n) = next-block (roundKey key n) (rcon n) (rcon-byte n) (roundKey-block key b n)
+
+-- each of the eleven is a block
+abbrev pub Keys : List (List ℕ) → Type 0
+Keys ks = (i : ℕ) → i < 11 → Block (getD ks i [])
+
+pub expandKey-at : (key : List ℕ) (i : ℕ) → i < 11 → getD (expandKey key) i [] ≡ roundKey key i
+unfolding expandKey
+expandKey-at key i h = run-from-zero (roundKey key) 11 i [] h
+
+pub expandKey-keys : (key : List ℕ) → Block key → Keys (expandKey key)
+expandKey-keys key b i h = subst Block (sym (expandKey-at key i h)) (roundKey-block key b i)

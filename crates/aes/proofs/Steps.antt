@@ -1,0 +1,170 @@
+-- The steps of a round: each takes a block to a block, and each is undone by its inverse. Assumes nothing.
+use mathlib.Core.Path.{_≡_, refl, sym, ap, ap₂, _∙_, subst}
+use mathlib.Core.Bool.{Bool}
+use mathlib.Core.List.{List, [], _∷_}
+use Prim.Native.Nat.{ℕ, zero, suc, _+_, _-_, _*_, _/_, _%_, _≤_, _<_}
+use native.Mathlib.Omega.{arith}
+use lib.Dec.{T, eqb, eqb→eq, lit<}
+use lib.ListN.{getD, length, take, drop, length-drop}
+use lib.Seq.{length-take-le, getD-take, getD-drop}
+use Rattle.field.specs.Runs.{run}
+use Rattle.field.specs.Xor.{xor}
+use Rattle.field.specs.Sbox.{sbox, invSbox}
+use Rattle.field.specs.Mix.{row, mixed, unmixed}
+use Rattle.field.proofs.Below.{every, below, agree, bounded}
+use Rattle.field.proofs.Runs.{run-length, run-from-zero, run-is}
+use Rattle.field.proofs.Xor.{byte, cancel}
+use Rattle.field.proofs.Sbox.{sbox-byte, invSbox-byte, invSbox-sbox}
+use Rattle.field.proofs.Mix.{mixed-byte, unmixed-byte, unmixed-mixed, row-xor}
+use Rattle.aes.specs.State.{block, Block, subBytes, shifted, shiftRows, down, mixColumns, addRoundKey, unshifted, invShiftRows, invSubBytes, invMixColumns}
+
+-- ---- blocks by their bytes
+
+pub block-length : (f : ℕ → ℕ) → length (block f) ≡ 16
+unfolding block
+block-length f = run-length f 0 16
+
+pub block-at : (f : ℕ → ℕ) (i : ℕ) → i < 16 → getD (block f) i 0 ≡ f i
+unfolding block
+block-at f i h = run-from-zero f 16 i 0 h
+
+pub block-of : (f : ℕ → ℕ) → ((i : ℕ) → i < 16 → f i < 256) → Block (block f)
+block-of f h = record { len = block-length f; bytes = λ i g. subst (λ (x : ℕ). x < 256) (sym (block-at f i g)) (h i g) }
+
+-- a block is s where its bytes are those of s
+pub block-is : (f : ℕ → ℕ) (s : List ℕ) → length s ≡ 16 → ((i : ℕ) → i < 16 → f i ≡ getD s i 0) → block f ≡ s
+unfolding block
+block-is f s e h = sym (run-is 0 f 16 s e (λ i g. sym (h i g)))
+
+pub block-same : (f g : ℕ → ℕ) → ((i : ℕ) → i < 16 → f i ≡ g i) → block f ≡ block g
+block-same f g h = block-is f (block g) (block-length g) (λ i b. h i b ∙ sym (block-at g i b))
+
+-- sixteen bytes out of a list
+pub block-cut : (s : List ℕ) (at : ℕ) → at + 16 ≤ length s → block (λ i. getD s (at + i) 0) ≡ take 16 (drop at s)
+block-cut s at h =
+    block-is _ (take 16 (drop at s)) (length-take-le 16 (drop at s) (simp length-drop (omega arith)))
+    (λ i g. sym (getD-take 16 (drop at s) i 0 g ∙ getD-drop at s i 0))
+
+-- ---- AddRoundKey
+
+pub add-length : (s k : List ℕ) → length (addRoundKey s k) ≡ 16
+unfolding addRoundKey
+add-length s k = block-length _
+
+pub add-block : (s k : List ℕ) → Block s → Block k → Block (addRoundKey s k)
+unfolding addRoundKey
+add-block s k bs bk = block-of _ (λ i h. byte (getD s i 0) (getD k i 0) (bs .bytes i h) (bk .bytes i h))
+
+pub add-add : (s k : List ℕ) → length s ≡ 16 → addRoundKey (addRoundKey s k) k ≡ s
+unfolding addRoundKey
+add-add s k e =
+    block-is _ s e (λ i h. ap (λ (x : ℕ). xor x (getD k i 0)) (block-at _ i h) ∙ cancel (getD s i 0) (getD k i 0))
+
+-- ---- SubBytes
+
+pub sub-block : (s : List ℕ) → Block s → Block (subBytes s)
+unfolding subBytes
+sub-block s b = block-of _ (λ i h. sbox-byte (getD s i 0) (b .bytes i h))
+
+pub unsub-block : (s : List ℕ) → Block s → Block (invSubBytes s)
+unfolding invSubBytes
+unsub-block s b = block-of _ (λ i h. invSbox-byte (getD s i 0) (b .bytes i h))
+
+pub unsub-sub : (s : List ℕ) → Block s → invSubBytes (subBytes s) ≡ s
+unfolding subBytes invSubBytes
+unsub-sub s b = block-is _ s (b .len) (λ i h. ap invSbox (block-at _ i h) ∙ invSbox-sbox (getD s i 0) (b .bytes i h))
+
+-- ---- ShiftRows
+
+shifted-lt : (i : ℕ) → i < 16 → shifted i < 16
+unfolding shifted
+shifted-lt = bounded shifted 16 16 tt
+
+unshifted-lt : (i : ℕ) → i < 16 → unshifted i < 16
+unfolding unshifted
+unshifted-lt = bounded unshifted 16 16 tt
+
+shifted-unshifted : (i : ℕ) → i < 16 → shifted (unshifted i) ≡ i
+unfolding shifted unshifted
+shifted-unshifted = agree (λ i. shifted (unshifted i)) (λ i. i) 16 tt
+
+pub shift-block : (s : List ℕ) → Block s → Block (shiftRows s)
+unfolding shiftRows
+shift-block s b = block-of _ (λ i h. b .bytes (shifted i) (shifted-lt i h))
+
+pub unshift-block : (s : List ℕ) → Block s → Block (invShiftRows s)
+unfolding invShiftRows
+unshift-block s b = block-of _ (λ i h. b .bytes (unshifted i) (unshifted-lt i h))
+
+pub unshift-shift : (s : List ℕ) → length s ≡ 16 → invShiftRows (shiftRows s) ≡ s
+unfolding shiftRows invShiftRows
+unshift-shift s e =
+    block-is _ s e (λ i h. block-at _ (unshifted i) (unshifted-lt i h) ∙ ap (λ (k : ℕ). getD s k 0) (shifted-unshifted i h))
+
+-- ---- MixColumns
+
+down-lt : (j i : ℕ) → i < 16 → down i j < 16
+unfolding down
+down-lt j i h = omega arith
+
+down-zero : (i : ℕ) → down i 0 ≡ i
+unfolding down
+down-zero i = omega arith
+
+turns : ℕ → ℕ → ℕ → Bool
+turns j k i = eqb (down (down i j) k) (down i ((j + k) % 4))
+
+down-down : (j k : ℕ) → j < 4 → k < 4 → (i : ℕ) → i < 16 → down (down i j) k ≡ down i ((j + k) % 4)
+unfolding turns down
+down-down j k hj hk i hi =
+    eqb→eq (down (down i j) k) (down i ((j + k) % 4))
+    (below (turns j k) 16
+    (below (λ k. every (turns j k) 0 16) 4 (below (λ j. every (λ k. every (turns j k) 0 16) 0 4) 4 tt j hj) k hk) i hi)
+
+-- the four bytes of a column of a block are bytes
+module _ {A : Type 0} (s : List ℕ) (b : Block s) (i : ℕ) (h : i < 16) where
+  pub on-column : ((getD s (down i 0) 0 < 256) → (getD s (down i 1) 0 < 256) → (getD s (down i 2) 0 < 256) → (getD s (down i 3) 0 < 256) → A) → A
+  on-column f =
+      f (b .bytes (down i 0) (down-lt 0 i h)) (b .bytes (down i 1) (down-lt 1 i h)) (b .bytes (down i 2) (down-lt 2 i h))
+      (b .bytes (down i 3) (down-lt 3 i h))
+
+pub mix-block : (s : List ℕ) → Block s → Block (mixColumns s)
+unfolding mixColumns
+mix-block s b = block-of _ (λ i h. on-column s b i h (mixed-byte _ _ _ _))
+
+pub unmix-block : (s : List ℕ) → Block s → Block (invMixColumns s)
+unfolding invMixColumns
+unmix-block s b = block-of _ (λ i h. on-column s b i h (unmixed-byte _ _ _ _))
+
+-- four bytes of one column, mixed
+mix-at : (s : List ℕ) (j : ℕ) → j < 4 → (i : ℕ) → i < 16
+    → getD (mixColumns s) (down i j) 0
+    ≡ mixed (getD s (down i ((j + 0) % 4)) 0) (getD s (down i ((j + 1) % 4)) 0) (getD s (down i ((j + 2) % 4)) 0) (getD s (down i ((j + 3) % 4)) 0)
+unfolding mixColumns
+mix-at s j hj i hi =
+    block-at _ (down i j) (down-lt j i hi)
+    ∙ (λ t. mixed (getD s (down-down j 0 hj (lit< tt) i hi t) 0) (getD s (down-down j 1 hj (lit< tt) i hi t) 0)
+    (getD s (down-down j 2 hj (lit< tt) i hi t) 0) (getD s (down-down j 3 hj (lit< tt) i hi t) 0))
+
+pub unmix-mix : (s : List ℕ) → Block s → invMixColumns (mixColumns s) ≡ s
+unfolding invMixColumns
+unmix-mix s b =
+    block-is _ s (b .len)
+    (λ i h. (λ t. unmixed (mix-at s 0 (lit< tt) i h t) (mix-at s 1 (lit< tt) i h t) (mix-at s 2 (lit< tt) i h t) (mix-at s 3 (lit< tt) i h t))
+    ∙ on-column s b i h (unmixed-mixed _ _ _ _)
+    ∙ ap (λ (k : ℕ). getD s k 0) (down-zero i))
+
+-- InvMixColumns of a sum is the sum of both
+pub unmix-add : (s k : List ℕ) → Block s → Block k → invMixColumns (addRoundKey s k) ≡ addRoundKey (invMixColumns s) (invMixColumns k)
+unfolding addRoundKey invMixColumns unmixed
+unmix-add s k bs bk =
+    block-same _ _
+    (λ i h. (λ t. row 14 11 13 9 (sum i h 0 t) (sum i h 1 t) (sum i h 2 t) (sum i h 3 t))
+    ∙ on-column s bs i h (λ p q r u. on-column k bk i h (λ v w x y. row-xor 14 11 13 9 _ _ _ _ _ _ _ _ p q r u v w x y))
+    ∙ sym (λ t. xor (block-at (unmixAt s) i h t) (block-at (unmixAt k) i h t)))
+  where
+    sum : (i : ℕ) → i < 16 → (j : ℕ) → getD (block (λ i. xor (getD s i 0) (getD k i 0))) (down i j) 0 ≡ xor (getD s (down i j) 0) (getD k (down i j) 0)
+    sum i h j = block-at _ (down i j) (down-lt j i h)
+
+    unmixAt : List ℕ → ℕ → ℕ
+    unmixAt l i = row 14 11 13 9 (getD l (down i 0) 0) (getD l (down i 1) 0) (getD l (down i 2) 0) (getD l (down i 3) 0)

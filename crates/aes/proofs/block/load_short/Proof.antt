@@ -1,0 +1,52 @@
+-- `block::load_short` meets its contract: byte by byte.
+-- Assumes nothing.
+use mathlib.Core.Path.{refl}
+use Prim.Native.Nat.{_-_}
+use lib.ListN.{getD}
+use Rattle.field.proofs.Runs.{Filled, fill-none, fill-more, fill-all}
+use Rattle.aes.specs.State.{block, loadBlock}
+use borrow.Author.Needs.{needs}
+use Rattle.aes.proofs.block.load_short.Statement.{statement}
+use Rattle.aes.proofs.block.load_short.Tie as tie
+
+abbrev Inv-loop : tie.InvT-loop
+Inv-loop s r₀ i₀ r i = Filled 16 0 (λ j. getD s j 0) r i
+
+abbrev μ-loop : tie.MeasureT-loop
+μ-loop s r₀ i₀ r i = 16 - i
+
+loop-holds : tie.Need-loop-holds Inv-loop μ-loop
+loop-holds c = fill-none _ _ _ _ refl
+
+byte-or-zero-requires : tie.Need-byte-or-zero-requires Inv-loop μ-loop
+byte-or-zero-requires c κs = search needs
+
+array-write-r : tie.Need-array-write-r Inv-loop μ-loop
+array-write-r c = search needs
+
+add-i : tie.Need-add-i Inv-loop μ-loop
+add-i c = search needs
+
+loop-less : tie.Need-loop-less Inv-loop μ-loop
+loop-less c = search needs
+
+loop-again : tie.Need-loop-again Inv-loop μ-loop
+loop-again c = fill-more _ _ _ _ _ _ (c .before .before .loop .inv) (c .before .loop-test .taken) (c .byte-or-zero .ensures)
+
+returns : tie.Need-returns Inv-loop μ-loop
+unfolding loadBlock block
+returns c = fill-all _ _ _ _ _ (c .before .loop .inv) (c .loop-test .left)
+
+pub load-short-spec : {M : Type 1} → statement M
+load-short-spec =
+    tie.close
+    (tie.spec
+    Inv-loop
+    μ-loop
+    loop-holds
+    byte-or-zero-requires
+    array-write-r
+    add-i
+    loop-less
+    loop-again
+    returns)

@@ -1,0 +1,96 @@
+-- `cbc::encrypt_buffer` meets its contract: block by block; what is not done yet is as it was.
+-- Assumes nothing.
+use native.Mathlib.Omega.{arith}
+use native.Mathlib.Nat.{le-refl}
+use mathlib.Core.Path.{_∙_, ap}
+use Prim.Native.Nat.{_-_, _<_}
+use lib.ListN.{length, take}
+use Rattle.aes.specs.Words.{bytesOf}
+use Rattle.aes.specs.Cbc.{encryptBlocks, cbcEncrypt}
+use Rattle.aes.proofs.Chain.{loaded, Chained, begin, in-source, in-target, done, encrypt-none, encrypt-more, all-written}
+use borrow.Author.Needs.{needs}
+use Rattle.aes.proofs.cbc.encrypt_buffer.Statement.{statement}
+use Rattle.aes.proofs.cbc.encrypt_buffer.Tie as tie
+
+abbrev Inv-loop : tie.InvT-loop
+Inv-loop keys sb t0 t1 t2 t3 buffer₀ v₀ at₀ buffer v at = Chained (encryptBlocks keys) buffer₀ buffer₀ (bytesOf v₀) (bytesOf v) buffer at × (length buffer₀ < 18446744073709551616)
+
+abbrev μ-loop : tie.MeasureT-loop
+μ-loop keys sb t0 t1 t2 t3 buffer₀ v₀ at₀ buffer v at = length buffer₀ - at
+
+loop-holds : tie.Need-loop-holds Inv-loop μ-loop
+loop-holds c = (begin _ _ _ _ (c .before .pre .2) (le-refl _), omega arith)
+
+sub-load-block : tie.Need-sub-load-block Inv-loop μ-loop
+sub-load-block c = omega (arith, c .before .loop .inv .0 .len)
+
+part-load-block-start : tie.Need-part-load-block-start Inv-loop μ-loop
+part-load-block-start c = search needs
+
+part-load-block-end : tie.Need-part-load-block-end Inv-loop μ-loop
+part-load-block-end c = search needs
+
+load-block-requires : tie.Need-load-block-requires Inv-loop μ-loop
+load-block-requires c κs = search needs
+
+words-requires : tie.Need-words-requires Inv-loop μ-loop
+words-requires c κs = search needs
+
+add-requires : tie.Need-add-requires Inv-loop μ-loop
+add-requires c κs = search needs
+
+encrypt-requires : tie.Need-encrypt-requires Inv-loop μ-loop
+encrypt-requires c κs = search needs
+
+bytes-requires : tie.Need-bytes-requires Inv-loop μ-loop
+bytes-requires c κs = search needs
+
+put-requires : tie.Need-put-requires Inv-loop μ-loop
+put-requires c κs = in-target _ _ _ _ _ _ _ (c .before .before .before .before .before .before .before .before .before .loop .inv .0) (omega (arith, c .before .before .before .before .before .before .before .before .before .loop .inv .0 .len))
+
+add-at : tie.Need-add-at Inv-loop μ-loop
+add-at c = omega (arith, c .before .before .before .before .before .before .before .before .before .before .before .before .loop .inv .1, c .before .before .before .before .before .before .before .before .before .before .before .before .loop .inv .0 .len, in-source _ _ _ _ _ _ _ (c .before .before .before .before .before .before .before .before .before .before .before .before .loop .inv .0) (omega (arith, c .before .before .before .before .before .before .before .before .before .before .before .before .loop .inv .0 .len)))
+
+loop-less : tie.Need-loop-less Inv-loop μ-loop
+loop-less c = omega (arith, c .before .before .before .before .before .before .before .before .before .before .before .before .loop .inv .0 .len, in-source _ _ _ _ _ _ _ (c .before .before .before .before .before .before .before .before .before .before .before .before .loop .inv .0) (omega (arith, c .before .before .before .before .before .before .before .before .before .before .before .before .loop .inv .0 .len)))
+
+loop-again : tie.Need-loop-again Inv-loop μ-loop
+loop-again c =
+    let l = c .before .before .before .before .before .before .before .before .before .before .before .before .loop in
+    let h : l .at < length (c .before .before .before .before .before .before .before .before .before .before .before .before .before .before .args .buffer .now) = omega (arith, l .inv .0 .len) in (
+      encrypt-more _ _ _ _ _ _ _ (l .inv .0) _ _ _ _ _ _ h
+          (c .before .before .before .before .before .before .before .before .load-block .ensures ∙ loaded _ _ (in-target _ _ _ _ _ _ _ (l .inv .0) h) ∙ ap (take 16) (l .inv .0 .rest)) (c .before .before .before .before .before .before .before .words .ensures)
+          (c .before .before .before .before .before .before .add .ensures) (c .before .before .before .before .before .encrypt .ensures) (c .before .before .before .bytes .ensures) (c .before .before .put .ensures),
+      l .inv .1,
+    )
+
+same-length : tie.Need-same-length Inv-loop μ-loop
+same-length c = c .before .loop .inv .0 .len
+
+returns : tie.Need-returns Inv-loop μ-loop
+unfolding cbcEncrypt
+returns c =
+    done _ _ _ _ _ _ _ (c .before .loop .inv .0) (encrypt-none _) (omega (arith, c .before .loop .inv .0 .len))
+    ∙ all-written _ (c .before .before .before .args .buffer .now)
+
+pub encrypt-buffer-spec : {M : Type 1} → statement M
+encrypt-buffer-spec =
+    tie.close
+    (tie.spec
+    Inv-loop
+    μ-loop
+    loop-holds
+    sub-load-block
+    part-load-block-start
+    part-load-block-end
+    load-block-requires
+    words-requires
+    add-requires
+    encrypt-requires
+    bytes-requires
+    put-requires
+    add-at
+    loop-less
+    loop-again
+    same-length
+    returns)

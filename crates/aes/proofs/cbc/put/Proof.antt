@@ -1,0 +1,73 @@
+-- `cbc::put` meets its contract: byte by byte.
+-- Assumes nothing.
+use native.Mathlib.Omega.{arith}
+use native.Mathlib.Numerals.{add-one}
+use mathlib.Core.Path.{_≡_, refl, sym, ap, _∙_}
+use mathlib.Core.List.{List}
+use Prim.Native.Nat.{ℕ, _+_, _-_, _≤_}
+use lib.ListN.{getD, length, set, length-set}
+use lib.Seq.{paste, paste-zero, paste-suc}
+use borrow.Author.Needs.{needs}
+use Rattle.aes.proofs.cbc.put.Statement.{statement}
+use Rattle.aes.proofs.cbc.put.Tie as tie
+
+abbrev Inv-loop : tie.InvT-loop
+Inv-loop s₀ at b i₀ s i = (i ≤ 16) × (s ≡ paste s₀ at b i) × (length s ≡ length s₀)
+
+abbrev μ-loop : tie.MeasureT-loop
+μ-loop s₀ at b i₀ s i = 16 - i
+
+loop-holds : tie.Need-loop-holds Inv-loop μ-loop
+loop-holds c = (omega arith, paste-zero (c .args .s .now) (c .args .at) (c .args .t3), refl)
+
+array-read-s : tie.Need-array-read-s Inv-loop μ-loop
+array-read-s c = search needs
+
+add-s : tie.Need-add-s Inv-loop μ-loop
+add-s c = search needs
+
+slice-write-s : tie.Need-slice-write-s Inv-loop μ-loop
+slice-write-s c = omega (arith, c .before .loop .inv .2)
+
+add-i : tie.Need-add-i Inv-loop μ-loop
+add-i c = search needs
+
+loop-less : tie.Need-loop-less Inv-loop μ-loop
+loop-less c = search needs
+
+loop-again : tie.Need-loop-again Inv-loop μ-loop
+loop-again c =
+    let l = c .before .loop in
+    let a = c .before .before .args in
+    let n : length (a .t3) ≡ 16 = search needs in (
+      omega arith,
+      ap (λ (x : List ℕ). set x (a .at + l .i) (getD (a .t3) (l .i) 0)) (l .inv .1)
+          ∙ paste-suc (a .s .now) (a .at) (a .t3) (l .i) 0 (omega arith) (omega arith)
+          ∙ ap (paste (a .s .now) (a .at) (a .t3)) (sym (add-one (l .i))),
+      simp length-set (l .inv .2),
+    )
+
+same-length : tie.Need-same-length Inv-loop μ-loop
+same-length c = c .before .loop .inv .2
+
+returns : tie.Need-returns Inv-loop μ-loop
+returns c =
+    let a = c .before .before .args in
+    let e : c .before .loop .i ≡ 16 = omega arith in
+    c .before .loop .inv .1 ∙ ap (paste (a .s .now) (a .at) (a .t3)) e
+
+pub put-spec : {M : Type 1} → statement M
+put-spec =
+    tie.close
+    (tie.spec
+    Inv-loop
+    μ-loop
+    loop-holds
+    array-read-s
+    add-s
+    slice-write-s
+    add-i
+    loop-less
+    loop-again
+    same-length
+    returns)

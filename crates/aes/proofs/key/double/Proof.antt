@@ -1,0 +1,26 @@
+-- `key::double` meets its contract: it computes what `xtime` says, a byte.
+-- Assumes nothing.
+use mathlib.Core.Path.{refl}
+use Rattle.field.specs.Xor.{xor}
+use Rattle.field.specs.Field.{xtime}
+use Rattle.field.proofs.Linear.{xtime-byte}
+use borrow.Author.Needs.{needs}
+use Rattle.aes.proofs.key.double.Statement.{statement}
+use Rattle.aes.proofs.key.double.Tie as tie
+
+mul-result : tie.Need-mul-result
+mul-result c = search needs
+
+mul-result-2 : tie.Need-mul-result-2
+mul-result-2 c = search needs
+
+cast-result : tie.Need-cast-result
+unfolding xtime xor
+cast-result c = record { fits = xtime-byte (c .args .b) (c .fits .b .fits) }
+
+returns : tie.Need-returns
+unfolding xtime xor
+returns c = refl
+
+pub double-spec : {M : Type 1} → statement M
+double-spec = tie.close (tie.spec mul-result mul-result-2 cast-result returns)

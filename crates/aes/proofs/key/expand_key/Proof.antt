@@ -1,0 +1,74 @@
+-- `key::expand_key` meets its contract: key by key.
+-- Assumes nothing.
+use native.Mathlib.Omega.{arith}
+use mathlib.Core.Path.{_≡_, refl}
+use mathlib.Core.List.{[]}
+use Prim.Native.Nat.{_+_, _-_, _≤_}
+use Rattle.field.proofs.Runs.{Filled, fill-more, fill-all}
+use Rattle.aes.specs.Key.{rcon, roundKey, expandKey}
+use Rattle.aes.proofs.Schedule.{rcon-more, key-more, first-key}
+use borrow.Author.Needs.{needs}
+use Rattle.aes.proofs.key.expand_key.Statement.{statement}
+use Rattle.aes.proofs.key.expand_key.Tie as tie
+
+abbrev Inv-loop : tie.InvT-loop
+Inv-loop sb keys₀ k₀ c₀ n₀ keys k c n = (n ≤ 10) × Filled 11 [] (roundKey k₀) keys (n + 1) × (k ≡ roundKey k₀ n) × (c ≡ rcon n)
+
+abbrev μ-loop : tie.MeasureT-loop
+μ-loop sb keys₀ k₀ c₀ n₀ keys k c n = 10 - n
+
+substitution-requires : tie.Need-substitution-requires Inv-loop μ-loop
+substitution-requires c κs = search needs
+
+loop-holds : tie.Need-loop-holds Inv-loop μ-loop
+unfolding roundKey rcon
+loop-holds c = (search needs, first-key _ _ _ refl refl, refl, refl)
+
+next-key-requires : tie.Need-next-key-requires Inv-loop μ-loop
+next-key-requires c κs = search needs
+
+add-keys : tie.Need-add-keys Inv-loop μ-loop
+add-keys c = search needs
+
+mul-keys : tie.Need-mul-keys Inv-loop μ-loop
+mul-keys c = search needs
+
+array-set-from-keys : tie.Need-array-set-from-keys Inv-loop μ-loop
+array-set-from-keys c = search needs
+
+double-requires : tie.Need-double-requires Inv-loop μ-loop
+double-requires c κs = search needs
+
+add-n : tie.Need-add-n Inv-loop μ-loop
+add-n c = search needs
+
+loop-less : tie.Need-loop-less Inv-loop μ-loop
+loop-less c = search needs
+
+loop-again : tie.Need-loop-again Inv-loop μ-loop
+loop-again c =
+    let v = c .before .before .before .before .loop .inv in
+    let key = key-more _ _ _ _ _ (v .2) (v .3) (c .before .next-key .ensures) in
+    (search needs, fill-more _ _ _ _ _ _ (v .1) (omega arith) key, key, rcon-more _ _ _ (v .3) (c .double .ensures))
+
+returns : tie.Need-returns Inv-loop μ-loop
+unfolding expandKey
+returns c = fill-all _ _ _ _ _ (c .before .loop .inv .1) (omega arith)
+
+pub expand-key-spec : {M : Type 1} → statement M
+expand-key-spec =
+    tie.close
+    (tie.spec
+    Inv-loop
+    μ-loop
+    substitution-requires
+    loop-holds
+    next-key-requires
+    add-keys
+    mul-keys
+    array-set-from-keys
+    double-requires
+    add-n
+    loop-less
+    loop-again
+    returns)

@@ -1,0 +1,20 @@
+-- `key::substitute` meets its contract: the table holds the substitutes.
+-- Assumes nothing.
+use mathlib.Core.Path.{_∙_, ap}
+use mathlib.Core.List.{List}
+use Prim.Native.Nat.{ℕ}
+use lib.ListN.{getD}
+use Rattle.field.specs.Sbox.{sbox}
+use Rattle.field.proofs.Runs.{table-at}
+use borrow.Author.Needs.{needs}
+use Rattle.aes.proofs.key.substitute.Statement.{statement}
+use Rattle.aes.proofs.key.substitute.Tie as tie
+
+element-copy-out-result : tie.Need-element-copy-out-result
+element-copy-out-result c = search needs
+
+returns : tie.Need-returns
+returns c = ap (λ (l : List ℕ). getD l (c .before .args .b) 0) (c .before .pre) ∙ table-at sbox (c .before .args .b) (c .before .fits .b .fits)
+
+pub substitute-spec : {M : Type 1} → statement M
+substitute-spec = tie.close (tie.spec element-copy-out-result returns)

@@ -1,0 +1,49 @@
+-- `rounds::inv_last_round` meets its contract: the bytes looked up are the columns of the round back.
+-- Assumes nothing.
+use Rattle.field.specs.Xor.{xor}
+use Rattle.aes.proofs.Steps.{unsub-block, unshift-block}
+use Rattle.aes.proofs.Words.{Words, bytesOf-block, columns-added, unshifted-columns}
+use borrow.Author.Needs.{needs}
+use Rattle.aes.proofs.rounds.inv_last_round.Statement.{statement}
+use Rattle.aes.proofs.rounds.inv_last_round.Tie as tie
+
+look-bytes-requires : tie.Need-look-bytes-requires
+look-bytes-requires c κs = search needs
+
+look-bytes-requires-2 : tie.Need-look-bytes-requires-2
+look-bytes-requires-2 c κs = search needs
+
+look-bytes-requires-3 : tie.Need-look-bytes-requires-3
+look-bytes-requires-3 c κs = search needs
+
+look-bytes-requires-4 : tie.Need-look-bytes-requires-4
+look-bytes-requires-4 c κs = search needs
+
+returns : tie.Need-returns
+unfolding xor
+returns c =
+    let a = c .before .before .before .before .before .before .before .before in
+    let w : Words (a .args .s) =
+    record {
+      fits-a = c .before .look-bytes4 .ensures .1;
+      fits-b = c .before .before .before .before .before .before .before .look-bytes .ensures .1;
+      fits-c = c .before .before .before .before .before .look-bytes2 .ensures .1;
+      fits-d = c .before .before .before .look-bytes3 .ensures .1;
+    } in
+    let b = bytesOf-block (a .args .s) w in
+    columns-added _ (unsub-block _ (unshift-block _ b)) (a .args .k) _ _ _ _
+    (unshifted-columns (a .args .s) w _ _ _ _ _ (a .pre)
+    (c .before .before .before .before .before .before .before .look-bytes .ensures .0)
+    (c .before .before .before .before .before .look-bytes2 .ensures .0)
+    (c .before .before .before .look-bytes3 .ensures .0)
+    (c .before .look-bytes4 .ensures .0))
+
+pub inv-last-round-spec : {M : Type 1} → statement M
+inv-last-round-spec =
+    tie.close
+    (tie.spec
+    look-bytes-requires
+    look-bytes-requires-2
+    look-bytes-requires-3
+    look-bytes-requires-4
+    returns)

@@ -1,0 +1,43 @@
+-- `rounds::round` meets its contract: the words looked up are the columns of the round.
+-- Assumes nothing.
+use Rattle.field.specs.Xor.{xor}
+use Rattle.aes.proofs.Steps.{mix-block, shift-block, sub-block}
+use Rattle.aes.proofs.Words.{Words, bytesOf-block, columns-added, mixed-columns}
+use borrow.Author.Needs.{needs}
+use Rattle.aes.proofs.rounds.round.Statement.{statement}
+use Rattle.aes.proofs.rounds.round.Tie as tie
+
+look-requires : tie.Need-look-requires
+look-requires c κs = search needs
+
+look-requires-2 : tie.Need-look-requires-2
+look-requires-2 c κs = search needs
+
+look-requires-3 : tie.Need-look-requires-3
+look-requires-3 c κs = search needs
+
+look-requires-4 : tie.Need-look-requires-4
+look-requires-4 c κs = search needs
+
+returns : tie.Need-returns
+unfolding xor
+returns c =
+    let a = c .before .before .before .before .before .before .before .before in
+    let w : Words (a .args .s) =
+    record {
+      fits-a = c .before .before .before .before .before .look2 .ensures .1;
+      fits-b = c .before .before .before .look3 .ensures .1;
+      fits-c = c .before .look4 .ensures .1;
+      fits-d = c .before .before .before .before .before .before .before .look .ensures .1;
+    } in
+    let b = bytesOf-block (a .args .s) w in
+    columns-added _ (mix-block _ (shift-block _ (sub-block _ b))) (a .args .k) _ _ _ _
+    (mixed-columns (a .args .s) w _ _ _ _ _ _ _ _ (a .pre)
+    (c .before .before .before .before .before .before .before .look .ensures .0)
+    (c .before .before .before .before .before .look2 .ensures .0)
+    (c .before .before .before .look3 .ensures .0)
+    (c .before .look4 .ensures .0))
+
+pub round-spec : {M : Type 1} → statement M
+round-spec =
+    tie.close (tie.spec look-requires look-requires-2 look-requires-3 look-requires-4 returns)

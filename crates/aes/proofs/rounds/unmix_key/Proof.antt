@@ -1,0 +1,55 @@
+-- `rounds::unmix_key` meets its contract: the four words are the columns mixed back.
+-- Assumes nothing.
+use mathlib.Core.Path.{_∙_, ap, subst}
+use Rattle.aes.specs.State.{Block, invMixColumns}
+use Rattle.aes.specs.Words.{bytesOf}
+use Rattle.aes.proofs.Steps.{unmix-block}
+use Rattle.aes.proofs.Words.{bytesOf-block, columns-bytes, key-columns}
+use borrow.Author.Needs.{needs}
+use Rattle.aes.proofs.rounds.unmix_key.Statement.{statement}
+use Rattle.aes.proofs.rounds.unmix_key.Tie as tie
+
+words-requires : tie.Need-words-requires
+words-requires c κs = search needs
+
+unmix-word-requires : tie.Need-unmix-word-requires
+unmix-word-requires c κs = search needs
+
+unmix-word-requires-2 : tie.Need-unmix-word-requires-2
+unmix-word-requires-2 c κs = search needs
+
+unmix-word-requires-3 : tie.Need-unmix-word-requires-3
+unmix-word-requires-3 c κs = search needs
+
+unmix-word-requires-4 : tie.Need-unmix-word-requires-4
+unmix-word-requires-4 c κs = search needs
+
+bytes-requires : tie.Need-bytes-requires
+bytes-requires c κs = search needs
+
+returns : tie.Need-returns
+returns c =
+    let s = c .before .before .before .before .before .words .result in
+    let e = c .before .before .before .before .before .words .ensures in
+    let p = c .before .before .before .before .unmix-word .ensures in
+    let q = c .before .before .before .unmix-word2 .ensures in
+    let r = c .before .before .unmix-word3 .ensures in
+    let u = c .before .unmix-word4 .ensures in
+    let b = bytesOf-block s (record { fits-a = p .1; fits-b = q .1; fits-c = r .1; fits-d = u .1 }) in (
+      c .bytes .ensures
+          ∙ columns-bytes (invMixColumns (bytesOf s)) (unmix-block (bytesOf s) b) _ (key-columns s _ _ _ _ (p .0) (q .0) (r .0) (u .0))
+          ∙ ap invMixColumns e,
+      subst Block e b,
+    )
+
+pub unmix-key-spec : {M : Type 1} → statement M
+unmix-key-spec =
+    tie.close
+    (tie.spec
+    words-requires
+    unmix-word-requires
+    unmix-word-requires-2
+    unmix-word-requires-3
+    unmix-word-requires-4
+    bytes-requires
+    returns)

@@ -1,0 +1,8 @@
+// AES-128 (FIPS 197) both ways, and cipher block chaining (SP 800-38A, 6.2) both ways.
+//
+// NOT constant-time: tables are read at places that depend on key and data, which whoever shares the processor's cache can observe.
+pub mod block;
+pub mod cbc;
+mod columns;
+pub mod key;
+mod rounds;

@@ -1,0 +1,239 @@
+// The rounds of the cipher, by tables of words, and those of its inverse, two blocks at a time.
+//
+// A round looks up four words for each column: SubBytes, ShiftRows and MixColumns in one. The last round has no MixColumns and takes bytes.
+// The way back is the same with the other tables, once InvMixColumns was applied to the round keys (FIPS 197, 5.3.5): it is linear.
+use super::columns::State;
+use super::columns::add;
+use super::columns::bytes;
+use super::columns::join;
+use super::columns::words;
+ghost use mathlib.Core.Path.{_≡_};
+ghost use Prim.Native.Nat.{_/_, _%_, _<_};
+ghost use Rattle.field.specs.Runs.{table};
+ghost use Rattle.field.specs.Sbox.{sbox, invSbox};
+ghost use Rattle.field.specs.Words.{column, Mixes};
+ghost use Rattle.aes.specs.State.{Block, subBytes, shiftRows, mixColumns, addRoundKey, invShiftRows, invSubBytes, invMixColumns};
+ghost use Rattle.aes.specs.Words.{bytesOf, lookedUp, lookedUpBytes, InverseKeys};
+ghost use Rattle.aes.specs.Cipher.{cipher, invCipher};
+
+// A column by four tables.
+fn look(
+    t0: &[u32; 256],
+    t1: &[u32; 256],
+    t2: &[u32; 256],
+    t3: &[u32; 256],
+    a: u32,
+    b: u32,
+    c: u32,
+    d: u32,
+) -> u32
+    ensures { λ r. ⌜ (r ≡ lookedUp (now (t0 .entry)) (now (t1 .entry)) (now (t2 .entry)) (now (t3 .entry)) a b c d) × (d < 4294967296) ⌝ }
+{
+    t0[(a % 256) as usize]
+        ^ t1[(b / 256 % 256) as usize]
+        ^ t2[(c / 65536 % 256) as usize]
+        ^ t3[(d / 16777216) as usize]
+}
+
+// A column by one table of bytes.
+fn look_bytes(t: &[u8; 256], a: u32, b: u32, c: u32, d: u32) -> u32
+    ensures { λ r. ⌜ (r ≡ lookedUpBytes (now (t .entry)) a b c d) × (d < 4294967296) ⌝ }
+{
+    join(
+        t[(a % 256) as usize],
+        t[(b / 256 % 256) as usize],
+        t[(c / 65536 % 256) as usize],
+        t[(d / 16777216) as usize],
+    )
+}
+
+// A round of the cipher.
+fn round(
+    t0: &[u32; 256],
+    t1: &[u32; 256],
+    t2: &[u32; 256],
+    t3: &[u32; 256],
+    s: State,
+    k: State,
+) -> State
+    requires { ⌜ Mixes sbox 2 3 1 1 (now t0) (now t1) (now t2) (now t3) ⌝ }
+    ensures { λ r. ⌜ bytesOf r ≡ addRoundKey (mixColumns (shiftRows (subBytes (bytesOf s)))) (bytesOf k) ⌝ }
+{
+    State {
+        a: look(t0, t1, t2, t3, s.a, s.b, s.c, s.d) ^ k.a,
+        b: look(t0, t1, t2, t3, s.b, s.c, s.d, s.a) ^ k.b,
+        c: look(t0, t1, t2, t3, s.c, s.d, s.a, s.b) ^ k.c,
+        d: look(t0, t1, t2, t3, s.d, s.a, s.b, s.c) ^ k.d,
+    }
+}
+
+// The last round of the cipher.
+fn last_round(t: &[u8; 256], s: State, k: State) -> State
+    requires { ⌜ now t ≡ table sbox ⌝ }
+    ensures { λ r. ⌜ bytesOf r ≡ addRoundKey (shiftRows (subBytes (bytesOf s))) (bytesOf k) ⌝ }
+{
+    State {
+        a: look_bytes(t, s.a, s.b, s.c, s.d) ^ k.a,
+        b: look_bytes(t, s.b, s.c, s.d, s.a) ^ k.b,
+        c: look_bytes(t, s.c, s.d, s.a, s.b) ^ k.c,
+        d: look_bytes(t, s.d, s.a, s.b, s.c) ^ k.d,
+    }
+}
+
+// A round of the inverse cipher, by a round key that InvMixColumns was applied to.
+fn inv_round(
+    t0: &[u32; 256],
+    t1: &[u32; 256],
+    t2: &[u32; 256],
+    t3: &[u32; 256],
+    s: State,
+    k: State,
+) -> State
+    requires { ⌜ Mixes invSbox 14 11 13 9 (now t0) (now t1) (now t2) (now t3) ⌝ }
+    ensures { λ r. ⌜ (bytesOf r ≡ addRoundKey (invMixColumns (invSubBytes (invShiftRows (bytesOf s)))) (bytesOf k)) × Block (bytesOf s) ⌝ }
+{
+    State {
+        a: look(t0, t1, t2, t3, s.a, s.d, s.c, s.b) ^ k.a,
+        b: look(t0, t1, t2, t3, s.b, s.a, s.d, s.c) ^ k.b,
+        c: look(t0, t1, t2, t3, s.c, s.b, s.a, s.d) ^ k.c,
+        d: look(t0, t1, t2, t3, s.d, s.c, s.b, s.a) ^ k.d,
+    }
+}
+
+// The last round of the inverse cipher.
+fn inv_last_round(t: &[u8; 256], s: State, k: State) -> State
+    requires { ⌜ now t ≡ table invSbox ⌝ }
+    ensures { λ r. ⌜ bytesOf r ≡ addRoundKey (invSubBytes (invShiftRows (bytesOf s))) (bytesOf k) ⌝ }
+{
+    State {
+        a: look_bytes(t, s.a, s.d, s.c, s.b) ^ k.a,
+        b: look_bytes(t, s.b, s.a, s.d, s.c) ^ k.b,
+        c: look_bytes(t, s.c, s.b, s.a, s.d) ^ k.c,
+        d: look_bytes(t, s.d, s.c, s.b, s.a) ^ k.d,
+    }
+}
+
+// InvMixColumns of one column: the tables undo the substitution before they mix.
+fn unmix_word(
+    sb: &[u8; 256],
+    t0: &[u32; 256],
+    t1: &[u32; 256],
+    t2: &[u32; 256],
+    t3: &[u32; 256],
+    x: u32,
+) -> u32
+    requires { ⌜ (now sb ≡ table sbox) × Mixes invSbox 14 11 13 9 (now t0) (now t1) (now t2) (now t3) ⌝ }
+    ensures { λ r. ⌜ (r ≡ column 14 11 13 9 (x % 256) (x / 256 % 256) (x / 65536 % 256) (x / 16777216)) × (x < 4294967296) ⌝ }
+{
+    let y = look_bytes(sb, x, x, x, x);
+    look(t0, t1, t2, t3, y, y, y, y)
+}
+
+// InvMixColumns of a round key.
+fn unmix_key(
+    sb: &[u8; 256],
+    t0: &[u32; 256],
+    t1: &[u32; 256],
+    t2: &[u32; 256],
+    t3: &[u32; 256],
+    k: [u8; 16],
+) -> [u8; 16]
+    requires { ⌜ (now sb ≡ table sbox) × Mixes invSbox 14 11 13 9 (now t0) (now t1) (now t2) (now t3) ⌝ }
+    ensures { λ r. ⌜ (r ≡ invMixColumns k) × Block k ⌝ }
+{
+    let s = words(k);
+    bytes(State {
+        a: unmix_word(sb, t0, t1, t2, t3, s.a),
+        b: unmix_word(sb, t0, t1, t2, t3, s.b),
+        c: unmix_word(sb, t0, t1, t2, t3, s.c),
+        d: unmix_word(sb, t0, t1, t2, t3, s.d),
+    })
+}
+
+// The round keys of the way back.
+pub fn inverse_keys(
+    keys: &[[u8; 16]; 11],
+    sb: &[u8; 256],
+    t0: &[u32; 256],
+    t1: &[u32; 256],
+    t2: &[u32; 256],
+    t3: &[u32; 256],
+) -> [[u8; 16]; 11]
+    requires { ⌜ (now sb ≡ table sbox) × Mixes invSbox 14 11 13 9 (now t0) (now t1) (now t2) (now t3) ⌝ }
+    ensures { λ r. ⌜ InverseKeys (now (keys .entry)) r 11 ⌝ }
+{
+    let mut inverse = [[0u8; 16]; 11];
+    let mut n: usize = 0;
+    while n < 11 {
+        let k = keys[n];
+        let u = unmix_key(sb, t0, t1, t2, t3, k);
+        inverse[n] = u;
+        n += 1;
+    }
+    inverse
+}
+
+// The cipher on four words.
+pub fn encrypt(
+    keys: &[[u8; 16]; 11],
+    sb: &[u8; 256],
+    t0: &[u32; 256],
+    t1: &[u32; 256],
+    t2: &[u32; 256],
+    t3: &[u32; 256],
+    b: State,
+) -> State
+    requires { ⌜ (now sb ≡ table sbox) × Mixes sbox 2 3 1 1 (now t0) (now t1) (now t2) (now t3) ⌝ }
+    ensures { λ r. ⌜ bytesOf r ≡ cipher (now (keys .entry)) (bytesOf b) ⌝ }
+{
+    let first = keys[0];
+    let mut s = add(b, words(first));
+    let mut n: usize = 0;
+    while n < 9 {
+        let k = keys[n + 1];
+        s = round(t0, t1, t2, t3, s, words(k));
+        n += 1;
+    }
+    let last = keys[10];
+    last_round(sb, s, words(last))
+}
+
+// Two blocks.
+pub struct Pair {
+    pub x: State,
+    pub y: State,
+}
+
+// The inverse cipher on two blocks, whose rounds do not wait for each other.
+pub fn decrypt_pair(
+    keys: &[[u8; 16]; 11],
+    inverse: &[[u8; 16]; 11],
+    sb: &[u8; 256],
+    t0: &[u32; 256],
+    t1: &[u32; 256],
+    t2: &[u32; 256],
+    t3: &[u32; 256],
+    p: Pair,
+) -> Pair
+    requires { ⌜ (now sb ≡ table invSbox) × Mixes invSbox 14 11 13 9 (now t0) (now t1) (now t2) (now t3) × InverseKeys (now keys) (now inverse) 11 ⌝ }
+    ensures { λ r. ⌜ (bytesOf (r .x) ≡ invCipher (now (keys .entry)) (bytesOf (p .x))) × (bytesOf (r .y) ≡ invCipher (now (keys .entry)) (bytesOf (p .y))) ⌝ }
+{
+    let first = keys[10];
+    let k = words(first);
+    let mut x = add(p.x, k);
+    let mut y = add(p.y, k);
+    let mut n: usize = 9;
+    while 0 < n {
+        let kn = inverse[n];
+        let kw = words(kn);
+        x = inv_round(t0, t1, t2, t3, x, kw);
+        y = inv_round(t0, t1, t2, t3, y, kw);
+        n -= 1;
+    }
+    let last = keys[0];
+    let kl = words(last);
+    Pair {
+        x: inv_last_round(sb, x, kl),
+        y: inv_last_round(sb, y, kl),
+    }
+}
