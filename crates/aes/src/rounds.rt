@@ -151,7 +151,7 @@ fn unmix_key(
 }
 
 // The round keys of the way back.
-pub fn inverse_keys(
+pub(crate) fn inverse_keys(
     keys: &[[u8; 16]; 11],
     sb: &[u8; 256],
     t0: &[u32; 256],
@@ -174,7 +174,7 @@ pub fn inverse_keys(
 }
 
 // The cipher on four words.
-pub fn encrypt(
+pub(crate) fn encrypt(
     keys: &[[u8; 16]; 11],
     sb: &[u8; 256],
     t0: &[u32; 256],
@@ -205,7 +205,7 @@ pub struct Pair {
 }
 
 // The inverse cipher on two blocks, whose rounds do not wait for each other.
-pub fn decrypt_pair(
+pub(crate) fn decrypt_pair(
     keys: &[[u8; 16]; 11],
     inverse: &[[u8; 16]; 11],
     sb: &[u8; 256],
