@@ -1,2 +1,3 @@
 pub mod Certificates
 pub mod Hearing
+pub mod Quiet

@@ -1,5 +1,6 @@
 -- What a step's answer says, in the paper's own numbers.
 use Prim.Native.Nat.{ℕ}
+use mathlib.Core.Bool.{Bool, true, false}
 use Rattle.hub.specs.declared.Answer.{Answer}
 use Rattle.hub.specs.declared.Answer.the-variants.{Refused, Reply, Again, Failure, Taken, Repeat, Complete}
 use Rattle.joining.specs.declared.Arrival.{Arrival}
@@ -32,3 +33,23 @@ answerOf (refusedPiece n) = Refused n
 answerOf (takenPiece k) = Taken k
 answerOf (repeatedPiece k) = Repeat k
 answerOf (completePiece l k) = Complete l k
+
+-- The answers that leave connection and report buffer alone whatever the message was: a refusal, and Again.
+abbrev pub isQuiet : Answer → Bool
+isQuiet (Refused n) = true
+isQuiet (Reply t) = false
+isQuiet (Again t) = true
+isQuiet Failure = false
+isQuiet (Taken k) = false
+isQuiet (Repeat k) = false
+isQuiet (Complete l k) = false
+
+-- The answer that hands a report out.
+abbrev pub isComplete : Answer → Bool
+isComplete (Refused n) = false
+isComplete (Reply t) = false
+isComplete (Again t) = false
+isComplete Failure = false
+isComplete (Taken k) = false
+isComplete (Repeat k) = false
+isComplete (Complete l k) = true

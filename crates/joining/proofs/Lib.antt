@@ -6,3 +6,4 @@ pub mod Ways
 pub mod Coming
 pub mod Arriving
 pub mod Courses
+pub mod Still
