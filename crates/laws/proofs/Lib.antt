@@ -10,3 +10,4 @@ pub mod Parts
 pub mod Sameness
 pub mod Stores
 pub mod Order
+pub mod Lent

@@ -6,7 +6,7 @@ use mathlib.Core.List.{List, [], _∷_, _++_, append-assoc, append-nil}
 use native.Mathlib.Omega.{arith}
 use native.Mathlib.Numerals.{add-one}
 use lib.ListN.{length, getD, take, drop, set, length-append, length-drop}
-use lib.Seq.{take-at, drop-at, drop-length, take-suc, drop-cons, getD-drop, set-at}
+use lib.Seq.{take-at, drop-at, drop-length, take-suc, drop-cons, getD-take, getD-drop, set-at}
 use Rattle.laws.specs.Bytes.{be8, bytesAt}
 
 pub length-bytesAt : (m : List ℕ) (at n : ℕ) → length (bytesAt m at n) ≡ n
@@ -39,3 +39,12 @@ pub part-back : (a x b : List ℕ) (at n : ℕ) → length a ≡ at → length x
 part-back a x b at n e f =
     let k : at + n ≤ length (a ++ (x ++ b)) = simp length-append (omega arith) in
     rw (bytesAt-part (a ++ (x ++ b)) at n k, drop-at a (x ++ b) at e) (take-at x b n f)
+
+-- The bytes at a place that lies in a front of the list are those of the front.
+pub bytesAt-take : (m : List ℕ) (k at n : ℕ) → at + n ≤ k → bytesAt (take k m) at n ≡ bytesAt m at n
+unfolding bytesAt
+bytesAt-take m k at zero h = refl
+bytesAt-take m k at (suc n) h =
+    let p : at + n ≤ k = omega arith in
+    let q : at + n < k = omega arith in
+    rw (bytesAt-take m k at n p, getD-take k m (at + n) 0 q)

@@ -6,3 +6,4 @@ pub mod Hashing
 pub mod Digesting
 pub mod Keys
 pub mod Tags
+pub mod Lengths

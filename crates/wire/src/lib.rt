@@ -2,7 +2,7 @@
 // numbers of the refusals. Nothing here knows keys or remembers anything.
 pub mod chain;
 pub mod header;
-mod numbers;
+pub mod numbers;
 pub mod payload;
 pub mod refusals;
 mod stores;

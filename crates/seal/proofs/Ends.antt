@@ -1,0 +1,26 @@
+-- The end of a block against a run of one byte, from the block's end down: one byte more. Assumes nothing.
+use Prim.Native.Nat.{ℕ, suc, _+_, _-_, _≤_, _<_}
+use mathlib.Core.Path.{_≡_, refl, _∙_, ap}
+use mathlib.Core.List.{List, _∷_}
+use mathlib.Core.Bool.{Bool, not, true, false, _&&_, _||_}
+use native.Mathlib.Omega.{arith}
+use lib.Dec.{eqb}
+use lib.ListN.{length, getD, drop, replicate}
+use lib.Seq.{drop-cons}
+use Rattle.laws.specs.Same.{same}
+
+not-both : (a b : Bool) → not a || not b ≡ not (b && a)
+not-both true true = refl
+not-both true false = refl
+not-both false true = refl
+not-both false false = refl
+
+pub end-more : (n : ℕ) (block : List ℕ) (byte i : ℕ) (bad : Bool) → length block ≡ n → 0 < i → i ≤ n
+    → bad ≡ not (same (drop i block) (replicate (n - i) byte))
+    → bad || not (eqb (getD block (i - 1) 0) byte) ≡ not (same (drop (i - 1) block) (replicate (n - (i - 1)) byte))
+end-more n block byte i bad l p q e =
+    let s : suc (i - 1) ≡ i = omega arith in
+    let k : n - (i - 1) ≡ suc (n - i) = omega arith in
+    let d : drop (i - 1) block ≡ getD block (i - 1) 0 ∷ drop i block =
+    drop-cons block (i - 1) 0 (omega arith) ∙ ap (λ (m : ℕ). getD block (i - 1) 0 ∷ drop m block) s in
+    rw (e, k, d) (not-both (same (drop i block) (replicate (n - i) byte)) (eqb (getD block (i - 1) 0) byte))

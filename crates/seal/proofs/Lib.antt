@@ -1,0 +1,5 @@
+pub mod Ends
+pub mod Padded
+pub mod Opened
+pub mod Filling
+pub mod Seals

@@ -1,0 +1,157 @@
+-- An opened sealed part, by its first and its last block. Assumes nothing.
+use Prim.Native.Nat.{ℕ, suc, _+_, _-_, _*_, _/_, _%_, _≤_, _<_}
+use mathlib.Core.Path.{_≡_, refl, sym, _∙_}
+use mathlib.Core.List.{List, [], _∷_, _++_}
+use mathlib.Core.Bool.{Bool, true, false, not, _||_}
+use native.Mathlib.Omega.{arith}
+use lib.ListN.{length, take, drop, length-drop}
+use lib.Seq.{take-all, length-take-le}
+use lib.Dec.{ltb, leb, eqb}
+use borrow.Author.Tests.{lt-ltb, le-ltb, le-leb, ltb-false, leb-false, eq-eqb, ne-eqb, eqb-true, not-false}
+use Rattle.laws.proofs.Bools.{or-false}
+use Rattle.laws.proofs.Firsts.{first-quiet}
+use Rattle.aes.specs.Key.{expandKey}
+use Rattle.aes.specs.Cbc.{cbcDecrypt, cbcDecryptBlock, blockBefore, written}
+use Rattle.aes.proofs.Chain.{cbcDecrypt-length}
+use Rattle.aes.proofs.Ends.{cbcDecrypt-first, cbcDecrypt-last}
+use Rattle.seal.specs.Padding.{badPlain, badBlocks}
+use Rattle.seal.specs.Opening.{bodyOf, tagIn, sealedPart, plainOf, noPart, partRefusal, partInto, openRefusal, openedInto, intoUnless}
+use Rattle.seal.specs.Keys.{vector, tagOf}
+use Rattle.laws.specs.Same.{same}
+use Rattle.seal.proofs.Padded.{badPlain-blocks}
+
+module _ (keys : List (List ℕ)) (v sealed : List ℕ) (blocks : length sealed % 16 ≡ 0) where
+  -- A sealed part of one block: it is the first and the last.
+  pub last-only : length sealed ≡ 16
+      → cbcDecryptBlock keys v (take 16 (drop (length sealed - 16) sealed)) ≡ drop (length sealed - 16) (cbcDecrypt keys v sealed)
+  last-only e =
+      let l = cbcDecrypt-length keys v sealed blocks in
+      let z : length sealed - 16 ≡ 0 = omega arith in
+      rw (z, ← cbcDecrypt-first keys v sealed (omega arith))
+      (take-all 16 (cbcDecrypt keys v sealed) (omega arith))
+
+  pub last-of-more : (length sealed ≡ 16 → ⊥) → 16 ≤ length sealed
+      → cbcDecryptBlock keys (take 16 (drop (length sealed - 32) sealed)) (take 16 (drop (length sealed - 16) sealed))
+      ≡ drop (length sealed - 16) (cbcDecrypt keys v sealed)
+  unfolding blockBefore
+  last-of-more e h =
+      let l = cbcDecrypt-length keys v sealed blocks in
+      let k = (length sealed - 32) / 16 in
+      let n : length sealed ≡ 16 * suc k + 16 = omega arith in
+      let before : length sealed - 32 ≡ 16 * k = omega arith in
+      let last : length sealed - 16 ≡ 16 * suc k = omega arith in
+      let d = length-drop (16 * suc k) sealed in
+      let o = length-drop (16 * suc k) (cbcDecrypt keys v sealed) in
+      rw (before, last, take-all 16 (drop (16 * suc k) sealed) (omega arith))
+      (sym (cbcDecrypt-last keys v sealed (suc k) n) ∙ take-all 16 (drop (16 * suc k) (cbcDecrypt keys v sealed)) (omega arith))
+
+  -- So two blocks decide 13.
+  pub part-judged : (front end : List ℕ) (r : Bool) → 16 ≤ length sealed
+      → front ≡ cbcDecryptBlock keys v (take 16 sealed) → end ≡ drop (length sealed - 16) (cbcDecrypt keys v sealed)
+      → r ≡ badBlocks (length sealed) front end → r ≡ badPlain (cbcDecrypt keys v sealed)
+  part-judged front end r h f e j =
+      let l = cbcDecrypt-length keys v sealed blocks in
+      rw (j, f, e, ← cbcDecrypt-first keys v sealed h, ← l)
+      (sym (badPlain-blocks (cbcDecrypt keys v sealed) (omega arith)))
+
+-- What the rows 1, 3 and 9 leave.
+pub record Placed (given start : ℕ) : Type 0 where
+  pub long : 42 ≤ given
+  pub short : given < 65536
+  pub before-tag : start < given - 32
+  pub blocks : (given - 32 - start) % 16 ≡ 0
+
+pub placed : (given start : ℕ) → noPart given start ≡ 0 → Placed given start
+unfolding noPart
+placed given start e =
+    let q = first-quiet ((1, ltb given 42) ∷ (3, ltb 65535 given)
+    ∷ (9, leb (given - 32) start || not (eqb ((given - 32 - start) % 16) 0)) ∷ []) refl e in
+    let nine = or-false (leb (given - 32) start) _ (q .1 .1 .0) in
+    let long = ltb-false given 42 (q .0) in
+    let short = ltb-false 65535 given (q .1 .0) in
+    record {
+      long = long;
+      short = omega arith;
+      before-tag = leb-false (given - 32) start (nine .0);
+      blocks = eqb-true _ 0 (not-false _ (nine .1));
+    }
+
+-- A refusal leaves the working buffer as it was.
+pub into-refused : (n : ℕ) (plain working : List ℕ) → (n ≡ 0 → ⊥) → intoUnless n plain working ≡ working
+unfolding intoUnless
+into-refused n plain working h = rw (ne-eqb n 0 h)
+
+-- What the calls hand on, put together: the round keys and the vector of `plainOf`.
+pub opens : (keys m sealed key v : List ℕ) (ks : List (List ℕ)) → key ≡ take 16 keys → ks ≡ expandKey key → v ≡ vector keys m
+    → cbcDecrypt ks v sealed ≡ plainOf keys m sealed
+unfolding plainOf
+opens keys m sealed key v ks a b d = rw (b, a, d)
+
+pub judged : (keys m sealed key v : List ℕ) (ks : List (List ℕ)) (r : Bool) → key ≡ take 16 keys → ks ≡ expandKey key → v ≡ vector keys m
+    → r ≡ badPlain (cbcDecrypt ks v sealed) → r ≡ badPlain (plainOf keys m sealed)
+judged keys m sealed key v ks r a b d e = e ∙ rw (opens keys m sealed key v ks a b d)
+
+-- What a call of the decryption leaves where whole blocks have room.
+pub decrypted : (ks : List (List ℕ)) (v sealed working after : List ℕ) → length sealed % 16 ≡ 0 → length sealed ≤ length working
+    → after ≡ written sealed (cbcDecrypt ks v sealed) working → after ≡ cbcDecrypt ks v sealed ++ drop (length sealed) working
+decrypted ks v sealed working after blocks room e =
+    e ∙ rw (eq-eqb (length sealed % 16) 0 blocks, le-leb (length sealed) (length working) room)
+
+module _ (keys m sealed working : List ℕ) where
+  -- Refusal 12, and 13 behind it.
+  pub part-12 : length working < length sealed
+      → (12 ≡ partRefusal keys m sealed (length working)) × (working ≡ partInto keys m sealed working)
+  unfolding partRefusal partInto intoUnless
+  part-12 h = let t = lt-ltb (length working) (length sealed) h in (rw t, rw t)
+
+  pub part-13 : length sealed ≤ length working → badPlain (plainOf keys m sealed) ≡ true
+      → (13 ≡ partRefusal keys m sealed (length working)) × (working ≡ partInto keys m sealed working)
+  unfolding partRefusal partInto intoUnless
+  part-13 h b = let t = le-ltb (length working) (length sealed) h in (rw (t, b), rw (t, b))
+
+  pub part-opened : length sealed ≤ length working → length sealed % 16 ≡ 0 → badPlain (plainOf keys m sealed) ≡ false
+      → (0 ≡ partRefusal keys m sealed (length working)) × (plainOf keys m sealed ++ drop (length sealed) working ≡ partInto keys m sealed working)
+  unfolding partRefusal partInto intoUnless plainOf
+  part-opened h blocks b =
+      let t = le-ltb (length working) (length sealed) h in
+      (rw (t, b), rw (t, b, cbcDecrypt-length _ _ sealed blocks))
+
+-- The way through `open`: each return is the row that led there, and a refusal leaves the working buffer alone.
+module _ (keys m : List ℕ) (start : ℕ) (working : List ℕ) where
+  abbrev pub Answered : ℕ → List ℕ → Type 0
+  Answered n after = (n ≡ openRefusal keys m start (length working)) × (after ≡ openedInto keys m start working)
+
+  refused : (n : ℕ) → (n ≡ 0 → ⊥) → n ≡ openRefusal keys m start (length working) → Answered n working
+  unfolding openedInto
+  refused n h e = (e, rw (← e) (sym (into-refused n (plainOf keys m (sealedPart m start)) working h)))
+
+  pub misplaced : (n : ℕ) → (n ≡ 0 → ⊥) → n ≡ noPart (length m) start → Answered n working
+  unfolding openRefusal
+  misplaced n h e = refused n h (rw (← e, ne-eqb n 0 h))
+
+  module _ (there : noPart (length m) start ≡ 0) where
+    pub no-keys : (length keys ≡ 64 → ⊥) → Answered 10 working
+    unfolding openRefusal
+    no-keys h = refused 10 (λ e. omega arith) (rw (there, ne-eqb (length keys) 64 h))
+
+    module _ (whole : length keys ≡ 64) where
+      pub other-tag : not (same (tagOf keys (bodyOf m)) (tagIn m)) ≡ true → Answered 11 working
+      unfolding openRefusal
+      other-tag t = refused 11 (λ e. omega arith) (rw (there, eq-eqb (length keys) 64 whole, t))
+
+      pub right-tag : not (same (tagOf keys (bodyOf m)) (tagIn m)) ≡ false → (n : ℕ) (after : List ℕ)
+          → n ≡ partRefusal keys m (sealedPart m start) (length working) → after ≡ partInto keys m (sealedPart m start) working → Answered n after
+      unfolding openRefusal openedInto partInto
+      right-tag t n after r a =
+          let e : openRefusal keys m start (length working) ≡ partRefusal keys m (sealedPart m start) (length working) =
+          rw (there, eq-eqb (length keys) 64 whole, t) in
+          (r ∙ sym e, a ∙ rw e)
+
+-- The sealed part of a message that is placed: whole blocks, and not none.
+pub part-blocks : (m : List ℕ) (start : ℕ) → Placed (length m) start
+    → (16 ≤ length (take (length m - 32 - start) (drop start m))) × (length (take (length m - 32 - start) (drop start m)) % 16 ≡ 0)
+part-blocks m start p =
+    let d = length-drop start m in
+    let l : length (take (length m - 32 - start) (drop start m)) ≡ length m - 32 - start =
+    length-take-le (length m - 32 - start) (drop start m) (omega arith) in
+    rw l (omega arith, p .blocks)

@@ -1,0 +1,47 @@
+-- Going down from the block's end, the bytes looked at are `drop i block`: one byte more is one `∷` more on both sides of `same`.
+-- Assumes nothing.
+use mathlib.Core.Path.{_≡_, refl}
+use mathlib.Core.Bool.{Bool, not, true, false, _&&_, _||_}
+use Prim.Native.Nat.{ℕ, _≤_, _<_, _-_, suc}
+use native.Mathlib.Omega.{arith}
+use borrow.Author.Needs.{needs}
+use lib.ListN.{length, drop, replicate, drop-of-length-le}
+use Rattle.laws.specs.Same.{same}
+use Rattle.seal.proofs.Ends.{end-more}
+use Rattle.seal.proofs.padding.differs.Statement.{statement}
+use Rattle.seal.proofs.padding.differs.Tie as tie
+
+abbrev Inv-loop : tie.InvT-loop
+Inv-loop from byte block bad₀ i₀ bad i =
+    (from ≤ i) × (i ≤ 16) × (bad ≡ not (same (drop i block) (replicate (16 - i) byte)))
+
+abbrev μ-loop : tie.MeasureT-loop
+μ-loop from byte block bad₀ i₀ bad i = i
+
+loop-holds : tie.Need-loop-holds Inv-loop μ-loop
+loop-holds c =
+    let l : length (c .args .t1) ≤ 16 = omega arith in
+    (omega arith, omega arith, rw (drop-of-length-le (c .args .t1) l))
+
+sub-i : tie.Need-sub-i Inv-loop μ-loop
+sub-i c = search needs
+
+array-read-bad : tie.Need-array-read-bad Inv-loop μ-loop
+array-read-bad c = search needs
+
+loop-less : tie.Need-loop-less Inv-loop μ-loop
+loop-less c = search needs
+
+loop-again : tie.Need-loop-again Inv-loop μ-loop
+loop-again c =
+    let block = c .before .before .args .t1 in
+    let l : length block ≡ 16 = omega arith in
+    (omega arith, omega arith, end-more 16 block _ (c .before .loop .i) _ l (omega arith) (omega arith) (c .before .loop .inv .2))
+
+returns : tie.Need-returns Inv-loop μ-loop
+returns c = let e : c .before .loop .i ≡ c .before .before .args .from = omega arith in rw (← e) (c .before .loop .inv .2)
+
+pub differs-spec : {M : Type 1} → statement M
+differs-spec =
+    tie.close
+    (tie.spec Inv-loop μ-loop loop-holds sub-i array-read-bad loop-less loop-again returns)

@@ -1,0 +1,20 @@
+-- The code is the definition, and a remainder by 16 is below 16. Assumes nothing.
+use native.Mathlib.Omega.{arith}
+use mathlib.Core.Path.{refl}
+use Rattle.seal.specs.Padding.{padding}
+use borrow.Author.Needs.{needs}
+use Rattle.seal.proofs.padding.padding.Statement.{statement}
+use Rattle.seal.proofs.padding.padding.Tie as tie
+
+add-result : tie.Need-add-result
+add-result c = search needs
+
+sub-result : tie.Need-sub-result
+sub-result c = search needs
+
+returns : tie.Need-returns
+unfolding padding
+returns c = (refl, omega arith)
+
+pub padding-spec : {M : Type 1} → statement M
+padding-spec = tie.close (tie.spec add-result sub-result returns)

@@ -1,0 +1,4 @@
+pub mod Padding
+pub mod Keys
+pub mod Opening
+pub mod Sealed

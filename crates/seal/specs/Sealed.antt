@@ -1,0 +1,36 @@
+-- Sealing: a message that is written up to its payload gets its sealed part and its tag.
+use Prim.Native.Nat.{ℕ, _+_}
+use mathlib.Core.List.{List, [], _∷_, _++_}
+use mathlib.Core.Bool.{not, cond}
+use lib.ListN.{length, take, drop}
+use lib.Dec.{ltb, eqb}
+use Rattle.laws.specs.Rows.{first}
+use Rattle.aes.specs.Key.{expandKey}
+use Rattle.aes.specs.Cbc.{cbcEncrypt}
+use Rattle.seal.specs.Keys.{encryptionKey, vector, tagOf}
+use Rattle.seal.specs.Padding.{sealedSize, plainText}
+
+-- A message up to its tag: what stands before the payload, and the payload sealed.
+unfoldable pub sealedBody : List ℕ → List ℕ → List ℕ → List ℕ
+sealedBody keys before payload = before ++ cbcEncrypt (expandKey (encryptionKey keys)) (vector keys before) (plainText payload)
+
+-- The whole message, its tag behind it.
+unfoldable pub sealedMessage : List ℕ → List ℕ → List ℕ → List ℕ
+sealedMessage keys before payload = sealedBody keys before payload ++ tagOf keys (sealedBody keys before payload)
+
+-- What refuses to seal a payload of `size` bytes, with so many key bytes, behind the first `start` bytes of an output of `room` bytes. The
+-- longest message has 65,535 bytes, so 65,503 may stand before its tag.
+unfoldable pub sealRefusal : ℕ → ℕ → ℕ → ℕ → ℕ
+sealRefusal keys start size room = first
+    ((1, ltb start 42)
+    ∷ (3, ltb 65503 (start + sealedSize size))
+    ∷ (10, not (eqb keys 64))
+    ∷ (22, ltb room (start + sealedSize size + 32))
+    ∷ [])
+
+-- The output afterwards: untouched by a refusal; else the sealed message, and what stood behind it.
+unfoldable pub sealedInto : List ℕ → ℕ → List ℕ → List ℕ → List ℕ
+sealedInto keys start payload out =
+    cond (eqb (sealRefusal (length keys) start (length payload) (length out)) 0)
+    (sealedMessage keys (take start out) payload ++ drop (start + sealedSize (length payload) + 32) out)
+    out

@@ -1,0 +1,5 @@
+// The sealed part of a message, as document 01's 'Sealing' states it.
+mod key;
+pub mod opening;
+pub mod padding;
+pub mod sealing;

@@ -1,0 +1,120 @@
+// Opening a sealed message. Its parts, and what decides each refusal:
+//
+//     | header and chain | sealed part: whole blocks (9) | tag (11) |
+//     0                start                        length - 32   length
+//
+// The first and the last block of the sealed part decide 13 in locals, so that nothing is written to the working buffer before.
+use crate::key::KEYS;
+use crate::key::block_at;
+use crate::key::tag_of;
+use crate::key::vector;
+use crate::padding::bad_blocks;
+use wire::header::SHORTEST;
+use wire::header::TAG;
+use wire::refusals::SHORT_WORKING;
+use wire::refusals::TOO_SHORT;
+use wire::refusals::WRONG_KEYS;
+use wire::refusals::WRONG_LENGTH;
+use wire::refusals::WRONG_PADDING;
+use wire::refusals::WRONG_SEALED_SIZE;
+use wire::refusals::WRONG_TAG;
+ghost use mathlib.Core.Path.{_≡_};
+ghost use mathlib.Core.Bool.{not};
+ghost use Prim.Native.Nat.{_+_, _-_, _≤_, _<_, _%_};
+ghost use lib.ListN.{length, take, drop};
+ghost use Rattle.laws.specs.Same.{same};
+ghost use Rattle.aes.specs.Cbc.{cbcDecrypt};
+ghost use Rattle.seal.specs.Keys.{tagOf};
+ghost use Rattle.seal.specs.Padding.{badPlain};
+ghost use Rattle.seal.specs.Opening.{bodyOf, tagIn, noPart, partRefusal, partInto, openRefusal, openedInto};
+
+// The number of the first of 1, 3 and 9 that applies to a message of `given` bytes whose sealed part starts at `start`, or 0.
+fn no_part(given: usize, start: usize) -> u8
+    ensures { λ r. ⌜ r ≡ noPart given start ⌝ }
+{
+    if given < SHORTEST {
+        return TOO_SHORT;
+    }
+    if 65535 < given {
+        return WRONG_LENGTH;
+    }
+    if given - TAG <= start {
+        return WRONG_SEALED_SIZE;
+    }
+    if (given - TAG - start) % 16 != 0 {
+        return WRONG_SEALED_SIZE;
+    }
+    0
+}
+
+// Refusal 11: whether the message's last 32 bytes are other than the tag of what stands before them.
+fn wrong_tag(keys: &[u8], message: &[u8]) -> bool
+    requires { ⌜ (length (now keys) ≡ 64) × (42 ≤ length (now message)) × (length (now message) < 65536) ⌝ }
+    ensures { λ r. ⌜ r ≡ not (same (tagOf (now (keys .entry)) (bodyOf (now (message .entry)))) (tagIn (now (message .entry)))) ⌝ }
+{
+    let end = message.len() - TAG;
+    let tag = tag_of(keys, &message[0..end]);
+    !sha256::same_tag(tag, &message[end..])
+}
+
+// The plain text of the last block of a sealed part. The block before it, or the vector, was chained into it.
+fn last_block(keys: &[[u8; 16]; 11], vector: [u8; 16], sealed: &[u8]) -> [u8; 16]
+    requires { ⌜ (16 ≤ length (now sealed)) × (length (now sealed) % 16 ≡ 0) ⌝ }
+    ensures { λ r. ⌜ r ≡ drop (length (now (sealed .entry)) - 16) (cbcDecrypt (now (keys .entry)) vector (now (sealed .entry))) ⌝ }
+{
+    let size = sealed.len();
+    let last = block_at(sealed, size - 16);
+    if size == 16 {
+        return aes::cbc::cbc_decrypt_block(keys, vector, last);
+    }
+    aes::cbc::cbc_decrypt_block(keys, block_at(sealed, size - 32), last)
+}
+
+// Refusal 13 of a sealed part, before it is opened into the working buffer.
+fn bad_part(keys: &[[u8; 16]; 11], vector: [u8; 16], sealed: &[u8]) -> bool
+    requires { ⌜ (16 ≤ length (now sealed)) × (length (now sealed) % 16 ≡ 0) ⌝ }
+    ensures { λ r. ⌜ r ≡ badPlain (cbcDecrypt (now (keys .entry)) vector (now (sealed .entry))) ⌝ }
+{
+    let front = aes::cbc::cbc_decrypt_block(keys, vector, block_at(sealed, 0));
+    let end = last_block(keys, vector, sealed);
+    bad_blocks(sealed.len(), front, end)
+}
+
+// Opens a sealed part that was found in a message whose tag is right: 12 or 13, or 0.
+fn open_part(keys: &[u8], message: &[u8], sealed: &[u8], working: &mut [u8]) -> u8
+    requires { ⌜ (length (now keys) ≡ 64) × (42 ≤ length (now message)) ⌝ }
+    requires { ⌜ (16 ≤ length (now sealed)) × (length (now sealed) % 16 ≡ 0) ⌝ }
+    ensures { λ r. ⌜ r ≡ partRefusal (now (keys .entry)) (now (message .entry)) (now (sealed .entry)) (length (now (working .entry))) ⌝ }
+    ensures { λ _. ⌜ now (working .exit) ≡ partInto (now (keys .entry)) (now (message .entry)) (now (sealed .entry)) (now (working .entry)) ⌝ }
+{
+    if working.len() < sealed.len() {
+        return SHORT_WORKING;
+    }
+    let round_keys = aes::key::expand_key(block_at(keys, 0));
+    let first = vector(keys, message);
+    if bad_part(&round_keys, first, sealed) {
+        return WRONG_PADDING;
+    }
+    aes::cbc::cbc_decrypt(&round_keys, first, sealed, working);
+    0
+}
+
+// Opens the sealed part that starts at `start` into the working buffer: the number of the first refusal that applies, or 0. A refusal leaves
+// the working buffer as it was; else its first bytes hold size, payload and padding.
+pub fn open(keys: &[u8], message: &[u8], start: usize, working: &mut [u8]) -> u8
+    ensures { λ r. ⌜ r ≡ openRefusal (now (keys .entry)) (now (message .entry)) start (length (now (working .entry))) ⌝ }
+    ensures { λ _. ⌜ now (working .exit) ≡ openedInto (now (keys .entry)) (now (message .entry)) start (now (working .entry)) ⌝ }
+{
+    let misplaced = no_part(message.len(), start);
+    if misplaced != 0 {
+        return misplaced;
+    }
+    if keys.len() != KEYS {
+        return WRONG_KEYS;
+    }
+    if wrong_tag(keys, message) {
+        return WRONG_TAG;
+    }
+    let end = message.len() - TAG;
+    open_part(keys, message, &message[start..end], working)
+}

@@ -1,0 +1,23 @@
+-- A digest and an HMAC have thirty-two bytes. Assumes nothing.
+use Prim.Native.Nat.{ℕ, _^_}
+use mathlib.Core.Path.{_≡_, refl}
+use mathlib.Core.Bool.{Bool, true, false, cond}
+use mathlib.Core.List.{List, _++_}
+use lib.Dec.{ltb}
+use lib.ListN.{length, replicate}
+use Rattle.sha256.specs.declared.rounds.Vars.{Vars}
+use Rattle.sha256.specs.Digests.{bytesOf, digest}
+use Rattle.sha256.specs.Macs.{hmac}
+
+either : (defined : Bool) (v : Vars) → length (cond defined (bytesOf v) (replicate 32 0)) ≡ 32
+unfolding bytesOf
+either true v = refl
+either false v = refl
+
+pub length-digest : (m : List ℕ) → length (digest m) ≡ 32
+unfolding digest
+length-digest m = either (ltb (length m) (2 ^ 61)) _
+
+pub length-hmac : (key text : List ℕ) → length (hmac key text) ≡ 32
+unfolding hmac
+length-hmac key text = length-digest _
