@@ -3,3 +3,4 @@ pub mod Padded
 pub mod Opened
 pub mod Filling
 pub mod Seals
+pub mod Accepted

@@ -1,0 +1,60 @@
+-- The reader of messages: 1 to 9, "for sealed messages 10 to 13; 14", the first that applies; what it answers, and what the working buffer then
+-- holds.
+use Prim.Native.Nat.{ℕ}
+use mathlib.Core.List.{List, [], _∷_}
+use mathlib.Core.Bool.{true, false, cond}
+use lib.ListN.{length, take, drop}
+use lib.Dec.{eqb}
+use Rattle.laws.specs.Bytes.{be32}
+use Rattle.laws.specs.Rows.{first, orElse}
+use Rattle.wire.specs.Fields.{isSealed}
+use Rattle.wire.specs.Refusals.{wrongPayload}
+use Rattle.wire.specs.Payload.{badPayload}
+use Rattle.wire.specs.Reader.{readHeader}
+use Rattle.wire.specs.declared.header.Header.{Header}
+use Rattle.wire.specs.declared.header.HeaderRead.{HeaderRead}
+use Rattle.wire.specs.declared.header.HeaderRead.the-variants as head
+use Rattle.seal.specs.Padding.{payloadOf}
+use Rattle.seal.specs.Opening.{sealedPart, plainOf, openRefusal, openedInto}
+use Rattle.message.specs.declared.reading.MessageRead.{MessageRead}
+use Rattle.message.specs.declared.reading.MessageRead.the-variants.{Refused, Read}
+
+-- The opened sealed part of a message.
+abbrev pub opened : List ℕ → List ℕ → ℕ → List ℕ
+opened m keys start = plainOf keys m (sealedPart m start)
+
+-- The refusal, or where there is none the answer.
+abbrev pub unless : ℕ → MessageRead → MessageRead
+unless n read = cond (eqb n 0) read (Refused n)
+
+-- A plain message: 14 is left to test, and the payload stands in the message.
+unfoldable pub plainRead : List ℕ → Header → ℕ → ℕ → MessageRead
+plainRead m h start size = unless
+    (first ((wrongPayload, badPayload (h .kind) false (take size (drop start m))) ∷ []))
+    (Read h false start size)
+
+-- A sealed message: 10 to 13, then 14; "handed out as a part … of the working buffer if it was sealed", behind the four bytes of its size.
+unfoldable pub sealedRead : List ℕ → List ℕ → Header → ℕ → ℕ → MessageRead
+sealedRead m keys h start room = unless
+    (orElse (openRefusal keys m start room)
+    (first ((wrongPayload, badPayload (h .kind) true (payloadOf (opened m keys start))) ∷ [])))
+    (Read h true 4 (be32 (opened m keys start) 0))
+
+-- What follows the header, by what reading the header answered.
+abbrev pub behindHeader : HeaderRead → List ℕ → List ℕ → ℕ → MessageRead
+behindHeader (head.Refused n) m keys room = Refused n
+behindHeader (head.Read h start size) m keys room =
+    cond (isSealed (h .flags)) (sealedRead m keys h start room) (plainRead m h start size)
+
+-- What the reader answers, with a working buffer of `room` bytes.
+unfoldable pub readMessage : List ℕ → List ℕ → ℕ → MessageRead
+readMessage m keys room = behindHeader (readHeader m) m keys room
+
+abbrev pub workingBehind : HeaderRead → List ℕ → List ℕ → List ℕ → List ℕ
+workingBehind (head.Refused n) m keys working = working
+workingBehind (head.Read h start size) m keys working = cond (isSealed (h .flags)) (openedInto keys m start working) working
+
+-- "The working buffer is untouched by refusals 1 to 13 … and by plain messages. After a sealed message got past 13 its first bytes hold the
+-- opened sealed part, the rest is unchanged."
+unfoldable pub workingAfter : List ℕ → List ℕ → List ℕ → List ℕ
+workingAfter m keys working = workingBehind (readHeader m) m keys working

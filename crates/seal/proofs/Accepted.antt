@@ -1,0 +1,106 @@
+-- What holds of a message whose sealed part was opened: its tag is right, its plain text is as the padding rule gives, and that plain text stands
+-- at the start of the working buffer. Assumes nothing.
+use Prim.Native.Nat.{ℕ, _+_, _-_, _%_, _≤_, _<_}
+use mathlib.Core.Path.{_≡_, refl, sym, _∙_}
+use mathlib.Core.List.{List, [], _∷_, _++_}
+use mathlib.Core.Bool.{Bool, true, false, not, cond, _||_}
+use native.Mathlib.Omega.{arith}
+use lib.ListN.{length, take, drop, getD, List·getD-append, length-drop, length-append}
+use lib.Seq.{drop-append-le, take-append-le, length-take-le}
+use lib.Dec.{ltb, eqb}
+use borrow.Author.Tests.{eq-eqb, ltb-false, eqb-true, eqb-false, not-false}
+use Rattle.laws.specs.Bytes.{be32}
+use Rattle.laws.specs.Rows.{first, orElse}
+use Rattle.laws.specs.Same.{same}
+use Rattle.laws.proofs.Bools.{or-false}
+use Rattle.laws.proofs.Firsts.{first-quiet}
+use Rattle.aes.proofs.Chain.{cbcDecrypt-length}
+use Rattle.seal.specs.Keys.{tagOf}
+use Rattle.seal.specs.Padding.{sealedSize, badPlain, payloadOf}
+use Rattle.seal.specs.Opening.{bodyOf, tagIn, sealedPart, plainOf, noPart, partRefusal, openRefusal, intoUnless, openedInto}
+use Rattle.seal.proofs.Opened.{Placed, placed, part-blocks}
+
+-- Two tables of which neither refuses.
+or-else-zero : (a b : ℕ) (t : Bool) → eqb a 0 ≡ t → cond t b a ≡ 0 → (a ≡ 0) × (b ≡ 0)
+or-else-zero a b true e z = (eqb-true a 0 e, z)
+or-else-zero a b false e z = absurd (eqb-false a 0 e z)
+
+pub neither : (a b : ℕ) → orElse a b ≡ 0 → (a ≡ 0) × (b ≡ 0)
+neither a b z = or-else-zero a b (eqb a 0) refl z
+
+-- Nothing of 10 to 13 applies.
+pub record Accepted (keys m : List ℕ) (start room : ℕ) : Type 0 where
+  pub place : Placed (length m) start
+  pub keys64 : length keys ≡ 64
+  pub tag : same (tagOf keys (bodyOf m)) (tagIn m) ≡ true
+  pub roomy : length (sealedPart m start) ≤ room
+  pub ruled : badPlain (plainOf keys m (sealedPart m start)) ≡ false
+
+module _ (keys m : List ℕ) (start room : ℕ) (e : openRefusal keys m start room ≡ 0) where
+  tables : (noPart (length m) start ≡ 0) × (orElse (first ((10, not (eqb (length keys) 64)) ∷ (11, not (same (tagOf keys (bodyOf m)) (tagIn m))) ∷ []))
+      (partRefusal keys m (sealedPart m start) room) ≡ 0)
+  unfolding openRefusal
+  tables = neither _ _ e
+
+  behind : (first ((10, not (eqb (length keys) 64)) ∷ (11, not (same (tagOf keys (bodyOf m)) (tagIn m))) ∷ []) ≡ 0)
+      × (partRefusal keys m (sealedPart m start) room ≡ 0)
+  behind = neither _ _ (tables .1)
+
+  pub accepted : Accepted keys m start room
+  unfolding partRefusal
+  accepted =
+      let q = first-quiet ((10, not (eqb (length keys) 64)) ∷ (11, not (same (tagOf keys (bodyOf m)) (tagIn m))) ∷ []) refl (behind .0) in
+      let r = first-quiet ((12, ltb room (length (sealedPart m start))) ∷ (13, badPlain (plainOf keys m (sealedPart m start))) ∷ []) refl (behind .1) in
+      record {
+        place = placed (length m) start (tables .0);
+        keys64 = eqb-true (length keys) 64 (not-false _ (q .0));
+        tag = not-false _ (q .1 .0);
+        roomy = ltb-false room (length (sealedPart m start)) (r .0);
+        ruled = r .1 .0;
+      }
+
+-- The plain text of an accepted message, and where its payload lies in the working buffer.
+module _ (keys m : List ℕ) (start : ℕ) (working : List ℕ) (ok : Accepted keys m start (length working)) where
+  abbrev plain : List ℕ
+  plain = plainOf keys m (sealedPart m start)
+
+  part-long : (16 ≤ length (sealedPart m start)) × (length (sealedPart m start) % 16 ≡ 0)
+  unfolding sealedPart
+  part-long = part-blocks m start (ok .place)
+
+  plain-long : length plain ≡ length (sealedPart m start)
+  unfolding plainOf
+  plain-long = cbcDecrypt-length _ _ (sealedPart m start) (part-long .1)
+
+  -- The size told fits the sealed part.
+  pub told-fits : 4 + be32 plain 0 ≤ length plain
+  unfolding badPlain sealedSize
+  told-fits =
+      let r = or-false (not (eqb (length plain) (sealedSize (be32 plain 0)))) _ (ok .ruled) in
+      let l = eqb-true (length plain) (sealedSize (be32 plain 0)) (not-false _ (r .0)) in
+      omega arith
+
+  module _ (after : List ℕ) (is : after ≡ openedInto keys m start working) (e : openRefusal keys m start (length working) ≡ 0) where
+    after-is : after ≡ plain ++ drop (length plain) working
+    unfolding openedInto intoUnless
+    after-is = is ∙ rw (eq-eqb _ 0 e)
+
+    at-front : (i : ℕ) → i < 4 → getD after i 0 ≡ getD plain i 0
+    at-front i h = rw after-is (List·getD-append plain (drop (length plain) working) 0 i (omega (arith, part-long .0, plain-long)))
+
+    pub told-after : be32 after 0 ≡ be32 plain 0
+    told-after = rw (at-front 0 (omega arith), at-front 1 (omega arith), at-front 2 (omega arith), at-front 3 (omega arith))
+
+    pub fits-after : 4 + be32 after 0 ≤ length after
+    fits-after =
+        let a : length after ≡ length plain + length (drop (length plain) working) = rw (after-is, length-append) in
+        rw told-after (omega (arith, told-fits))
+
+    -- The payload in the working buffer is the payload of the plain text.
+    pub payload-after : take (4 + be32 after 0 - 4) (drop 4 after) ≡ payloadOf plain
+    payload-after =
+        let n : 4 + be32 plain 0 - 4 ≡ be32 plain 0 = omega arith in
+        let four : 4 ≤ length plain = omega (arith, part-long .0, plain-long) in
+        let room : be32 plain 0 ≤ length (drop 4 plain) = rw length-drop (omega (arith, told-fits)) in
+        rw (told-after, n, after-is, drop-append-le 4 plain (drop (length plain) working) four)
+        (take-append-le (be32 plain 0) (drop 4 plain) (drop (length plain) working) room)
