@@ -64,9 +64,11 @@ fn bad_index(count: usize, index: usize) -> bool
 fn unlike(held: Progress, piece: Piece) -> bool
     ensures { λ r. ⌜ r ≡ unlike held piece ⌝ }
 {
+    if (held.count == piece.count) & (held.channel == piece.channel) {
+        return false;
+    }
     let heard = held.heard;
-    let any = heard::count_all(heard) != 0;
-    any & ((held.count != piece.count) | (held.channel != piece.channel))
+    heard::count_all(heard) != 0
 }
 
 // 20 applies: the piece's size is not that of its place.

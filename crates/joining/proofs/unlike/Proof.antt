@@ -1,13 +1,43 @@
--- The heard set is not empty where one index or more is heard.
+-- The heard set is looked at only where count or channel differs: else there is nothing to tell.
+use mathlib.Core.Path.{_≡_, refl, sym}
+use mathlib.Core.Bool.{Bool, true, false, not, _&&_, _||_, and-false}
+use lib.Dec.{eqb}
 use borrow.Author.Needs.{needs}
+use Rattle.laws.proofs.Bools.{and-true}
+use Rattle.joining.specs.Heard.{tally}
 use Rattle.joining.proofs.unlike.Statement.{statement}
 use Rattle.joining.proofs.unlike.Tie as tie
+
+alike : (a b c : Bool) → (b && c) ≡ true → false ≡ (a && (not b || not c))
+alike a b c e = let k = and-true b c e in rw (k .0, k .1) (sym (and-false a))
+
+differs : (a b c : Bool) → (b && c) ≡ false → a ≡ (a && (not b || not c))
+differs true true c e = rw e
+differs true false c e = refl
+differs false b c e = refl
+
+-- The three tests of the definition.
+abbrev any : tie.Start → Bool
+any c = not (eqb (tally (c .args .held .heard)) 0)
+
+abbrev like-count : tie.Start → Bool
+like-count c = eqb (c .args .held .count) (c .args .piece .count)
+
+abbrev like-channel : tie.Start → Bool
+like-channel c = eqb (c .args .held .channel) (c .args .piece .channel)
+
+returns : tie.Need-returns
+returns c =
+    let s = c .before .before .before .before .before in
+    alike (any s) (like-count s) (like-channel s) (c .if1 .taken)
 
 count-all-requires : tie.Need-count-all-requires
 count-all-requires c κs = search needs
 
-returns : tie.Need-returns
-returns c = rw (c .before .before .before .before .count-all .ensures .0)
+returns-2 : tie.Need-returns-2
+returns-2 c =
+    let s = c .before .before .before .before .before .before .before in
+    rw (c .count-all .ensures .0) (differs (any s) (like-count s) (like-channel s) (c .before .before .if1 .left))
 
 pub unlike-spec : {M : Type 1} → statement M
-unlike-spec = tie.close (tie.spec count-all-requires returns)
+unlike-spec = tie.close (tie.spec returns count-all-requires returns-2)
