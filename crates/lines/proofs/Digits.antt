@@ -1,0 +1,48 @@
+-- Digits: how many they are, and that they may be put into a buffer the last one first. Assumes nothing.
+use Prim.Native.Nat.{ℕ, zero, suc, _+_, _-_, _/_, _%_, _≤_, _<_}
+use mathlib.Core.Path.{_≡_, refl, sym, ap, _∙_}
+use mathlib.Core.List.{List, [], _∷_, _++_}
+use mathlib.Core.Bool.{true}
+use native.Mathlib.Omega.{arith}
+use native.Mathlib.Numerals.{sub-one}
+use lib.ListN.{length, set, length-append}
+use lib.Seq.{sets, set-comm}
+use Rattle.laws.proofs.Firsts.{first-upTo}
+use Rattle.laws.proofs.Stores.{sets-sets}
+use Rattle.lines.specs.Text.{digits, placeRows, places, field}
+
+pub length-digits : (k n : ℕ) → length (digits k n) ≡ k
+unfolding digits
+length-digits zero n = refl
+length-digits (suc k) n = rw length-append (omega (arith, length-digits k (n / 10)))
+
+digits-more : (k n : ℕ) → 0 < k → digits k n ≡ digits (k - 1) (n / 10) ++ ((48 + n % 10) ∷ [])
+unfolding digits
+digits-more zero n h = absurd (omega arith)
+digits-more (suc k) n h = rw sub-one
+
+-- A store behind a run may as well come before it.
+sets-set : (vs l : List ℕ) (i j a : ℕ) → i + length vs ≤ j → sets (set l j a) i vs ≡ set (sets l i vs) j a
+sets-set [] l i j a h = refl
+sets-set (v ∷ vs) l i j a h =
+    let other : j ≡ i → ⊥ = λ e. omega arith in
+    rw (set-comm l j i a v other) (sets-set vs (set l i v) (suc i) j a (omega arith))
+
+-- One digit less is left to be put.
+pub put-last : (out : List ℕ) (at k n d : ℕ) → 0 < k → d ≡ 48 + n % 10
+    → sets (set out (at + (k - 1)) d) at (digits (k - 1) (n / 10)) ≡ sets out at (digits k n)
+put-last out at k n d h e =
+    let ds = digits (k - 1) (n / 10) in
+    let long : length ds ≡ k - 1 = length-digits (k - 1) (n / 10) in
+    let fits : at + length ds ≤ at + (k - 1) = omega arith in
+    rw (sets-set ds out at (at + (k - 1)) d fits, digits-more k n h, e)
+    (sets-sets ds ((48 + n % 10) ∷ []) out at (at + (k - 1)) (omega arith))
+
+-- A number below 2^32 has at most ten digits.
+pub few-places : (n : ℕ) → places n ≤ 10
+unfolding places
+few-places n = first-upTo 10 (placeRows n) refl
+
+pub length-field : (n b : ℕ) → length (field n b) ≡ places n + 1
+unfolding field
+length-field n b = rw length-append (omega (arith, length-digits (places n) n))

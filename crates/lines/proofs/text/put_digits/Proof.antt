@@ -1,0 +1,67 @@
+-- Putting what is left of the digits into the buffer as it is gives what putting them all into the first one gives.
+use borrow.Author.Needs.{needs}
+use Prim.Native.Nat.{_≤_}
+use mathlib.Core.Path.{_≡_, refl, _∙_}
+use native.Mathlib.Omega.{arith}
+use lib.ListN.{length, length-set}
+use lib.Seq.{sets}
+use Rattle.lines.specs.Text.{digits}
+use Rattle.lines.proofs.Digits.{put-last}
+use Rattle.lines.proofs.text.put_digits.Statement.{statement}
+use Rattle.lines.proofs.text.put_digits.Tie as tie
+
+abbrev Inv-loop : tie.InvT-loop
+Inv-loop number count out₀ at left₀ rest₀ out left rest =
+    (left ≤ count) × (length out ≡ length out₀) × (sets out at (digits left rest) ≡ sets out₀ at (digits count number))
+
+abbrev μ-loop : tie.MeasureT-loop
+μ-loop number count out₀ at left₀ rest₀ out left rest = left
+
+loop-holds : tie.Need-loop-holds Inv-loop μ-loop
+loop-holds c = (omega arith, refl, refl)
+
+sub-left : tie.Need-sub-left Inv-loop μ-loop
+sub-left c = search needs
+
+digit-requires : tie.Need-digit-requires Inv-loop μ-loop
+digit-requires c κs = search needs
+
+add-out : tie.Need-add-out Inv-loop μ-loop
+add-out c = search needs
+
+slice-write-out : tie.Need-slice-write-out Inv-loop μ-loop
+slice-write-out c = search needs
+
+loop-less : tie.Need-loop-less Inv-loop μ-loop
+loop-less c = search needs
+
+loop-again : tie.Need-loop-again Inv-loop μ-loop
+loop-again c =
+    let l = c .before .before .loop in
+    (omega arith, simp length-set (l .inv .1), put-last _ _ (l .left) (l .rest) _ (omega arith) (c .digit .ensures) ∙ l .inv .2)
+
+same-length : tie.Need-same-length Inv-loop μ-loop
+same-length c = search needs
+
+returns : tie.Need-returns Inv-loop μ-loop
+unfolding digits
+returns c =
+    let l = c .before .loop in
+    let none : l .left ≡ 0 = omega arith in
+    rw none at (l .inv .2)
+
+pub put-digits-spec : {M : Type 1} → statement M
+put-digits-spec =
+    tie.close
+    (tie.spec
+    Inv-loop
+    μ-loop
+    loop-holds
+    sub-left
+    digit-requires
+    add-out
+    slice-write-out
+    loop-less
+    loop-again
+    same-length
+    returns)

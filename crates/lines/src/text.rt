@@ -1,0 +1,97 @@
+// Text that is put into a buffer at a place: numbers in decimal, and a name with a number.
+use super::places::places;
+ghost use mathlib.Core.Path.{_≡_};
+ghost use mathlib.Core.List.{_∷_, []};
+ghost use Prim.Native.Nat.{_+_, _%_, _≤_};
+ghost use lib.ListN.{length};
+ghost use lib.Dec.{ltb};
+ghost use lib.Seq.{sets};
+ghost use Rattle.lines.specs.Text.{digits, field, named, putEnd, put};
+
+// The most bytes that a number and the byte behind it take.
+pub const FIELD: usize = 11;
+
+// Whether a buffer of so many bytes lacks room for `need` bytes from a place on.
+pub fn lacks(length: usize, at: usize, need: usize) -> bool
+    ensures { λ r. ⌜ r ≡ ltb length (at + need) ⌝ }
+{
+    if length < need {
+        return true;
+    }
+    if length - need < at {
+        return true;
+    }
+    false
+}
+
+// Puts the last `count` digits of a number at a place, the last one first.
+fn put_digits(number: u32, count: usize, out: &mut [u8], at: usize)
+    requires { ⌜ at + count ≤ length (now out) ⌝ }
+    ensures { λ _. ⌜ now (out .exit) ≡ sets (now (out .entry)) at (digits count number) ⌝ }
+{
+    let mut left = count;
+    let mut rest = number;
+    while 0 < left {
+        left -= 1;
+        out[at + left] = digit(rest);
+        rest /= 10;
+    }
+}
+
+// The last digit of a number.
+fn digit(number: u32) -> u8
+    ensures { λ r. ⌜ r ≡ 48 + number % 10 ⌝ }
+{
+    48 + (number % 10) as u8
+}
+
+// Puts a number at a place, and a byte behind it; answers the place behind that.
+pub(crate) fn put_field(number: u32, behind: u8, out: &mut [u8], at: usize) -> usize
+    requires { ⌜ at + 11 ≤ length (now out) ⌝ }
+    ensures { λ r. ⌜ r ≤ at + 11 ⌝ }
+    ensures { λ r. ⌜ r ≡ at + length (field number behind) ⌝ }
+    ensures { λ _. ⌜ now (out .exit) ≡ sets (now (out .entry)) at (field number behind) ⌝ }
+{
+    let count = places(number);
+    put_digits(number, count, out, at);
+    let end = at + count;
+    out[end] = behind;
+    end + 1
+}
+
+// Puts bytes at a place.
+fn put_bytes(bytes: &[u8], out: &mut [u8], at: usize)
+    requires { ⌜ at + length (now bytes) ≤ length (now out) ⌝ }
+    ensures { λ _. ⌜ now (out .exit) ≡ sets (now (out .entry)) at (now (bytes .entry)) ⌝ }
+{
+    let mut i = 0;
+    while i < bytes.len() {
+        out[at + i] = bytes[i];
+        i += 1;
+    }
+}
+
+// Puts the line of a name, which ends in a blank, and a number at a place, and answers the place behind it.
+pub(crate) fn put_name(name: &[u8], number: u32, out: &mut [u8], at: usize) -> usize
+    requires { ⌜ at + (length (now name) + 11) ≤ length (now out) ⌝ }
+    ensures { λ r. ⌜ r ≡ at + length (named (now (name .entry)) number) ⌝ }
+    ensures { λ _. ⌜ now (out .exit) ≡ sets (now (out .entry)) at (named (now (name .entry)) number) ⌝ }
+{
+    put_bytes(name, out, at);
+    put_field(number, b'\n', out, at + name.len())
+}
+
+// The same for a caller that has not looked for room. It wants room for the name and 11 bytes more; where there is less, nothing is
+// put and the place itself is the answer.
+pub fn put_named(name: &[u8], number: u32, out: &mut [u8], at: usize) -> usize
+    ensures { λ r. ⌜ r ≡ putEnd (length (now (name .entry)) + 11) at (named (now (name .entry)) number) (now (out .entry)) ⌝ }
+    ensures { λ _. ⌜ now (out .exit) ≡ put (length (now (name .entry)) + 11) at (named (now (name .entry)) number) (now (out .entry)) ⌝ }
+{
+    if out.len() < FIELD {
+        return at;
+    }
+    if lacks(out.len() - FIELD, at, name.len()) {
+        return at;
+    }
+    put_name(name, number, out, at)
+}
