@@ -1,0 +1,98 @@
+// The listing program of document 01: lists the messages that come back to back on standard input, a line each.
+use libc::STDIN_FILENO;
+use libc::STDOUT_FILENO;
+use lines::listing::list;
+ghost use mathlib.Core.Path.{_≡_};
+ghost use Prim.Native.Nat.{_≤_};
+ghost use lib.ListN.{length};
+
+// A buffer. A message has at most 65,535 bytes, so a part of one leaves room to read on; and a line is shorter than the message
+// that it tells of, so the lines of a buffer full of messages have room in another.
+fn buffer() -> [u8; 262144]
+    ensures { λ r. ⌜ 262144 ≡ length r ⌝ }
+{
+    [0; 262144]
+}
+
+// What of the input is in the buffer: the first `held` bytes of it. Whether the input has ended, and whether the run is over.
+struct Held {
+    held: usize,
+    ended: bool,
+    over: bool,
+}
+
+// The lesser of two numbers.
+fn least(a: usize, b: usize) -> usize
+    ensures { λ r. ⌜ (r ≤ a) × (r ≤ b) ⌝ }
+{
+    if a < b { a } else { b }
+}
+
+// Moves what stands between two places of the buffer to its front, and answers how much that is.
+fn keep(input: &mut [u8], from: usize, to: usize) -> usize
+    requires { ⌜ (from ≤ to) × (to ≤ length (now input)) ⌝ }
+    ensures { λ r. ⌜ r ≤ to ⌝ }
+{
+    let left = to - from;
+    let mut i = 0;
+    while i < left {
+        input[i] = input[from + i];
+        i += 1;
+    }
+    left
+}
+
+// Reads on behind the first `held` bytes. A read that fails counts as the end of the input.
+fn read_on(input: &mut [u8], held: usize) -> Held
+    requires { ⌜ held ≤ length (now input) ⌝ }
+    ensures { λ r. ⌜ r .held ≤ length (now (input .exit)) ⌝ }
+{
+    let got = libc::read(STDIN_FILENO, &mut input[held..]);
+    let more = io::count(got, &input[held..]);
+    Held {
+        held: held + more,
+        ended: more == 0,
+        over: false,
+    }
+}
+
+// One turn: lists what is in the buffer, writes the lines, keeps what is left of the input and reads on.
+fn turn(input: &mut [u8], held: Held, out: &mut [u8]) -> Held
+    requires { ⌜ held .held ≤ length (now input) ⌝ }
+    ensures { λ r. ⌜ r .held ≤ length (now (input .exit)) ⌝ }
+{
+    let end = held.held;
+    let listed = list(&input[0..end], held.ended, out);
+    let written = least(listed.written, out.len());
+    let whole = io::write_all(STDOUT_FILENO, &out[0..written]);
+    if listed.over | !whole {
+        return Held {
+            held: end,
+            ended: true,
+            over: true,
+        };
+    }
+    let left = keep(input, least(listed.read, end), end);
+    read_on(input, left)
+}
+
+// Turn after turn; every turn reads a byte or is among the last, so that no input comes to the end of the counter.
+fn run(input: &mut [u8], out: &mut [u8]) {
+    let mut held = Held {
+        held: 0,
+        ended: false,
+        over: false,
+    };
+    let mut turns = u64::MAX;
+    while 0 < turns && !held.over {
+        let next = turn(input, held, out);
+        held = next;
+        turns -= 1;
+    }
+}
+
+fn main() {
+    let mut input = buffer();
+    let mut out = buffer();
+    run(&mut input, &mut out);
+}
