@@ -1,5 +1,7 @@
 // The listing program of document 01: lists the messages that come back to back on standard input, a line each.
-use libc::STDIN_FILENO;
+use intake::Held;
+use intake::least;
+use intake::refill;
 use libc::STDOUT_FILENO;
 use lines::listing::list;
 ghost use mathlib.Core.Path.{_≡_};
@@ -12,48 +14,6 @@ fn buffer() -> [u8; 262144]
     ensures { λ r. ⌜ 262144 ≡ length r ⌝ }
 {
     [0; 262144]
-}
-
-// What of the input is in the buffer: the first `held` bytes of it. Whether the input has ended, and whether the run is over.
-struct Held {
-    held: usize,
-    ended: bool,
-    over: bool,
-}
-
-// The lesser of two numbers.
-fn least(a: usize, b: usize) -> usize
-    ensures { λ r. ⌜ (r ≤ a) × (r ≤ b) ⌝ }
-{
-    if a < b { a } else { b }
-}
-
-// Moves what stands between two places of the buffer to its front, and answers how much that is.
-fn keep(input: &mut [u8], from: usize, to: usize) -> usize
-    requires { ⌜ (from ≤ to) × (to ≤ length (now input)) ⌝ }
-    ensures { λ r. ⌜ r ≤ to ⌝ }
-{
-    let left = to - from;
-    let mut i = 0;
-    while i < left {
-        input[i] = input[from + i];
-        i += 1;
-    }
-    left
-}
-
-// Reads on behind the first `held` bytes. A read that fails counts as the end of the input.
-fn read_on(input: &mut [u8], held: usize) -> Held
-    requires { ⌜ held ≤ length (now input) ⌝ }
-    ensures { λ r. ⌜ r .held ≤ length (now (input .exit)) ⌝ }
-{
-    let got = libc::read(STDIN_FILENO, &mut input[held..]);
-    let more = io::count(got, &input[held..]);
-    Held {
-        held: held + more,
-        ended: more == 0,
-        over: false,
-    }
 }
 
 // One turn: lists what is in the buffer, writes the lines, keeps what is left of the input and reads on.
@@ -72,8 +32,7 @@ fn turn(input: &mut [u8], held: Held, out: &mut [u8]) -> Held
             over: true,
         };
     }
-    let left = keep(input, least(listed.read, end), end);
-    read_on(input, left)
+    refill(input, listed.read, end)
 }
 
 // Turn after turn; every turn reads a byte or is among the last, so that no input comes to the end of the counter.

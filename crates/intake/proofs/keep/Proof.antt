@@ -4,8 +4,8 @@ use mathlib.Core.Path.{_≡_, refl}
 use native.Mathlib.Omega.{arith}
 use lib.ListN.{length, length-set}
 use borrow.Author.Needs.{needs}
-use Rattle.listing.proofs.keep.Statement.{statement}
-use Rattle.listing.proofs.keep.Tie as tie
+use Rattle.intake.proofs.keep.Statement.{statement}
+use Rattle.intake.proofs.keep.Tie as tie
 
 abbrev Inv-loop : tie.InvT-loop
 Inv-loop input₀ from to left i₀ input i = (i ≤ left) × (length input ≡ length input₀)

@@ -1,0 +1,57 @@
+// A program's standard input, a part of it at a time in a buffer that is read into, taken from at the front and read into again.
+use libc::STDIN_FILENO;
+ghost use Prim.Native.Nat.{_≤_};
+ghost use lib.ListN.{length};
+
+// What of the input is in the buffer: the first `held` bytes of it. Whether the input has ended, and whether the run is over.
+pub struct Held {
+    pub held: usize,
+    pub ended: bool,
+    pub over: bool,
+}
+
+// The lesser of two numbers.
+pub fn least(a: usize, b: usize) -> usize
+    ensures { λ r. ⌜ (r ≤ a) × (r ≤ b) ⌝ }
+{
+    if a < b { a } else { b }
+}
+
+// Moves what stands between two places of the buffer to its front, and answers how much that is.
+fn keep(input: &mut [u8], from: usize, to: usize) -> usize
+    requires { ⌜ (from ≤ to) × (to ≤ length (now input)) ⌝ }
+    ensures { λ r. ⌜ r ≤ to ⌝ }
+{
+    let left = to - from;
+    let mut i = 0;
+    while i < left {
+        input[i] = input[from + i];
+        i += 1;
+    }
+    left
+}
+
+// Reads on behind the first `held` bytes. A read that fails counts as the end of the input.
+fn read_on(input: &mut [u8], held: usize) -> Held
+    requires { ⌜ held ≤ length (now input) ⌝ }
+    ensures { λ r. ⌜ r .held ≤ length (now (input .exit)) ⌝ }
+{
+    let got = libc::read(STDIN_FILENO, &mut input[held..]);
+    let more = io::count(got, &input[held..]);
+    Held {
+        held: held + more,
+        ended: more == 0,
+        over: false,
+    }
+}
+
+// Keeps what the buffer holds between two places, at its front, and reads on behind it. What is kept is less than a whole message,
+// so that there is room.
+pub fn refill(input: &mut [u8], from: usize, to: usize) -> Held
+    ensures { λ r. ⌜ r .held ≤ length (now (input .exit)) ⌝ }
+{
+    let end = least(to, input.len());
+    let start = least(from, end);
+    let left = keep(input, start, end);
+    read_on(input, left)
+}
