@@ -7,3 +7,4 @@ pub mod Digesting
 pub mod Keys
 pub mod Tags
 pub mod Lengths
+pub mod Shown

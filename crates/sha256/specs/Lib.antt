@@ -4,3 +4,4 @@ pub mod Compression
 pub mod Parts
 pub mod Digests
 pub mod Macs
+pub mod Examples
