@@ -10,6 +10,14 @@ pub and-true : (a b : Bool) → (a && b) ≡ true → (a ≡ true) × (b ≡ tru
 and-true true b e = (refl, e)
 and-true false b e = absurd (true≢false (sym e))
 
+pub and-one : (a : Bool) → (a && true) ≡ a
+and-one true = refl
+and-one false = refl
+
+pub and-assoc : (a b c : Bool) → (a && (b && c)) ≡ ((a && b) && c)
+and-assoc true b c = refl
+and-assoc false b c = refl
+
 pub and-false-right : (a b : Bool) → (a && b) ≡ false → a ≡ true → b ≡ false
 and-false-right true b e h = e
 and-false-right false b e h = absurd (true≢false (sym h))

@@ -7,7 +7,6 @@ pub mod Sames
 pub mod Bools
 pub mod Numbers
 pub mod Parts
-pub mod Sameness
 pub mod Stores
 pub mod Order
 pub mod Lent

@@ -1,11 +1,13 @@
--- `same` decides equality of lists of bytes, both ways. Assumes nothing.
+-- `same` decides equality of lists of bytes, both ways; how it goes over lists that end in a byte each. Assumes nothing.
 use Prim.Native.Nat.{ℕ}
-use mathlib.Core.Path.{_≡_, refl, ap₂, sym}
-use mathlib.Core.List.{List, [], _∷_}
-use mathlib.Core.Bool.{Bool, true, false, true≢false}
+use mathlib.Core.Path.{_≡_, refl, ap, ap₂, sym}
+use mathlib.Core.List.{List, [], _∷_, _++_}
+use mathlib.Core.Bool.{Bool, true, false, _&&_, true≢false}
+use native.Mathlib.Omega.{arith}
 use lib.Dec.{eqb}
+use lib.ListN.{length}
 use borrow.Author.Tests.{eq-eqb, eqb-true}
-use Rattle.laws.proofs.Bools.{and-true}
+use Rattle.laws.proofs.Bools.{and-true, and-one, and-assoc}
 use Rattle.laws.specs.Same.{same}
 
 pub same-refl : (xs : List ℕ) → same xs xs ≡ true
@@ -29,3 +31,14 @@ ne→same xs ys n = go (same xs ys) refl
     go : (t : Bool) → same xs ys ≡ t → t ≡ false
     go true e = absurd (n (same→eq xs ys e))
     go false e = refl
+
+-- lists of different lengths are not the same
+pub same-length : (xs ys : List ℕ) → (length xs ≡ length ys → ⊥) → same xs ys ≡ false
+same-length xs ys h = ne→same xs ys (λ e. h (ap length e))
+
+-- a byte more on both
+pub same-snoc : (xs ys : List ℕ) (x y : ℕ) → length xs ≡ length ys → same (xs ++ (x ∷ [])) (ys ++ (y ∷ [])) ≡ (same xs ys && eqb x y)
+same-snoc [] [] x y e = and-one (eqb x y)
+same-snoc [] (b ∷ ys) x y e = absurd (omega arith)
+same-snoc (a ∷ xs) [] x y e = absurd (omega arith)
+same-snoc (a ∷ xs) (b ∷ ys) x y e = rw (same-snoc xs ys x y (omega arith)) (and-assoc (eqb a b) (same xs ys) (eqb x y))

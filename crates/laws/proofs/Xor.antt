@@ -1,10 +1,10 @@
--- `bitXor` is associative; sums of four regroup; times x is linear. Assumes nothing.
+-- `bitXor` is associative, and 0 of equals only; sums of four regroup; an or is 0 of zeros only. Assumes nothing.
 use mathlib.Core.Path.{_≡_, _∙_, sym, ap, ap₂, refl}
-use Prim.Native.Nat.{ℕ, zero, suc, _+_, _*_, _/_, _%_, _^_, _<_}
+use Prim.Native.Nat.{ℕ, zero, suc, _+_, _*_, _/_, _%_, _<_, _≤_}
 use native.Mathlib.Nat.{mod-lt, not-suc-le-zero, le-of-suc-le-suc, zero-lt-suc}
 use native.Mathlib.Omega.{arith}
 use lib.Arith.{bin-ind}
-use lib.Bits.{bitXor, differ, xor-step, xor-comm, xor-zero-r, xor-block, xor-mod, xor-shr, xor-lt}
+use lib.Bits.{bitXor, bitOr, bitAnd, differ, xor-step, xor-comm, xor-self, xor-zero-l, xor-zero-r, xor-shr, or-add-and, and-le-l, and-le-r}
 
 differ-lt : (x y : ℕ) → x < 2 → y < 2 → differ x y < 2
 differ-lt zero y hx hy = hy
@@ -50,3 +50,14 @@ xor4 a b c d =
     xor-assoc a b (bitXor c d)
     ∙ ap (bitXor a) (sym (xor-assoc b c d) ∙ ap (λ (x : ℕ). bitXor x d) (xor-comm b c) ∙ xor-assoc c b d)
     ∙ sym (xor-assoc a c (bitXor b d))
+
+pub or-zero : (a b : ℕ) → bitOr a b ≡ 0 → (a ≡ 0) × (b ≡ 0)
+or-zero a b e =
+    let s : bitOr a b + bitAnd a b ≡ a + b = or-add-and a b in
+    let l : bitAnd a b ≤ a = and-le-l a b in
+    let r : bitAnd a b ≤ b = and-le-r a b in
+    (omega arith, omega arith)
+
+pub xor-zero : (a b : ℕ) → bitXor a b ≡ 0 → a ≡ b
+xor-zero a b e =
+    sym (xor-zero-r a) ∙ ap (bitXor a) (sym (xor-self b)) ∙ sym (xor-assoc a b b) ∙ ap (λ (x : ℕ). bitXor x b) e ∙ xor-zero-l b

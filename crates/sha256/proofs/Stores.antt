@@ -1,21 +1,12 @@
--- Runs of bytes stored one behind the other; a padding and a digest made by them. Assumes nothing.
-use mathlib.Core.Path.{_≡_, _∙_, sym, ap, refl}
-use mathlib.Core.List.{List, [], _∷_, _++_, append-assoc}
+-- A padding and a digest, made by runs of stores. Assumes nothing.
+use mathlib.Core.Path.{_≡_, _∙_, ap, refl}
+use mathlib.Core.List.{List, _∷_, _++_}
 use Prim.Native.Nat.{ℕ, zero, suc, _+_, _<_, _≤_}
-use native.Mathlib.Nat.{add-zero, add-suc, suc-add, le-of-suc-le-suc, not-suc-le-zero}
+use native.Mathlib.Nat.{le-of-suc-le-suc, not-suc-le-zero}
 use native.Mathlib.Omega.{arith}
-use lib.ListN.{length, take, drop, set, replicate, length-append, length-replicate, length-set}
+use lib.ListN.{length, take, drop, set, replicate, length-append, length-replicate}
 use Rattle.laws.specs.Bytes.{bytes32}
-use lib.Seq.{sets, sets-eq, take-at, length-take-le}
-
-sets-append : (a b l : List ℕ) (i : ℕ) → sets (sets l i a) (i + length a) b ≡ sets l i (a ++ b)
-sets-append [] b l i = ap (λ (k : ℕ). sets l k b) (add-zero i)
-sets-append (x ∷ a) b l i =
-    ap (λ (k : ℕ). sets (sets (set l i x) (suc i) a) k b) (add-suc i (length a) ∙ sym (suc-add i (length a))) ∙ sets-append a b (set l i x) (suc i)
-
--- one run, and another right behind it
-pub sets-two : (a b l y z : List ℕ) (i k : ℕ) → y ≡ sets l i a → z ≡ sets y k b → k ≡ i + length a → z ≡ sets l i (a ++ b)
-sets-two a b l y z i k p q e = q ∙ ap (λ (w : List ℕ). sets w k b) p ∙ ap (λ (n : ℕ). sets (sets l i a) n b) e ∙ sets-append a b l i
+use lib.Seq.{sets, sets-eq, take-at}
 
 take-replicate : (n m x : ℕ) → n ≤ m → take n (replicate m x) ≡ replicate n x
 take-replicate zero m x h = refl

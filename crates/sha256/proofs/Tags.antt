@@ -11,7 +11,9 @@ use lib.ListN.{getD, length, take}
 use lib.Seq.{take-suc, length-take-le}
 use borrow.Author.Tests.{eq-eqb, eqb-true}
 use Rattle.laws.specs.Same.{same}
-use Rattle.laws.proofs.Sameness.{same-snoc, or-zero, xor-zero, and-left, and-right}
+use Rattle.laws.proofs.Bools.{and-true}
+use Rattle.laws.proofs.Sames.{same-snoc}
+use Rattle.laws.proofs.Xor.{or-zero, xor-zero}
 
 -- tests that hold together
 alike : (a b : Bool) → (a ≡ true → b ≡ true) → (b ≡ true → a ≡ true) → a ≡ b
@@ -29,8 +31,9 @@ or-differ d x y =
     let z = or-zero d (bitXor x y) (eqb-true (bitOr d (bitXor x y)) 0 t) in
     both (eqb d 0) (eqb x y) (eq-eqb d 0 (z .0)) (eq-eqb x y (xor-zero x y (z .1))))
     (λ t.
-    let ed : d ≡ 0 = eqb-true d 0 (and-left (eqb d 0) (eqb x y) t) in
-    let ex : x ≡ y = eqb-true x y (and-right (eqb d 0) (eqb x y) t) in
+    let h = and-true (eqb d 0) (eqb x y) t in
+    let ed : d ≡ 0 = eqb-true d 0 (h .0) in
+    let ex : x ≡ y = eqb-true x y (h .1) in
     eq-eqb (bitOr d (bitXor x y)) 0
     (ap₂ (λ (a b : ℕ). bitOr a (bitXor b y)) ed ex ∙ or-zero-l (bitXor y y) ∙ xor-self y))
 

@@ -3,7 +3,7 @@ use mathlib.Core.Path.{sym}
 use native.Mathlib.Omega.{arith}
 use lib.ListN.{length}
 use borrow.Author.Needs.{needs}
-use Rattle.laws.proofs.Sameness.{same-length}
+use Rattle.laws.proofs.Sames.{same-length}
 use Rattle.sha256.proofs.same_tag.Statement.{statement}
 use Rattle.sha256.proofs.same_tag.Tie as tie
 

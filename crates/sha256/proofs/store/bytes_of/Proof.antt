@@ -55,7 +55,15 @@ put32-requires-8 c κs = search needs
 
 returns : tie.Need-returns
 unfolding bytesOf
-returns c = words-by _ _ _ _ _ _ _ _ _ _ _ _ _ _ _ _ (c .before .before .before .before .before .before .before .before .before .before .before .before .before .before .before .before .before .before .before .before .before .before .put32 .ensures) (c .before .before .before .before .before .before .before .before .before .before .before .before .before .before .before .before .before .before .before .put322 .ensures) (c .before .before .before .before .before .before .before .before .before .before .before .before .before .before .before .before .put323 .ensures) (c .before .before .before .before .before .before .before .before .before .before .before .before .before .put324 .ensures) (c .before .before .before .before .before .before .before .before .before .before .put325 .ensures) (c .before .before .before .before .before .before .before .put326 .ensures) (c .before .before .before .before .put327 .ensures) (c .before .put328 .ensures)
+returns c =
+    let c7 = c .before .before .before .before in
+    let c6 = c7 .before .before .before in
+    let c5 = c6 .before .before .before in
+    let c4 = c5 .before .before .before in
+    let c3 = c4 .before .before .before in
+    let c2 = c3 .before .before .before in
+    let c1 = c2 .before .before .before in
+    words-by _ _ _ _ _ _ _ _ _ _ _ _ _ _ _ _ (c1 .put32 .ensures) (c2 .put322 .ensures) (c3 .put323 .ensures) (c4 .put324 .ensures) (c5 .put325 .ensures) (c6 .put326 .ensures) (c7 .put327 .ensures) (c .before .put328 .ensures)
 
 pub bytes-of-spec : {M : Type 1} → statement M
 bytes-of-spec =

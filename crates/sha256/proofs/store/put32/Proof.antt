@@ -3,7 +3,7 @@ use Prim.Native.Nat.{_/_, _%_}
 use native.Mathlib.Omega.{arith}
 use borrow.Author.Needs.{needs}
 use Rattle.laws.specs.Bytes.{bytes16}
-use Rattle.sha256.proofs.Stores.{sets-two}
+use Rattle.laws.proofs.Stores.{stored-twice}
 use Rattle.sha256.proofs.store.put32.Statement.{statement}
 use Rattle.sha256.proofs.store.put32.Tie as tie
 
@@ -21,8 +21,9 @@ same-length c = search needs
 
 returns : tie.Need-returns
 returns c =
-    let a = c .before .before .before .before .before .before .before .before .before .args in
-    sets-two (bytes16 (a .x / 65536)) (bytes16 (a .x % 65536)) (a .out .now) _ _ (a .at) _ (c .before .before .before .before .before .before .put16 .ensures) (c .before .before .put162 .ensures) (omega arith)
+    let b = c .before .before .before .before .before .before in
+    let a = b .before .before .before .args in
+    stored-twice (bytes16 (a .x / 65536)) (bytes16 (a .x % 65536)) (a .out .now) (a .at) _ (b .put16 .ensures) (c .before .before .put162 .ensures) (omega arith)
 
 pub put32-spec : {M : Type 1} → statement M
 put32-spec = tie.close (tie.spec put16-requires add-put16 put16-requires-2 same-length returns)

@@ -3,7 +3,7 @@ use Prim.Native.Nat.{_/_, _%_}
 use native.Mathlib.Omega.{arith}
 use borrow.Author.Needs.{needs}
 use Rattle.laws.specs.Bytes.{bytes32}
-use Rattle.sha256.proofs.Stores.{sets-two}
+use Rattle.laws.proofs.Stores.{stored-twice}
 use Rattle.sha256.proofs.store.put64.Statement.{statement}
 use Rattle.sha256.proofs.store.put64.Tie as tie
 
@@ -27,8 +27,9 @@ same-length c = search needs
 
 returns : tie.Need-returns
 returns c =
-    let a = c .before .before .before .before .before .before .before .before .before .args in
-    sets-two (bytes32 (a .x / 4294967296)) (bytes32 (a .x % 4294967296)) (a .out .now) _ _ (a .at) _ (c .before .before .before .before .before .before .put32 .ensures) (c .before .before .put322 .ensures) (omega arith)
+    let b = c .before .before .before .before .before .before in
+    let a = b .before .before .before .args in
+    stored-twice (bytes32 (a .x / 4294967296)) (bytes32 (a .x % 4294967296)) (a .out .now) (a .at) _ (b .put32 .ensures) (c .before .before .put322 .ensures) (omega arith)
 
 pub put64-spec : {M : Type 1} → statement M
 put64-spec =
