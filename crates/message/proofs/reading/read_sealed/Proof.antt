@@ -6,74 +6,56 @@ use borrow.Author.Needs.{needs}
 use Rattle.message.proofs.reading.read_sealed.Statement.{statement}
 use Rattle.message.proofs.reading.read_sealed.Tie as tie
 
-open-requires : tie.Need-open-requires
-open-requires c κs = search needs
-
-same-length : tie.Need-same-length
-same-length c = search needs
-
 returns : tie.Need-returns
 returns c =
     let o = c .before .before .before .«open» .ensures in
     (not-opened _ _ _ _ _ _ _ (o .0) (o .1) (c .if1 .taken), o .1)
 
-number32-requires : tie.Need-number32-requires
-number32-requires c κs = search needs
-
-cast-size : tie.Need-cast-size
-cast-size c = search needs
-
-add-end : tie.Need-add-end
-add-end c = search needs
-
-sub-bad-payload : tie.Need-sub-bad-payload
-sub-bad-payload c = search needs
-
-part-bad-payload-start : tie.Need-part-bad-payload-start
-part-bad-payload-start c = search needs
-
 part-bad-payload-end : tie.Need-part-bad-payload-end
 part-bad-payload-end c =
-    let o = c .before .before .before .before .before .before .«open» .ensures in
-    let f = payload-fits _ _ (c .before .before .before .before .before .before .before .before .before .before .before .args .header) _ _ _ _ (o .0) (o .1) (c .before .before .before .if1 .left) in
-    rw (c .before .number32 .ensures) f
-
-bad-payload-requires : tie.Need-bad-payload-requires
-bad-payload-requires c κs = search needs
-
-same-length-2 : tie.Need-same-length-2
-same-length-2 c = search needs
+    let at-number32 = c .before in
+    let at-if1 = at-number32 .before .before in
+    let at-open = at-if1 .before .before .before in
+    let start = at-open .before .before .before .before .before in
+    let o = at-open .«open» .ensures in
+    let f = payload-fits _ _ (start .args .header) _ _ _ _ (o .0) (o .1) (at-if1 .if1 .left) in
+    rw (at-number32 .number32 .ensures) f
 
 returns-2 : tie.Need-returns-2
 returns-2 c =
-    let o = c .before .before .before .before .before .before .before .before .before .«open» .ensures in
-    let told = c .before .before .before .before .number32 .ensures in
-    (sealed-refused _ _ _ _ _ _ _ (o .0) (o .1) (c .before .before .before .before .before .before .if1 .left) _ (rw told at (c .before .bad-payload .ensures)) (c .if2 .taken), o .1)
-
-same-length-3 : tie.Need-same-length-3
-same-length-3 c = search needs
+    let at-bad-payload = c .before in
+    let at-number32 = at-bad-payload .before .before .before in
+    let at-if1 = at-number32 .before .before in
+    let at-open = at-if1 .before .before .before in
+    let o = at-open .«open» .ensures in
+    let told = at-number32 .number32 .ensures in
+    (sealed-refused _ _ _ _ _ _ _ (o .0) (o .1) (at-if1 .if1 .left) _ (rw told at (at-bad-payload .bad-payload .ensures)) (c .if2 .taken), o .1)
 
 returns-3 : tie.Need-returns-3
 returns-3 c =
-    let o = c .before .before .before .before .before .before .before .before .before .«open» .ensures in
-    let told = c .before .before .before .before .number32 .ensures in
-    (rw told (sealed-accepted _ _ _ _ _ _ _ (o .0) (o .1) (c .before .before .before .before .before .before .if1 .left) _ (rw told at (c .before .bad-payload .ensures)) (c .if2 .left)), o .1)
+    let at-bad-payload = c .before in
+    let at-number32 = at-bad-payload .before .before .before in
+    let at-if1 = at-number32 .before .before in
+    let at-open = at-if1 .before .before .before in
+    let o = at-open .«open» .ensures in
+    let told = at-number32 .number32 .ensures in
+    (rw told (sealed-accepted _ _ _ _ _ _ _ (o .0) (o .1) (at-if1 .if1 .left) _ (rw told at (at-bad-payload .bad-payload .ensures)) (c .if2 .left)), o .1)
 
 pub read-sealed-spec : {M : Type 1} → statement M
 read-sealed-spec =
     tie.close
     (tie.spec
-    open-requires
-    same-length
+    (λ c κs. search needs)
+    (λ c. search needs)
     returns
-    number32-requires
-    cast-size
-    add-end
-    sub-bad-payload
-    part-bad-payload-start
+    (λ c κs. search needs)
+    (λ c. search needs)
+    (λ c. search needs)
+    (λ c. search needs)
+    (λ c. search needs)
     part-bad-payload-end
-    bad-payload-requires
-    same-length-2
+    (λ c κs. search needs)
+    (λ c. search needs)
     returns-2
-    same-length-3
+    (λ c. search needs)
     returns-3)

@@ -13,18 +13,9 @@ returns-2 : tie.Need-returns-2
 unfolding noPart
 returns-2 c = search tests
 
-sub-if3 : tie.Need-sub-if3
-sub-if3 c = search needs
-
 returns-3 : tie.Need-returns-3
 unfolding noPart
 returns-3 c = search tests
-
-sub-if4 : tie.Need-sub-if4
-sub-if4 c = search needs
-
-sub-if4-2 : tie.Need-sub-if4-2
-sub-if4-2 c = search needs
 
 returns-4 : tie.Need-returns-4
 unfolding noPart
@@ -36,4 +27,4 @@ returns-5 c = search tests
 
 pub no-part-spec : {M : Type 1} → statement M
 no-part-spec =
-    tie.close (tie.spec returns returns-2 sub-if3 returns-3 sub-if4 sub-if4-2 returns-4 returns-5)
+    tie.close (tie.spec returns returns-2 (λ c. search needs) returns-3 (λ c. search needs) (λ c. search needs) returns-4 returns-5)

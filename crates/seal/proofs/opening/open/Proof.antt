@@ -12,9 +12,6 @@ use Rattle.seal.proofs.opening.open.Tie as tie
 found : {n m : ℕ} → n ≡ m → n ≡ 0 → m ≡ 0
 found e z = sym e ∙ z
 
-no-part-requires : tie.Need-no-part-requires
-no-part-requires c κs = search needs
-
 returns : tie.Need-returns
 returns c = misplaced _ _ _ _ _ (c .if1 .taken) (c .before .no-part .ensures)
 
@@ -28,48 +25,62 @@ wrong-tag-requires c κs =
 
 returns-3 : tie.Need-returns-3
 returns-3 c =
-    let e = found (c .before .before .before .before .no-part .ensures) (c .before .before .before .if1 .left) in
-    other-tag _ _ _ _ e (c .before .before .if2 .left) (sym (c .before .wrong-tag .ensures) ∙ c .if3 .taken)
+    let at-wrong-tag = c .before in
+    let at-if2 = at-wrong-tag .before in
+    let at-if1 = at-if2 .before in
+    let at-no-part = at-if1 .before in
+    let e = found (at-no-part .no-part .ensures) (at-if1 .if1 .left) in
+    other-tag _ _ _ _ e (at-if2 .if2 .left) (sym (at-wrong-tag .wrong-tag .ensures) ∙ c .if3 .taken)
 
 sub-end : tie.Need-sub-end
 sub-end c =
-    let p = placed _ _ (found (c .before .before .before .before .no-part .ensures) (c .before .before .before .if1 .left)) in
+    let at-if1 = c .before .before .before in
+    let at-no-part = at-if1 .before in
+    let p = placed _ _ (found (at-no-part .no-part .ensures) (at-if1 .if1 .left)) in
     omega arith
 
 sub-open-part : tie.Need-sub-open-part
 sub-open-part c =
-    let p = placed _ _ (found (c .before .before .before .before .no-part .ensures) (c .before .before .before .if1 .left)) in
+    let at-if1 = c .before .before .before in
+    let at-no-part = at-if1 .before in
+    let p = placed _ _ (found (at-no-part .no-part .ensures) (at-if1 .if1 .left)) in
     omega arith
 
 part-open-part-start : tie.Need-part-open-part-start
 part-open-part-start c =
-    let p = placed _ _ (found (c .before .before .before .before .no-part .ensures) (c .before .before .before .if1 .left)) in
+    let at-if1 = c .before .before .before in
+    let at-no-part = at-if1 .before in
+    let p = placed _ _ (found (at-no-part .no-part .ensures) (at-if1 .if1 .left)) in
     omega arith
-
-part-open-part-end : tie.Need-part-open-part-end
-part-open-part-end c = search needs
 
 open-part-requires : tie.Need-open-part-requires
 open-part-requires c κs =
-    let start = c .before .before .before .before .before .before .before .before .before .before in
-    let p = placed _ _ (found (c .before .before .before .before .before .before .no-part .ensures) (c .before .before .before .before .before .if1 .left)) in
-    ((c .before .before .before .before .if2 .left, p .long), part-blocks (start .args .message .now) (start .args .start) p)
-
-same-length : tie.Need-same-length
-same-length c = search needs
+    let at-if2 = c .before .before .before .before in
+    let at-if1 = at-if2 .before in
+    let at-no-part = at-if1 .before in
+    let at-before = at-no-part .before .before .before in
+    let start = at-before .before in
+    let p = placed _ _ (found (at-no-part .no-part .ensures) (at-if1 .if1 .left)) in
+    ((at-if2 .if2 .left, p .long), part-blocks (start .args .message .now) (start .args .start) p)
 
 returns-4 : tie.Need-returns-4
 unfolding sealedPart
 returns-4 c =
-    let e = found (c .before .before .before .before .before .before .before .before .before .no-part .ensures) (c .before .before .before .before .before .before .before .before .if1 .left) in
-    right-tag _ _ _ _ e (c .before .before .before .before .before .before .before .if2 .left) (sym (c .before .before .before .before .before .before .wrong-tag .ensures) ∙ c .before .before .before .before .before .if3 .left) _ _
-    (c .before .before .open-part .ensures .0) (c .before .before .open-part .ensures .1)
+    let at-open-part = c .before .before in
+    let at-if3 = at-open-part .before .before .before in
+    let at-wrong-tag = at-if3 .before in
+    let at-if2 = at-wrong-tag .before in
+    let at-if1 = at-if2 .before in
+    let at-no-part = at-if1 .before in
+    let e = found (at-no-part .no-part .ensures) (at-if1 .if1 .left) in
+    right-tag _ _ _ _ e (at-if2 .if2 .left) (sym (at-wrong-tag .wrong-tag .ensures) ∙ at-if3 .if3 .left) _ _
+    (at-open-part .open-part .ensures .0) (at-open-part .open-part .ensures .1)
 
 pub open-spec : {M : Type 1} → statement M
 open-spec =
     tie.close
     (tie.spec
-    no-part-requires
+    (λ c κs. search needs)
     returns
     returns-2
     wrong-tag-requires
@@ -77,7 +88,7 @@ open-spec =
     sub-end
     sub-open-part
     part-open-part-start
-    part-open-part-end
+    (λ c. search needs)
     open-part-requires
-    same-length
+    (λ c. search needs)
     returns-4)

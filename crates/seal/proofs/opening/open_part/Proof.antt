@@ -8,40 +8,35 @@ use Rattle.seal.proofs.opening.open_part.Tie as tie
 returns : tie.Need-returns
 returns c = part-12 _ _ _ _ (c .if1 .taken)
 
-block-at-requires : tie.Need-block-at-requires
-block-at-requires c κs = search needs
-
-expand-key-requires : tie.Need-expand-key-requires
-expand-key-requires c κs = search needs
-
-vector-requires : tie.Need-vector-requires
-vector-requires c κs = search needs
-
-bad-part-requires : tie.Need-bad-part-requires
-bad-part-requires c κs = search needs
-
 returns-2 : tie.Need-returns-2
 returns-2 c =
-    part-13 _ _ _ _ (c .before .before .before .before .before .before .if1 .left)
-    (sym (judged _ _ _ _ _ _ _ (c .before .before .before .before .before .block-at .ensures) (c .before .before .before .before .expand-key .ensures) (c .before .before .before .vector .ensures) (c .before .bad-part .ensures)) ∙ c .if2 .taken)
-
-cbc-decrypt-requires : tie.Need-cbc-decrypt-requires
-cbc-decrypt-requires c κs = search needs
-
-same-length : tie.Need-same-length
-same-length c = search needs
+    let at-bad-part = c .before in
+    let at-vector = at-bad-part .before .before in
+    let at-expand-key = at-vector .before in
+    let at-block-at = at-expand-key .before in
+    let at-if1 = at-block-at .before in
+    part-13 _ _ _ _ (at-if1 .if1 .left)
+    (sym (judged _ _ _ _ _ _ _ (at-block-at .block-at .ensures) (at-expand-key .expand-key .ensures) (at-vector .vector .ensures) (at-bad-part .bad-part .ensures)) ∙ c .if2 .taken)
 
 returns-3 : tie.Need-returns-3
 returns-3 c =
-    let start = c .before .before .before .before .before .before .before .before .before .before .before .before .before .before .before .before in
+    let at-cbc-decrypt = c .before .before in
+    let at-if2 = at-cbc-decrypt .before .before .before in
+    let at-bad-part = at-if2 .before in
+    let at-vector = at-bad-part .before .before in
+    let at-expand-key = at-vector .before in
+    let at-block-at = at-expand-key .before in
+    let at-if1 = at-block-at .before in
+    let at-before = at-if1 .before .before .before .before in
+    let start = at-before .before in
     let blocks = start .pre .1 .1 in
-    let room = c .before .before .before .before .before .before .before .before .before .before .before .if1 .left in
-    let is = opens _ _ (start .args .sealed .now) _ _ _ (c .before .before .before .before .before .before .before .before .before .before .block-at .ensures) (c .before .before .before .before .before .before .before .before .before .expand-key .ensures) (c .before .before .before .before .before .before .before .before .vector .ensures) in
-    let judge = judged _ _ (start .args .sealed .now) _ _ _ _ (c .before .before .before .before .before .before .before .before .before .before .block-at .ensures) (c .before .before .before .before .before .before .before .before .before .expand-key .ensures) (c .before .before .before .before .before .before .before .before .vector .ensures)
-    (c .before .before .before .before .before .before .bad-part .ensures) in
-    let done = part-opened _ _ (start .args .sealed .now) (start .args .working .now) room blocks (sym judge ∙ c .before .before .before .before .before .if2 .left) in (
+    let room = at-if1 .if1 .left in
+    let is = opens _ _ (start .args .sealed .now) _ _ _ (at-block-at .block-at .ensures) (at-expand-key .expand-key .ensures) (at-vector .vector .ensures) in
+    let judge = judged _ _ (start .args .sealed .now) _ _ _ _ (at-block-at .block-at .ensures) (at-expand-key .expand-key .ensures) (at-vector .vector .ensures)
+    (at-bad-part .bad-part .ensures) in
+    let done = part-opened _ _ (start .args .sealed .now) (start .args .working .now) room blocks (sym judge ∙ at-if2 .if2 .left) in (
       done .0,
-      decrypted _ _ (start .args .sealed .now) (start .args .working .now) _ blocks room (c .before .before .cbc-decrypt .ensures .1) ∙ rw is (done .1),
+      decrypted _ _ (start .args .sealed .now) (start .args .working .now) _ blocks room (at-cbc-decrypt .cbc-decrypt .ensures .1) ∙ rw is (done .1),
     )
 
 pub open-part-spec : {M : Type 1} → statement M
@@ -49,11 +44,11 @@ open-part-spec =
     tie.close
     (tie.spec
     returns
-    block-at-requires
-    expand-key-requires
-    vector-requires
-    bad-part-requires
+    (λ c κs. search needs)
+    (λ c κs. search needs)
+    (λ c κs. search needs)
+    (λ c κs. search needs)
     returns-2
-    cbc-decrypt-requires
-    same-length
+    (λ c κs. search needs)
+    (λ c. search needs)
     returns-3)

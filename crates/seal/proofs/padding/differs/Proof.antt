@@ -23,15 +23,6 @@ loop-holds c =
     let l : length (c .args .t1) ≤ 16 = omega arith in
     (omega arith, omega arith, rw (drop-of-length-le (c .args .t1) l))
 
-sub-i : tie.Need-sub-i Inv-loop μ-loop
-sub-i c = search needs
-
-array-read-bad : tie.Need-array-read-bad Inv-loop μ-loop
-array-read-bad c = search needs
-
-loop-less : tie.Need-loop-less Inv-loop μ-loop
-loop-less c = search needs
-
 loop-again : tie.Need-loop-again Inv-loop μ-loop
 loop-again c =
     let block = c .before .before .args .t1 in
@@ -44,4 +35,4 @@ returns c = let e : c .before .loop .i ≡ c .before .before .args .from = omega
 pub differs-spec : {M : Type 1} → statement M
 differs-spec =
     tie.close
-    (tie.spec Inv-loop μ-loop loop-holds sub-i array-read-bad loop-less loop-again returns)
+    (tie.spec Inv-loop μ-loop loop-holds (λ c. search needs) (λ c. search needs) (λ c. search needs) loop-again returns)

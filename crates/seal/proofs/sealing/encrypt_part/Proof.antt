@@ -4,34 +4,24 @@ use borrow.Author.Needs.{needs}
 use Rattle.seal.proofs.sealing.encrypt_part.Statement.{statement}
 use Rattle.seal.proofs.sealing.encrypt_part.Tie as tie
 
-put-plain-requires : tie.Need-put-plain-requires
-put-plain-requires c κs = search needs
-
-block-at-requires : tie.Need-block-at-requires
-block-at-requires c κs = search needs
-
-expand-key-requires : tie.Need-expand-key-requires
-expand-key-requires c κs = search needs
-
-cbc-encrypt-in-place-requires : tie.Need-cbc-encrypt-in-place-requires
-cbc-encrypt-in-place-requires c κs = search needs
-
-same-length : tie.Need-same-length
-same-length c = search needs
-
 returns : tie.Need-returns
 returns c =
-    let start = c .before .before .before .before .before .before .before .before .before .before .before .before .before .before in
-    encrypted (start .args .keys .now) _ _ (start .args .room .now) _ _ (c .before .before .before .before .before .before .before .before .before .before .before .before .before .before .pre .1 .1) (c .before .before .before .before .before .before .before .before .before .put-plain .ensures) (c .before .before .before .before .before .before .block-at .ensures) (c .before .before .before .before .before .expand-key .ensures)
-    (c .before .before .cbc-encrypt-in-place .ensures .1)
+    let at-cbc-encrypt-in-place = c .before .before in
+    let at-expand-key = at-cbc-encrypt-in-place .before .before .before in
+    let at-block-at = at-expand-key .before in
+    let at-put-plain = at-block-at .before .before .before in
+    let at-before = at-put-plain .before .before .before .before in
+    let start = at-before .before in
+    encrypted (start .args .keys .now) _ _ (start .args .room .now) _ _ (start .pre .1 .1) (at-put-plain .put-plain .ensures) (at-block-at .block-at .ensures) (at-expand-key .expand-key .ensures)
+    (at-cbc-encrypt-in-place .cbc-encrypt-in-place .ensures .1)
 
 pub encrypt-part-spec : {M : Type 1} → statement M
 encrypt-part-spec =
     tie.close
     (tie.spec
-    put-plain-requires
-    block-at-requires
-    expand-key-requires
-    cbc-encrypt-in-place-requires
-    same-length
+    (λ c κs. search needs)
+    (λ c κs. search needs)
+    (λ c κs. search needs)
+    (λ c κs. search needs)
+    (λ c. search needs)
     returns)

@@ -25,44 +25,50 @@ returns-3 c =
     let s = c .before .before .before .args in
     rw (le-ltb (s .start) 42 (c .before .before .if1 .left), lt-ltb 65503 (s .start + sealedSize (s .size)) (omega arith))
 
-cast-sealed-size : tie.Need-cast-sealed-size
-cast-sealed-size c = search needs
-
-sealed-size-requires : tie.Need-sealed-size-requires
-sealed-size-requires c κs = search needs
-
 add-end : tie.Need-add-end
 unfolding sealedSize
-add-end c = omega (arith, padding-le (c .before .before .before .before .args .size))
+add-end c =
+    let start = c .before .before .before .before in
+    omega (arith, padding-le (start .args .size))
 
 returns-4 : tie.Need-returns-4
 unfolding sealRefusal
 returns-4 c =
-    let e = rw (c .before .sealed-size .ensures) at (c .if4 .taken) in
-    rw (le-ltb _ 42 (c .before .before .before .before .if1 .left), lt-ltb 65503 _ e)
+    let at-sealed-size = c .before in
+    let at-if1 = at-sealed-size .before .before .before in
+    let e = rw (at-sealed-size .sealed-size .ensures) at (c .if4 .taken) in
+    rw (le-ltb _ 42 (at-if1 .if1 .left), lt-ltb 65503 _ e)
 
 returns-5 : tie.Need-returns-5
 unfolding sealRefusal
 returns-5 c =
-    let e = rw (c .before .before .sealed-size .ensures) at (c .before .if4 .left) in
-    rw (le-ltb _ 42 (c .before .before .before .before .before .if1 .left), le-ltb 65503 _ e, ne-eqb _ 64 (c .if5 .taken))
-
-add-if6 : tie.Need-add-if6
-add-if6 c = search needs
+    let at-if4 = c .before in
+    let at-sealed-size = at-if4 .before in
+    let at-if1 = at-sealed-size .before .before .before in
+    let e = rw (at-sealed-size .sealed-size .ensures) at (at-if4 .if4 .left) in
+    rw (le-ltb _ 42 (at-if1 .if1 .left), le-ltb 65503 _ e, ne-eqb _ 64 (c .if5 .taken))
 
 returns-6 : tie.Need-returns-6
 unfolding sealRefusal
 returns-6 c =
-    let e = rw (c .before .before .before .sealed-size .ensures) at (c .before .before .if4 .left) in
-    let r = rw (c .before .before .before .sealed-size .ensures) at (c .if6 .taken) in
-    rw (le-ltb _ 42 (c .before .before .before .before .before .before .if1 .left), le-ltb 65503 _ e, eq-eqb _ 64 (c .before .if5 .left), lt-ltb _ _ r)
+    let at-if5 = c .before in
+    let at-if4 = at-if5 .before in
+    let at-sealed-size = at-if4 .before in
+    let at-if1 = at-sealed-size .before .before .before in
+    let e = rw (at-sealed-size .sealed-size .ensures) at (at-if4 .if4 .left) in
+    let r = rw (at-sealed-size .sealed-size .ensures) at (c .if6 .taken) in
+    rw (le-ltb _ 42 (at-if1 .if1 .left), le-ltb 65503 _ e, eq-eqb _ 64 (at-if5 .if5 .left), lt-ltb _ _ r)
 
 returns-7 : tie.Need-returns-7
 unfolding sealRefusal
 returns-7 c =
-    let e = rw (c .before .before .before .sealed-size .ensures) at (c .before .before .if4 .left) in
-    let r = rw (c .before .before .before .sealed-size .ensures) at (c .if6 .left) in
-    rw (le-ltb _ 42 (c .before .before .before .before .before .before .if1 .left), le-ltb 65503 _ e, eq-eqb _ 64 (c .before .if5 .left), le-ltb _ _ r)
+    let at-if5 = c .before in
+    let at-if4 = at-if5 .before in
+    let at-sealed-size = at-if4 .before in
+    let at-if1 = at-sealed-size .before .before .before in
+    let e = rw (at-sealed-size .sealed-size .ensures) at (at-if4 .if4 .left) in
+    let r = rw (at-sealed-size .sealed-size .ensures) at (c .if6 .left) in
+    rw (le-ltb _ 42 (at-if1 .if1 .left), le-ltb 65503 _ e, eq-eqb _ 64 (at-if5 .if5 .left), le-ltb _ _ r)
 
 pub refused-spec : {M : Type 1} → statement M
 refused-spec =
@@ -71,11 +77,11 @@ refused-spec =
     returns
     returns-2
     returns-3
-    cast-sealed-size
-    sealed-size-requires
+    (λ c. search needs)
+    (λ c κs. search needs)
     add-end
     returns-4
     returns-5
-    add-if6
+    (λ c. search needs)
     returns-6
     returns-7)

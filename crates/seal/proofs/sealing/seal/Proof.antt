@@ -9,9 +9,6 @@ use borrow.Author.Needs.{needs}
 use Rattle.seal.proofs.sealing.seal.Statement.{statement}
 use Rattle.seal.proofs.sealing.seal.Tie as tie
 
-refused-requires : tie.Need-refused-requires
-refused-requires c κs = search needs
-
 returns : tie.Need-returns
 returns c =
     let e = c .before .refused .ensures in
@@ -22,9 +19,6 @@ unfolding sealedSize
 cast-sealed-size c =
     let f = fit _ _ _ _ (sym (c .before .refused .ensures) ∙ c .if1 .left) in
     omega (arith, f .short)
-
-sealed-size-requires : tie.Need-sealed-size-requires
-sealed-size-requires c κs = search needs
 
 add-end : tie.Need-add-end
 unfolding sealedSize
@@ -37,55 +31,63 @@ vector-requires c κs =
     let f = fit _ _ _ _ (sym (c .before .before .before .refused .ensures) ∙ c .before .before .if1 .left) in
     (f .keys64, omega (arith, f .behind, f .roomy))
 
-sub-encrypt-part : tie.Need-sub-encrypt-part
-sub-encrypt-part c = search needs
-
-part-encrypt-part-start : tie.Need-part-encrypt-part-start
-part-encrypt-part-start c = search needs
-
 part-encrypt-part-end : tie.Need-part-encrypt-part-end
 unfolding sealedSize
 part-encrypt-part-end c =
-    let f = fit _ _ _ _ (sym (c .before .before .before .before .refused .ensures) ∙ c .before .before .before .if1 .left) in
-    rw (c .before .before .sealed-size .ensures) (omega (arith, f .roomy))
+    let at-sealed-size = c .before .before in
+    let at-if1 = at-sealed-size .before in
+    let at-refused = at-if1 .before in
+    let f = fit _ _ _ _ (sym (at-refused .refused .ensures) ∙ at-if1 .if1 .left) in
+    rw (at-sealed-size .sealed-size .ensures) (omega (arith, f .roomy))
 
 encrypt-part-requires : tie.Need-encrypt-part-requires
 encrypt-part-requires c κs =
-    let s = c .before .before .before .before .before .before .before .before .before .args in
-    let f = fit _ _ _ _ (sym (c .before .before .before .before .before .refused .ensures) ∙ c .before .before .before .before .if1 .left) in
-    (f .keys64, (small (length (s .payload .now)) (s .start) (f .short), part-room (s .out .now) (s .start) _ _ _ _ f (c .before .before .before .sealed-size .ensures) refl))
+    let at-sealed-size = c .before .before .before in
+    let at-if1 = at-sealed-size .before in
+    let at-refused = at-if1 .before in
+    let start = at-refused .before .before .before .before in
+    let s = start .args in
+    let f = fit _ _ _ _ (sym (at-refused .refused .ensures) ∙ at-if1 .if1 .left) in
+    (f .keys64, (small (length (s .payload .now)) (s .start) (f .short), part-room (s .out .now) (s .start) _ _ _ _ f (at-sealed-size .sealed-size .ensures) refl))
 
 put-tag-requires : tie.Need-put-tag-requires
 put-tag-requires c κs =
-    let f = fit _ _ _ _ (sym (c .before .before .before .before .before .before .before .before .before .refused .ensures) ∙ c .before .before .before .before .before .before .before .before .if1 .left) in
-    let e = c .before .before .before .before .before .before .before .sealed-size .ensures in
+    let at-sealed-size = c .before .before .before .before .before .before .before in
+    let at-if1 = at-sealed-size .before in
+    let at-refused = at-if1 .before in
+    let f = fit _ _ _ _ (sym (at-refused .refused .ensures) ∙ at-if1 .if1 .left) in
+    let e = at-sealed-size .sealed-size .ensures in
     (f .keys64, omega (arith, f .behind), omega (arith, f .short), omega (arith, f .roomy))
-
-same-length : tie.Need-same-length
-same-length c = search needs
 
 returns-2 : tie.Need-returns-2
 returns-2 c =
-    let allowed = sym (c .before .before .before .before .before .before .before .before .before .before .before .before .refused .ensures) ∙ c .before .before .before .before .before .before .before .before .before .before .before .if1 .left in (
+    let at-put-tag = c .before .before in
+    let at-encrypt-part = at-put-tag .before .before .before .before in
+    let at-vector = at-encrypt-part .before .before in
+    let at-sealed-size = at-vector .before .before in
+    let at-if1 = at-sealed-size .before in
+    let at-refused = at-if1 .before in
+    let start = at-refused .before .before .before .before in
+    let allowed = sym (at-refused .refused .ensures) ∙ at-if1 .if1 .left in (
       sym allowed,
-      sealed-into _ _ _ _ _ allowed (ap (λ (n : ℕ). c .before .before .before .before .before .before .before .before .before .before .before .before .before .before .before .before .args .start + n) (c .before .before .before .before .before .before .before .before .before .before .sealed-size .ensures)) _ _ _ (c .before .before .before .before .before .before .before .before .vector .ensures)
-          (c .before .before .before .before .before .before .encrypt-part .ensures) (c .before .before .put-tag .ensures),
+      sealed-into _ _ _ _ _ allowed (ap (λ (n : ℕ). start .args .start + n) (at-sealed-size .sealed-size .ensures)) _ _ _ (at-vector .vector .ensures)
+          (at-encrypt-part .encrypt-part .ensures) (at-put-tag .put-tag .ensures),
     )
 
 pub seal-spec : {M : Type 1} → statement M
 seal-spec =
     tie.close
     (tie.spec
-    refused-requires
+    (λ c κs. search needs)
     returns
     cast-sealed-size
-    sealed-size-requires
+    (λ c κs. search needs)
     add-end
     vector-requires
-    sub-encrypt-part
-    part-encrypt-part-start
+    (λ c. search needs)
+    (λ c. search needs)
     part-encrypt-part-end
     encrypt-part-requires
     put-tag-requires
-    same-length
+    (λ c. search needs)
     returns-2)
