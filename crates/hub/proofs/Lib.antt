@@ -1,3 +1,5 @@
 pub mod Certificates
 pub mod Hearing
 pub mod Quiet
+pub mod Stepping
+pub mod Layer

@@ -2,3 +2,4 @@ pub mod Answers
 pub mod Opening
 pub mod Host
 pub mod Hear
+pub mod Step

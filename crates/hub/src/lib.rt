@@ -1,6 +1,7 @@
 // A connection of the hub: opening it, and what each message does to it (document 01, "Host states").
 mod enrol;
 mod hear;
+mod step;
 
 ghost use mathlib.Core.Path.{_≡_};
 ghost use Rattle.hub.specs.Opening.{blank, opened};

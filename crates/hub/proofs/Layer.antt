@@ -1,0 +1,123 @@
+-- The step as the machine of demand 3: a fragment of the report that the reader reads is joined, and a quiet answer changes nothing.
+-- Assumes nothing.
+use Prim.Native.Nat.{ℕ, _≤_}
+use mathlib.Core.Path.{_≡_, refl, sym, ap, ap₂, _∙_}
+use mathlib.Core.List.{List}
+use mathlib.Core.Bool.{Bool, true, false, cond, _||_}
+use native.Mathlib.Omega.{arith}
+use lib.ListN.{length}
+use lib.Dec.{ltb, eqb}
+use borrow.Author.Tests.{le-ltb, eq-eqb, ne-eqb}
+use Rattle.wire.specs.declared.header.Header.{Header}
+use Rattle.message.specs.Reading.{readMessage, workingAfter}
+use Rattle.message.specs.Handed.{payload}
+use Rattle.message.specs.declared.reading.MessageRead.{MessageRead}
+use Rattle.message.specs.declared.reading.MessageRead.the-variants.{Refused, Read}
+use Rattle.joining.specs.declared.Progress.{Progress}
+use Rattle.joining.specs.declared.Piece.{Piece}
+use Rattle.joining.specs.declared.Joined.{Joined}
+use Rattle.joining.specs.Cut.{badSize}
+use Rattle.joining.specs.Join.{join, reportAfter}
+use Rattle.joining.proofs.Courses.{Machine}
+use Rattle.hub.specs.declared.Connection.{Connection}
+use Rattle.hub.specs.declared.Stepped.{Stepped}
+use Rattle.hub.specs.declared.Answer.{Answer}
+use Rattle.hub.specs.Answers.{answerOf, isQuiet, isComplete}
+use Rattle.hub.specs.Hear.{pieceIn, withProgress, joined, isForeign, joins, heard, reportHeard}
+use Rattle.hub.specs.Step.{afterRead, reportRead, step, reportStepped}
+use Rattle.hub.proofs.Quiet.{Still, heard-still}
+
+-- What one call is given beside the connection and the report buffer.
+pub record Call : Type 0 where
+  pub message : List ℕ
+  pub keys : List ℕ
+  pub working : List ℕ
+  pub verdict : ℕ
+
+-- What a call leaves behind.
+pub record Place : Type 0 where
+  pub connection : Connection
+  pub report : List ℕ
+
+-- The call's verdict is 0 or 1, and its message is read as a Session message of this connection's session that brings the piece.
+pub record Brings (c : Connection) (p : Piece) (bytes : List ℕ) (x : Call) : Type 0 where
+  pub verdict : x .verdict ≤ 1
+  pub header : Header
+  pub sealed : Bool
+  pub from : ℕ
+  pub size : ℕ
+  pub reads : readMessage (x .message) (x .keys) (length (x .working)) ≡ Read header sealed from size
+  pub kind : header .kind ≡ 4
+  pub session : header .session ≡ c .session
+  pub piece : pieceIn header ≡ p
+  pub payload : payload (x .message) (workingAfter (x .message) (x .keys) (x .working)) sealed from size ≡ bytes
+
+-- A quiet answer leaves connection and report buffer alone, on any connection.
+module _ (c : Connection) (m k w b : List ℕ) (v : ℕ) where
+  read-still : (w′ : List ℕ) (r : MessageRead) → Still c b (afterRead c m w′ b v r) (reportRead c m w′ b r)
+  read-still w′ (Refused n) = λ e. (refl, refl)
+  read-still w′ (Read h sealed from size) = heard-still c b h (payload m w′ sealed from size) v
+
+  ways : (t z : Bool) (x y r : Stepped) (b′ : List ℕ) → Still c b x b → Still c b y b → Still c b r b′
+      → Still c b (cond {A = Stepped} t x (cond {A = Stepped} z y r)) (cond (t || z) b b′)
+  ways true z x y r b′ p q s = p
+  ways false true x y r b′ p q s = q
+  ways false false x y r b′ p q s = s
+
+  pub step-still : Still c b (step c m k w b v) (reportStepped c m k w b v)
+  unfolding step reportStepped
+  step-still =
+      ways (ltb 1 v) (badSize (c .size)) _ _ _ _ (λ e. (refl, refl)) (λ e. (refl, refl)) (read-still (workingAfter m k w) (readMessage m k (length w)))
+
+-- A fragment is joined, on a Ready connection.
+module _ (c : Connection) (ready : c .state ≡ 3) (sized : badSize (c .size) ≡ false) (h : Progress) (b : List ℕ) (p : Piece) (bytes : List ℕ) (x : Call)
+    (i : Brings c p bytes x) where
+  pub step-joins : (step (withProgress c h) (x .message) (x .keys) (x .working) b (x .verdict) ≡ joined c (join (c .size) h p bytes b))
+      × (reportStepped (withProgress c h) (x .message) (x .keys) (x .working) b (x .verdict) ≡ reportAfter (c .size) h p bytes b)
+  unfolding step reportStepped heard reportHeard
+  step-joins =
+      let t : ltb 1 (x .verdict) ≡ false = le-ltb 1 (x .verdict) (i .verdict) in
+      let q : eqb (i .header .session) (c .session) ≡ true = eq-eqb (i .header .session) (c .session) (i .session) in (
+        rw (t, sized, i .reads, i .kind, ready, q, i .piece, i .payload),
+        rw (t, sized, i .reads, i .kind, ready, q, i .piece, i .payload),
+      )
+
+-- The machine.
+module _ (c : Connection) (ready : c .state ≡ 3) (sized : badSize (c .size) ≡ false) where
+  abbrev pub next : Place → Call → Place
+  next s x =
+      record {
+        connection = step (s .connection) (x .message) (x .keys) (x .working) (s .report) (x .verdict) .connection;
+        report = reportStepped (s .connection) (x .message) (x .keys) (x .working) (s .report) (x .verdict);
+      }
+
+  abbrev pub says : Place → Call → Answer
+  says s x = step (s .connection) (x .message) (x .keys) (x .working) (s .report) (x .verdict) .answer
+
+  pub place : {c c′ : Connection} {b b′ : List ℕ} → c ≡ c′ → b ≡ b′ → _≡_ {A = Place} (record { connection = c; report = b }) (record { connection = c′; report = b′ })
+  place p q = λ i. record { connection = p i; report = q i }
+
+  pub still : (s : Place) (x : Call) → isQuiet (says s x) ≡ true → next s x ≡ s
+  still s x e = let k = step-still (s .connection) (x .message) (x .keys) (x .working) (s .report) (x .verdict) e in place (k .0) (k .1)
+
+  abbrev pub hub : Machine (c .size)
+  hub =
+      record {
+        C = Place;
+        X = Call;
+        A = Answer;
+        next = next;
+        says = says;
+        Brings = Brings c;
+        Quiet = λ a. isQuiet a ≡ true;
+        seat = λ h b. record { connection = withProgress c h; report = b };
+        answer = answerOf;
+        done = isComplete;
+        joins = λ h b p bytes x i. let k = step-joins c ready sized h b p bytes x i in place (ap (λ (s : Stepped). s .connection) (k .0)) (k .1);
+        answers = λ h b p bytes x i. ap (λ (s : Stepped). s .answer) (step-joins c ready sized h b p bytes x i .0);
+        still = still;
+        done-complete = λ l k. refl;
+        done-taken = λ k. refl;
+        done-repeat = λ k. refl;
+        done-refused = λ k. refl;
+      }
