@@ -133,7 +133,7 @@ impl Script {
         let mut early = piece.clone();
         early.header.sequence += 2;
         self.draft(&early, 1, "refused 18");
-        if index % 16 == 0 {
+        if index.is_multiple_of(16) {
             self.again(3);
         }
     }
