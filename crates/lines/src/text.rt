@@ -95,3 +95,15 @@ pub fn put_named(name: &[u8], number: u32, out: &mut [u8], at: usize) -> usize
     }
     put_name(name, number, out, at)
 }
+
+// Puts a text at a place, and answers the place behind it; where there is no room, nothing is put and the place itself is the answer.
+pub fn put_text(text: &[u8], out: &mut [u8], at: usize) -> usize
+    ensures { λ r. ⌜ r ≡ putEnd (length (now (text .entry))) at (now (text .entry)) (now (out .entry)) ⌝ }
+    ensures { λ _. ⌜ now (out .exit) ≡ put (length (now (text .entry))) at (now (text .entry)) (now (out .entry)) ⌝ }
+{
+    if lacks(out.len(), at, text.len()) {
+        return at;
+    }
+    put_bytes(text, out, at);
+    at + text.len()
+}
