@@ -1,20 +1,6 @@
-// Published vectors of AES-128 and its CBC mode, run through the library both ways: for each source, how many agree of how many.
-mod hexes;
-
-use libc::STDOUT_FILENO;
-ghost use Prim.Native.Nat.{_≤_};
-
-// The kinds of lines: a key and its eleven round keys; a key, a block and its cipher; a key, a vector, a plain text and its cipher text.
-const KEY: u8 = 0;
-
-const BLOCK: u8 = 1;
-
-// What a line of a file says of the library, and where the next line starts.
-struct Said {
-    tried: bool,
-    agreed: bool,
-    next: usize,
-}
+// The vectors of AES-128 and its CBC mode, each run both ways.
+use crate::Said;
+use crate::hexes;
 
 // Whether a round key is the published one.
 fn round_key_agrees(k: [u8; 16], published: &[u8], n: usize) -> bool {
@@ -30,7 +16,7 @@ fn round_key_agrees(k: [u8; 16], published: &[u8], n: usize) -> bool {
 }
 
 // A key and its expansion.
-fn key_line(text: &[u8], at: usize) -> Said {
+pub(crate) fn key_line(text: &[u8], at: usize) -> Said {
     let mut key = [0u8; 16];
     let mut published = [0u8; 176];
     let f = hexes::field(text, at, &mut key);
@@ -51,7 +37,7 @@ fn key_line(text: &[u8], at: usize) -> Said {
 }
 
 // A key, a block and its cipher.
-fn block_line(text: &[u8], at: usize) -> Said {
+pub(crate) fn block_line(text: &[u8], at: usize) -> Said {
     let mut key = [0u8; 16];
     let mut plain = [0u8; 16];
     let mut cipher = [0u8; 16];
@@ -112,7 +98,7 @@ fn encrypts_in_place(
 }
 
 // A key, a vector, a plain text and its cipher text.
-fn chain_line(text: &[u8], at: usize) -> Said {
+pub(crate) fn chain_line(text: &[u8], at: usize) -> Said {
     let mut key = [0u8; 16];
     let mut vector = [0u8; 16];
     let mut plain = [0u8; 1024];
@@ -133,82 +119,4 @@ fn chain_line(text: &[u8], at: usize) -> Said {
         agreed: there & back & again,
         next: hexes::behind(text, c.next, b'\n'),
     }
-}
-
-// One line of a file; one that starts with # or is empty is no vector.
-fn line(text: &[u8], at: usize, kind: u8) -> Said {
-    if hexes::is_no_vector(text, at) {
-        return Said {
-            tried: false,
-            agreed: false,
-            next: hexes::behind(text, at, b'\n'),
-        };
-    }
-    if kind == KEY {
-        return key_line(text, at);
-    }
-    if kind == BLOCK {
-        return block_line(text, at);
-    }
-    chain_line(text, at)
-}
-
-fn one_if(is_so: bool) -> u64
-    ensures { λ r. ⌜ r ≤ 1 ⌝ }
-{
-    if is_so {
-        return 1;
-    }
-    0
-}
-
-fn report(name: &[u8], agreed: u64, tried: u64) {
-    io::write_all(STDOUT_FILENO, name);
-    io::write_all(STDOUT_FILENO, b": ");
-    io::print_decimal(STDOUT_FILENO, agreed);
-    io::write_all(STDOUT_FILENO, b" of ");
-    io::print_decimal(STDOUT_FILENO, tried);
-    io::write_all(STDOUT_FILENO, b" agree\n");
-}
-
-// All lines of a text up to its end, a million at most.
-fn lines(name: &[u8], text: &[u8], end: usize, kind: u8) {
-    let mut agreed: u64 = 0;
-    let mut tried: u64 = 0;
-    let mut at: usize = 0;
-    let mut turns: u64 = 1000000;
-    while turns > 0 {
-        if at >= end {
-            break;
-        }
-        let l = line(text, at, kind);
-        agreed += one_if(l.agreed);
-        tried += one_if(l.tried);
-        at = l.next;
-        turns -= 1;
-    }
-    report(name, agreed, tried);
-}
-
-fn read_lines(name: &[u8], fd: i32, text: &mut [u8; 65536], kind: u8) {
-    let n = io::read_full(fd, text);
-    lines(name, text, n, kind);
-}
-
-fn file(name: &[u8], kind: u8) {
-    let fd = os::open_read(name);
-    if fd < 0 {
-        os::fail(name);
-        return;
-    }
-    let mut text = [0u8; 65536];
-    read_lines(name, fd, &mut text, kind);
-    libc::close(fd);
-}
-
-fn main() {
-    file(b"fips197a.txt", KEY);
-    file(b"fips197bc.txt", BLOCK);
-    file(b"sp80038a.txt", 2);
-    file(b"aes128cbc.txt", 2);
 }

@@ -4,8 +4,8 @@ use borrow.Author.Needs.{needs}
 use mathlib.Core.Path.{_≡_}
 use Prim.Native.Nat.{_≤_, _-_}
 use lib.ListN.{length, length-set}
-use Rattle.aes_vectors.proofs.hexes.field.Statement.{statement}
-use Rattle.aes_vectors.proofs.hexes.field.Tie as tie
+use Rattle.vectors.proofs.hexes.field.Statement.{statement}
+use Rattle.vectors.proofs.hexes.field.Tie as tie
 
 abbrev Inv-loop : tie.InvT-loop
 Inv-loop text at out₀ i₀ n₀ out i n = (n ≤ length out) × (length out ≡ length out₀)

@@ -1,8 +1,8 @@
 -- The loop looks at eleven round keys. Assumes nothing.
 use Prim.Native.Nat.{_≤_, _-_}
 use borrow.Author.Needs.{needs}
-use Rattle.aes_vectors.proofs.key_line.Statement.{statement}
-use Rattle.aes_vectors.proofs.key_line.Tie as tie
+use Rattle.vectors.proofs.ciphers.key_line.Statement.{statement}
+use Rattle.vectors.proofs.ciphers.key_line.Tie as tie
 
 abbrev Inv-loop : tie.InvT-loop
 Inv-loop text at published p keys agreed₀ n₀ agreed n = n ≤ 11

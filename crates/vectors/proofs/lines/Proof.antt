@@ -1,8 +1,8 @@
 -- The counts and the turns that are left are together no more than the turns at the start. Assumes nothing.
 use borrow.Author.Needs.{needs}
 use Prim.Native.Nat.{_+_, _≤_}
-use Rattle.aes_vectors.proofs.lines.Statement.{statement}
-use Rattle.aes_vectors.proofs.lines.Tie as tie
+use Rattle.vectors.proofs.lines.Statement.{statement}
+use Rattle.vectors.proofs.lines.Tie as tie
 
 abbrev Inv-loop : tie.InvT-loop
 Inv-loop name text end kind agreed₀ tried₀ at₀ turns₀ agreed tried at turns = (agreed + turns ≤ 1000000) × (tried + turns ≤ 1000000)

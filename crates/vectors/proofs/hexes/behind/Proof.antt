@@ -2,8 +2,8 @@
 use borrow.Author.Needs.{needs}
 use Prim.Native.Nat.{_-_}
 use lib.ListN.{length}
-use Rattle.sha256_vectors.proofs.hexes.behind.Statement.{statement}
-use Rattle.sha256_vectors.proofs.hexes.behind.Tie as tie
+use Rattle.vectors.proofs.hexes.behind.Statement.{statement}
+use Rattle.vectors.proofs.hexes.behind.Tie as tie
 
 abbrev Inv-loop : tie.InvT-loop
 Inv-loop text at mark i₀ i = Unit {0}
