@@ -1,0 +1,1 @@
+// No code: the three demands of the mission and the numbered examples, stated over the definitions that the public calls' contracts cite.
