@@ -1,2 +1,4 @@
 pub mod Readers
 pub mod Handing
+pub mod WrittenSizes
+pub mod Written

@@ -1,3 +1,4 @@
 // A whole message: the reader (refusals 1 to 14), the part that its payload is, and the writer.
 pub mod payload;
 pub mod reading;
+pub mod writing;

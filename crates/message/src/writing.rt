@@ -1,0 +1,120 @@
+// Writing a message. Its parts, as they are written into the output; what is sealed is sealed where it stands:
+//
+//     | header | chain | payload, or sealed part and tag |
+//     0        40    start                          length
+//
+use seal::padding::sealed_size;
+use wire::chain::bad_chain;
+use wire::header::Header;
+use wire::header::SESSION;
+use wire::header::TAG;
+use wire::header::bad_flags;
+use wire::header::bad_kind;
+use wire::header::bad_piece;
+use wire::header::is_sealed;
+use wire::payload::bad_payload;
+use wire::refusals::NO_ROOM;
+use wire::refusals::WRONG_CHAIN;
+use wire::refusals::WRONG_FLAGS;
+use wire::refusals::WRONG_KEYS;
+use wire::refusals::WRONG_KIND;
+use wire::refusals::WRONG_PAYLOAD;
+use wire::refusals::WRONG_PIECE;
+use wire::refusals::WRONG_PIECE_SIZE;
+use wire::writer::Written;
+use wire::writer::write_header;
+ghost use mathlib.Core.Path.{_≡_};
+ghost use mathlib.Core.List.{_++_};
+ghost use Prim.Native.Nat.{_+_, _≤_, _<_};
+ghost use lib.ListN.{length, drop};
+ghost use lib.Seq.{sets};
+ghost use Rattle.wire.specs.Writer.{headerBytes};
+ghost use Rattle.message.specs.Writing.{finishedLength, writeRefusal, writeAnswer, writtenInto};
+
+// The most bytes of a Session payload.
+pub const MOST_PAYLOAD: usize = 16384;
+
+// The bytes of the keys.
+const KEYS: usize = 64;
+
+// The length of a message with a chain and a payload of so many bytes.
+fn finished_length(sealed: bool, chain: usize, payload: usize) -> usize
+    requires { ⌜ (chain ≤ 2058) × (payload ≤ 16384) ⌝ }
+    ensures { λ r. ⌜ r ≡ finishedLength sealed chain payload ⌝ }
+{
+    if sealed {
+        return Header::LENGTH + chain + (sealed_size(payload as u32) + TAG);
+    }
+    Header::LENGTH + chain + payload
+}
+
+// The number of the first refusal that applies to writing a message, given so many key bytes, into an output of `room` bytes, or 0.
+fn refused(header: Header, chain: &[u8], payload: &[u8], keys: usize, room: usize) -> u8
+    ensures { λ r. ⌜ r ≡ writeRefusal header (now (chain .entry)) (now (payload .entry)) keys room ⌝ }
+{
+    if bad_kind(header.kind) {
+        return WRONG_KIND;
+    }
+    if bad_flags(header.kind, header.flags) {
+        return WRONG_FLAGS;
+    }
+    if bad_piece(header.kind, header.index, header.count) {
+        return WRONG_PIECE;
+    }
+    if bad_chain(chain) {
+        return WRONG_CHAIN;
+    }
+    let sealed = is_sealed(header.flags);
+    if sealed & (keys != KEYS) {
+        return WRONG_KEYS;
+    }
+    if bad_payload(header.kind, sealed, payload) {
+        return WRONG_PAYLOAD;
+    }
+    if (header.kind == SESSION) & (MOST_PAYLOAD < payload.len()) {
+        return WRONG_PIECE_SIZE;
+    }
+    if room < finished_length(sealed, chain.len(), payload.len()) {
+        return NO_ROOM;
+    }
+    0
+}
+
+// A run of bytes from a place on: that part of the output is lent to a copy.
+fn put(out: &mut [u8], at: usize, bytes: &[u8])
+    requires { ⌜ at + length (now bytes) ≤ length (now out) ⌝ }
+    ensures { λ _. ⌜ now (out .exit) ≡ sets (now (out .entry)) at (now (bytes .entry)) ⌝ }
+{
+    bytes::copy(bytes, &mut out[at..]);
+}
+
+// The header of a message of `size` bytes, and its chain.
+fn put_front(header: Header, size: u16, chain: &[u8], out: &mut [u8])
+    requires { ⌜ 40 + length (now chain) ≤ length (now out) ⌝ }
+    ensures { λ _. ⌜ now (out .exit) ≡ (headerBytes header size ++ now (chain .entry)) ++ drop (40 + length (now (chain .entry))) (now (out .entry)) ⌝ }
+{
+    write_header(header, size, out);
+    put(out, Header::LENGTH, chain);
+}
+
+// Writes a message with these fields, this chain (given with its end entry) and this payload at the start of the output, or refuses and leaves
+// the output as it was. Flags 2 and 4 say that it is to be sealed; a plain message looks at no keys.
+pub fn write(header: Header, chain: &[u8], payload: &[u8], keys: &[u8], out: &mut [u8]) -> Written
+    ensures { λ r. ⌜ r ≡ writeAnswer header (now (chain .entry)) (now (payload .entry)) (length (now (keys .entry))) (length (now (out .entry))) ⌝ }
+    ensures { λ _. ⌜ now (out .exit) ≡ writtenInto header (now (chain .entry)) (now (payload .entry)) (now (keys .entry)) (now (out .entry)) ⌝ }
+{
+    let refusal = refused(header, chain, payload, keys.len(), out.len());
+    if refusal != 0 {
+        return Written::Refused(refusal);
+    }
+    let sealed = is_sealed(header.flags);
+    let size = finished_length(sealed, chain.len(), payload.len());
+    let start = Header::LENGTH + chain.len();
+    put_front(header, size as u16, chain, out);
+    if sealed {
+        seal::sealing::seal(keys, payload, start, out);
+        return Written::Bytes(size);
+    }
+    put(out, start, payload);
+    Written::Bytes(size)
+}
