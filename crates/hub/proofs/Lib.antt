@@ -3,3 +3,4 @@ pub mod Hearing
 pub mod Quiet
 pub mod Stepping
 pub mod Layer
+pub mod Refusing
