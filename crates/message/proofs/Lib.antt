@@ -2,3 +2,5 @@ pub mod Readers
 pub mod Handing
 pub mod WrittenSizes
 pub mod Written
+pub mod WrittenLengths
+pub mod WrittenBack

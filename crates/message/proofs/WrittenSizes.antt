@@ -7,7 +7,6 @@ use mathlib.Core.Bool.{Bool, true, false, cond, not, _&&_, _||_, true≢false}
 use native.Mathlib.Omega.{arith}
 use borrow.Author.Tests.{ltb-false, leb-true, eqb-true, eq-eqb, not-false}
 use lib.ListN.{length, getD, drop, length-drop}
-use lib.Seq.{getD-drop}
 use lib.Dec.{ltb, leb, eqb}
 use Rattle.laws.specs.Bytes.{be8, be16, be32}
 use Rattle.laws.proofs.Bools.{or-false, and-true, and-false-right}
@@ -19,10 +18,7 @@ use Rattle.wire.specs.declared.chain.Entry.{Entry}
 use Rattle.wire.specs.declared.chain.Chain.the-variants.{Leaves, Broken}
 use Rattle.wire.specs.declared.chain.Entry.the-variants.{End, Spans, Wrong}
 use Rattle.wire.proofs.Sound.{kinds}
-
--- Every element is a byte.
-abbrev pub Bytes : List ℕ → Type 0
-Bytes m = (i : ℕ) → getD m i 0 < 256
+use Rattle.seal.proofs.ByteLists.{AllBytes, drop-bytes}
 
 -- An entry that spans bytes of a chain spans at most 257.
 abbrev spansFew : Entry → Type 0
@@ -30,21 +26,18 @@ spansFew End = Unit
 spansFew (Spans n) = n ≤ 257
 spansFew Wrong = Unit
 
-few : (m : List ℕ) (a b c d e : Bool) → Bytes m
+few : (m : List ℕ) (a b c d e : Bool) → AllBytes m
     → spansFew (cond a Wrong (cond b (cond c End Wrong) (cond d Wrong (cond e Wrong (Spans (2 + be8 m 1))))))
 few m true b c d e w = tt
 few m false true true d e w = tt
 few m false true false d e w = tt
 few m false false c true e w = tt
 few m false false c false true w = tt
-few m false false c false false w = omega (arith, w 1)
+few m false false c false false w = omega (arith, w .at 1)
 
-entry-few : (m : List ℕ) → Bytes m → spansFew (entryOf m)
+entry-few : (m : List ℕ) → AllBytes m → spansFew (entryOf m)
 unfolding entryOf
 entry-few m w = few m (ltb (length m) 2) (eqb (be8 m 0) 0) (eqb (be8 m 1) 0) (ltb 3 (be8 m 0)) (ltb (length m) (2 + be8 m 1)) w
-
-bytes-drop : (n : ℕ) (m : List ℕ) → Bytes m → Bytes (drop n m)
-bytes-drop n m w i = rw getD-drop (w (n + i))
 
 followed : (k : ℕ) (m : List ℕ) (e : Entry) (next : List ℕ → Chain) → 2 ≤ k → spansFew e
     → ((n : ℕ) → n ≤ 257 → isBroken (next (drop n m)) ≡ false → length m ≤ leaves (next (drop n m)) + k)
@@ -53,14 +46,14 @@ followed k m Wrong next two s h b = absurd (true≢false b)
 followed k m End next two s h b = omega arith
 followed k m (Spans n) next two s h b = h n s b
 
-chain-few : (left : ℕ) (m : List ℕ) → Bytes m → isBroken (chain left m) ≡ false → length m ≤ leaves (chain left m) + (257 * left + 2)
+chain-few : (left : ℕ) (m : List ℕ) → AllBytes m → isBroken (chain left m) ≡ false → length m ≤ leaves (chain left m) + (257 * left + 2)
 unfolding chain
 chain-few zero m w b = followed 2 m (entryOf m) (λ rest. Broken) (omega arith) (entry-few m w) (λ n s p. absurd (true≢false p)) b
 chain-few (suc left) m w b =
     followed (257 * suc left + 2) m (entryOf m) (chain left) (omega arith) (entry-few m w)
-    (λ n s p. omega (arith, chain-few left (drop n m) (bytes-drop n m w) p, length-drop n m)) b
+    (λ n s p. omega (arith, chain-few left (drop n m) (drop-bytes n m w) p, length-drop n m)) b
 
-pub chain-short : (given : List ℕ) → Bytes given → badChain given ≡ false → length given ≤ 2058
+pub chain-short : (given : List ℕ) → AllBytes given → badChain given ≡ false → length given ≤ 2058
 unfolding badChain readChain mostEntries
 chain-short given w b =
     let t = or-false (isBroken (readChain given)) (not (eqb (leaves (readChain given)) 0)) b in

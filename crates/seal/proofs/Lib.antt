@@ -4,3 +4,5 @@ pub mod Opened
 pub mod Filling
 pub mod Seals
 pub mod Accepted
+pub mod ByteLists
+pub mod Unsealed

@@ -77,7 +77,7 @@ unfolding plainText
 at-payload payload = take-at payload (paddingBytes (length payload)) (length payload) refl
 
 -- The size is read back.
-told-plainText : (payload : List ℕ) → length payload < 2 ^ 32 → be32 (plainText payload) 0 ≡ length payload
+pub told-plainText : (payload : List ℕ) → length payload < 2 ^ 32 → be32 (plainText payload) 0 ≡ length payload
 unfolding plainText
 told-plainText payload h = simp div-add-mod'
 

@@ -39,7 +39,7 @@ returns-7 c = rw (← c .before .before .before .before .before .before .before 
 finished-length-requires : tie.Need-finished-length-requires
 finished-length-requires c κs =
     let s = c .before .before .before .before .before .before .before .before .before .before .before .before .before .before .before .before .args in (
-      chain-short (s .chain .now) (λ i. omega (arith, c .before .before .before .before .before .before .before .before .before .before .before .before .before .before .before .shared-slice-known .given i)) (sym (c .before .before .before .before .before .before .before .bad-chain .ensures) ∙ c .before .before .before .before .before .before .if4 .left),
+      chain-short (s .chain .now) (record { at = λ i. omega (arith, c .before .before .before .before .before .before .before .before .before .before .before .before .before .before .before .shared-slice-known .given i) }) (sym (c .before .before .before .before .before .before .before .bad-chain .ensures) ∙ c .before .before .before .before .before .before .if4 .left),
       payload-short (s .payload .now) (s .header .kind) _ (sym (c .before .before .before .before .before .before .before .before .before .before .before .before .before .bad-kind .ensures) ∙ c .before .before .before .before .before .before .before .before .before .before .before .before .if1 .left) (sym (c .before .before .before .bad-payload .ensures) ∙ c .before .before .if6 .left) (c .if7 .left),
     )
 
