@@ -4,20 +4,21 @@ use mathlib.Core.Path.{_≡_, refl, sym, ap, ap₂, _∙_, subst}
 use mathlib.Core.List.{List, [], _∷_, _++_, append-assoc, append-nil}
 use Prim.Native.Nat.{ℕ, zero, suc, _+_, _-_, _*_, _/_, _%_, _≤_, _<_}
 use native.Mathlib.Omega.{arith}
-use mathlib.Core.Bool.{true, false, cond}
+use mathlib.Core.Bool.{Bool, true, false, cond}
 use borrow.Author.Tests.{lt-leb, le-leb, eq-eqb, ne-eqb}
 use lib.Dec.{eqb}
 use lib.ListN.{getD, length, take, drop, length-append, length-drop, take-append-drop}
-use lib.Seq.{paste, length-paste, take-paste, drop-paste, take-all, drop-drop, take-at, drop-at, length-take-le, getD-take, getD-drop, drop-length}
+use lib.Seq.{paste, length-paste, take-paste, drop-paste, take-append-le, take-take, take-all, drop-drop, take-at, drop-at, length-take-le, getD-take, getD-drop, drop-length}
 use Rattle.laws.proofs.Lists.{part-from}
+use Rattle.field.proofs.Below.{agree}
 use Rattle.aes.specs.declared.columns.State.{State}
 use Rattle.aes.specs.Words.{bytesOf}
 use Rattle.aes.specs.State.{block, Block, addRoundKey, loadBlock}
 use Rattle.aes.specs.Cipher.{cipher, invCipher}
 use Rattle.aes.specs.Cbc.{encryptBlocks, cbcDecryptBlock, decryptBlocks, cbcEncrypt, cbcDecrypt, fits, written}
-use Rattle.aes.proofs.Steps.{block-is, add-length, add-block, add-add}
+use Rattle.aes.proofs.Steps.{block-is, add-length, add-block, add-add, add-zeros}
 use Rattle.aes.proofs.Schedule.{Keys}
-use Rattle.aes.proofs.Undo.{cipher-length, cipher-block, invCipher-cipher}
+use Rattle.aes.proofs.Undo.{cipher-length, invCipher-length, cipher-block, invCipher-cipher}
 
 -- ---- one block more at the front
 
@@ -108,25 +109,24 @@ pub decrypt-none : (ks : List (List ℕ)) (u s : List ℕ) → decryptBlocks ks 
 unfolding decryptBlocks
 decrypt-none ks u s = refl
 
--- one block encrypted: w is the block as words, y the sum, v its cipher, o that as bytes
+-- one block encrypted: b is the block as words, y the sum, v its cipher, o that as bytes
 pub encrypt-more : (ks : List (List ℕ)) (s t₀ u₀ u t : List ℕ) (at : ℕ) → Chained (encryptBlocks ks) s t₀ u₀ u t at
-    → (b w y v o t′ : List ℕ) → at < length s → b ≡ take 16 (drop at s) → w ≡ b → y ≡ addRoundKey w u → v ≡ cipher ks y → o ≡ v
+    → (b y v o t′ : List ℕ) → at < length s → b ≡ take 16 (drop at s) → y ≡ addRoundKey b u → v ≡ cipher ks y → o ≡ v
     → t′ ≡ paste t at o 16 → Chained (encryptBlocks ks) s t₀ u₀ v t′ (at + 16)
-encrypt-more ks s t₀ u₀ u t at c b w y v o t′ h eb ew ey ev eo et =
-    let e : v ≡ cipher ks (addRoundKey (take 16 (drop at s)) u) =
-    ev ∙ ap (cipher ks) (ey ∙ ap (λ (x : List ℕ). addRoundKey x u) (ew ∙ eb)) in
+encrypt-more ks s t₀ u₀ u t at c b y v o t′ h eb ey ev eo et =
+    let e : v ≡ cipher ks (addRoundKey (take 16 (drop at s)) u) = ev ∙ ap (cipher ks) (ey ∙ ap (λ (x : List ℕ). addRoundKey x u) eb) in
     subst (λ (x : List ℕ). Chained (encryptBlocks ks) s t₀ u₀ v x (at + 16)) (sym (et ∙ ap (λ (x : List ℕ). paste t at x 16) eo))
     (more (encryptBlocks ks) s t₀ u₀ u t at c v v h (ap length e ∙ cipher-length ks _) (encrypt-one ks u (drop at s) v e))
 
--- one block decrypted, as the code does it
-pub decrypted : (ks : List (List ℕ)) (s u t : List ℕ) (at : ℕ) (b w p a o t′ : List ℕ) → at + 16 ≤ length s
-    → b ≡ loadBlock (take (length s - at) (drop at s)) → w ≡ b → p ≡ invCipher ks w → a ≡ addRoundKey p u → o ≡ a → t′ ≡ paste t at o 16
+-- one block decrypted, as the code does it: b is the block as words, p its plain text before the block u is added, a the sum, o that as bytes
+pub decrypted : (ks : List (List ℕ)) (s u t : List ℕ) (at : ℕ) (b p a o t′ : List ℕ) → at + 16 ≤ length s
+    → b ≡ loadBlock (take (length s - at) (drop at s)) → p ≡ invCipher ks b → a ≡ addRoundKey p u → o ≡ a → t′ ≡ paste t at o 16
     → t′ ≡ paste t at (cbcDecryptBlock ks u (take 16 (drop at s))) 16
 unfolding cbcDecryptBlock
-decrypted ks s u t at b w p a o t′ h eb ew ep ea eo et =
+decrypted ks s u t at b p a o t′ h eb ep ea eo et =
     et
     ∙ ap (λ (x : List ℕ). paste t at x 16)
-    (eo ∙ ea ∙ ap (λ (x : List ℕ). addRoundKey x u) (ep ∙ ap (invCipher ks) (ew ∙ eb ∙ loaded s at h)))
+    (eo ∙ ea ∙ ap (λ (x : List ℕ). addRoundKey x u) (ep ∙ ap (invCipher ks) (eb ∙ loaded s at h)))
 
 pub decrypt-more : (ks : List (List ℕ)) (s t₀ u₀ u t : List ℕ) (at : ℕ) → Chained (decryptBlocks ks) s t₀ u₀ u t at → (t′ : List ℕ) → at < length s
     → t′ ≡ paste t at (cbcDecryptBlock ks u (take 16 (drop at s))) 16 → Chained (decryptBlocks ks) s t₀ u₀ (take 16 (drop at s)) t′ (at + 16)
@@ -136,27 +136,74 @@ decrypt-more ks s t₀ u₀ u t at c t′ h et =
     (more (decryptBlocks ks) s t₀ u₀ u t at c (take 16 (drop at s)) (addRoundKey (invCipher ks (take 16 (drop at s))) u) h (add-length _ u)
     (decrypt-one ks u (drop at s) _ _ refl refl))
 
-pub decrypt-two-more : (ks : List (List ℕ)) (s t₀ u₀ u t : List ℕ) (at : ℕ) → Chained (decryptBlocks ks) s t₀ u₀ u t at → (v t′ : List ℕ)
-    → at + 32 ≤ length s → v ≡ take 16 (drop (at + 16) s)
-    → t′ ≡ paste (paste t at (cbcDecryptBlock ks u (take 16 (drop at s))) 16) (at + 16) (cbcDecryptBlock ks (take 16 (drop at s)) (take 16 (drop (at + 16) s))) 16
-    → Chained (decryptBlocks ks) s t₀ u₀ v t′ (at + 32)
-decrypt-two-more ks s t₀ u₀ u t at c v t′ h ev et =
-    let n : at + 16 + 16 ≡ at + 32 = omega arith in
-    let one = decrypt-more ks s t₀ u₀ u t at c _ (omega arith) refl in
-    let two = decrypt-more ks s t₀ u₀ _ _ (at + 16) one t′ (omega arith) et in
-    subst (λ (k : ℕ). Chained (decryptBlocks ks) s t₀ u₀ v t′ k) n
-    (subst (λ (x : List ℕ). Chained (decryptBlocks ks) s t₀ u₀ x t′ (at + 16 + 16)) (sym ev) two)
+-- what stands before a place is not changed there
+take-before : (t c : List ℕ) (a b : ℕ) → a ≤ b → b ≤ length t → take a (paste t b c 16) ≡ take a t
+take-before t c a b h g =
+    ap (take a) (append-assoc (take b t) (take 16 c) (drop (b + 16) t))
+    ∙ take-append-le a (take b t) _ (subst (λ (n : ℕ). a ≤ n) (sym (length-take-le b t g)) h) ∙ take-take a b t h
+
+-- of two blocks at one place the later stands
+paste-again : (t c d : List ℕ) (a : ℕ) → a + 16 ≤ length t → 16 ≤ length d → paste (paste t a d 16) a c 16 ≡ paste t a c 16
+paste-again t c d a h hd =
+    ap₂ (λ (x y : List ℕ). x ++ take 16 c ++ y) (take-before t d a a (omega arith) (omega arith)) (drop-paste t a d 16 (omega arith) hd)
+
+-- of two blocks side by side either may come first
+paste-swap : (t c d : List ℕ) (a : ℕ) → a + 32 ≤ length t → 16 ≤ length c → 16 ≤ length d
+    → paste (paste t (a + 16) d 16) a c 16 ≡ paste (paste t a c 16) (a + 16) d 16
+paste-swap t c d a h hc hd =
+    ap₂ (λ (x y : List ℕ). x ++ take 16 c ++ y) (take-before t d a (a + 16) (omega arith) (omega arith))
+    (ap (drop (a + 16)) (append-assoc (take (a + 16) t) (take 16 d) (drop (a + 16 + 16) t))
+    ∙ drop-at (take (a + 16) t) _ (a + 16) (length-take-le (a + 16) t (omega arith)))
+    ∙ sym (append-assoc (take a t ++ take 16 c) (take 16 d) (drop (a + 16 + 16) t))
+    ∙ sym
+    (ap₂ (λ (x y : List ℕ). x ++ take 16 d ++ y) (take-paste t a c 16 (omega arith) hc)
+    (sym (drop-drop 16 (a + 16) (paste t a c 16)) ∙ ap (drop 16) (drop-paste t a c 16 (omega arith) hc) ∙ drop-drop 16 (a + 16) t))
+
+block-length : (ks : List (List ℕ)) (u b : List ℕ) → 16 ≤ length (cbcDecryptBlock ks u b)
+unfolding cbcDecryptBlock
+block-length ks u b = let e = add-length (invCipher ks b) u in omega arith
+
+-- the block at `at`, and the one that follows unless it is the last
+module _ (ks : List (List ℕ)) (s t₀ u₀ u t : List ℕ) (at : ℕ) (c : Chained (decryptBlocks ks) s t₀ u₀ u t at) where
+  -- what the code writes: first at the later place, which may be the same
+  abbrev pub both : ℕ → List ℕ
+  both k =
+      paste (paste t k (cbcDecryptBlock ks (take 16 (drop at s)) (take 16 (drop k s))) 16) at (cbcDecryptBlock ks u (take 16 (drop at s))) 16
+
+  alone : (t′ : List ℕ) → at + 16 ≤ length s → t′ ≡ both at → Chained (decryptBlocks ks) s t₀ u₀ (take 16 (drop at s)) t′ (at + 16)
+  alone t′ h et =
+      let r : at + 16 ≤ length t = omega (arith, c .room, c .len) in
+      decrypt-more ks s t₀ u₀ u t at c t′ (omega arith)
+      (et ∙ paste-again t (cbcDecryptBlock ks u (take 16 (drop at s))) (cbcDecryptBlock ks (take 16 (drop at s)) (take 16 (drop at s))) at r (block-length ks (take 16 (drop at s)) (take 16 (drop at s))))
+
+  in-pair : (t′ : List ℕ) → at + 16 + 16 ≤ length s → t′ ≡ both (at + 16) → Chained (decryptBlocks ks) s t₀ u₀ (take 16 (drop (at + 16) s)) t′ (at + 16 + 16)
+  in-pair t′ h et =
+      let r : at + 32 ≤ length t = omega (arith, c .room, c .len) in
+      let one = decrypt-more ks s t₀ u₀ u t at c (paste t at (cbcDecryptBlock ks u (take 16 (drop at s))) 16) (omega arith) refl in
+      decrypt-more ks s t₀ u₀ (take 16 (drop at s)) (paste t at (cbcDecryptBlock ks u (take 16 (drop at s))) 16) (at + 16) one t′ (omega arith)
+      (et ∙ paste-swap t (cbcDecryptBlock ks u (take 16 (drop at s))) (cbcDecryptBlock ks (take 16 (drop at s)) (take 16 (drop (at + 16) s))) at r (block-length ks u (take 16 (drop at s))) (block-length ks (take 16 (drop at s)) (take 16 (drop (at + 16) s))))
+
+  at-place : (k next : ℕ) (v t′ : List ℕ) → next ≡ k → v ≡ take 16 (drop next s) → Chained (decryptBlocks ks) s t₀ u₀ (take 16 (drop k s)) t′ (k + 16)
+      → Chained (decryptBlocks ks) s t₀ u₀ v t′ (next + 16)
+  at-place k next v t′ p ev d =
+      subst (λ (x : List ℕ). Chained (decryptBlocks ks) s t₀ u₀ x t′ (next + 16)) (sym ev)
+      (subst (λ (j : ℕ). Chained (decryptBlocks ks) s t₀ u₀ (take 16 (drop j s)) t′ (j + 16)) (sym p) d)
+
+  pub decrypt-two-more : (next : ℕ) (v t′ : List ℕ) → at ≤ next → next + 16 ≤ length s → (at < next → next ≡ at + 16) → v ≡ take 16 (drop next s)
+      → t′ ≡ both next → Dec (next ≡ at) → Chained (decryptBlocks ks) s t₀ u₀ v t′ (next + 16)
+  decrypt-two-more next v t′ h g near ev et (yes p) =
+      at-place at next v t′ p ev (alone t′ (subst (λ (k : ℕ). k + 16 ≤ length s) p g) (et ∙ ap both p))
+  decrypt-two-more next v t′ h g near ev et (no q) =
+      let p : next ≡ at + 16 = near (omega (arith, q)) in
+      at-place (at + 16) next v t′ p ev (in-pair t′ (subst (λ (k : ℕ). k + 16 ≤ length s) p g) (et ∙ ap both p))
 
 -- ---- room, and what the callers of a chain say
 
-pub half-room : (a n : ℕ) → a + 32 ≤ n → a + 16 ≤ n
-half-room a n h = omega arith
-
-pub room-after : (x : State) (t t′ o : List ℕ) (a : ℕ) → a + 32 ≤ length t → o ≡ bytesOf x → t′ ≡ paste t a o 16 → a + 16 + 16 ≤ length t′
+pub room-after : (x : State) (t t′ o : List ℕ) (a b : ℕ) → a ≤ b → b + 16 ≤ length t → o ≡ bytesOf x → t′ ≡ paste t b o 16 → a + 16 ≤ length t′
 unfolding bytesOf
-room-after x t t′ o a h eo et =
+room-after x t t′ o a b g h eo et =
     let n : length o ≡ 16 = ap length eo in
-    let m : length t′ ≡ length t = ap length et ∙ length-paste t a o 16 (omega arith) (omega arith) in
+    let m : length t′ ≡ length t = ap length et ∙ length-paste t b o 16 (omega arith) (omega arith) in
     omega arith
 
 pub all-written : (x t : List ℕ) → x ++ drop (length t) t ≡ x
@@ -178,6 +225,63 @@ module _ (b out : List ℕ) where
 
   pub whole-buffer : (b′ : List ℕ) → length b % 16 ≡ 0 → b′ ≡ out → (true ≡ eqb (length b % 16) 0) × (b′ ≡ cond (eqb (length b % 16) 0) out b)
   whole-buffer b′ h e = let p = eq-eqb (length b % 16) 0 h in rw p (refl, e)
+
+-- the source copied to the front of the target, and what of it was lent encrypted in place
+pub encrypted-copy : (ks : List (List ℕ)) (v s t t₁ p t₂ : List ℕ) (m : ℕ) (r : Bool) → length s % 16 ≡ 0 → length s ≤ length t → m ≡ length s
+    → t₁ ≡ take (length s) s ++ drop (length s) t → r ≡ eqb (length (take m t₁) % 16) 0
+    → p ≡ cond (eqb (length (take m t₁) % 16) 0) (cbcEncrypt ks v (take m t₁)) (take m t₁) → t₂ ≡ p ++ drop m t₁
+    → (r ≡ fits s t) × (t₂ ≡ written s (cbcEncrypt ks v s) t)
+encrypted-copy ks v s t t₁ p t₂ m r h g em e₁ er ep e₂ =
+    let n : length (take (length s) s) ≡ length s = ap length (take-all (length s) s (omega arith)) in
+    let front : take m t₁ ≡ s =
+    ap₂ take em e₁ ∙ take-at (take (length s) s) (drop (length s) t) (length s) n ∙ take-all (length s) s (omega arith) in
+    let rest : drop m t₁ ≡ drop (length s) t = ap₂ drop em e₁ ∙ drop-at (take (length s) s) (drop (length s) t) (length s) n in
+    let w = eq-eqb (length s % 16) 0 h in
+    let done = all-fits s t (cbcEncrypt ks v s) t₂ h g
+    (e₂
+    ∙ ap₂ (λ (x y : List ℕ). x ++ y)
+    (ep ∙ ap (λ (x : List ℕ). cond (eqb (length x % 16) 0) (cbcEncrypt ks v x) x) front ∙ ap (λ (b : Bool). cond b (cbcEncrypt ks v s) s) w) rest) in
+    (er ∙ ap (λ (x : List ℕ). eqb (length x % 16) 0) front ∙ w ∙ done .0, done .1)
+
+-- ---- one block
+
+pub enough : (s : List ℕ) (at : ℕ) → at + 16 ≤ length s → 16 ≤ length (take (length s - at) (drop at s))
+enough s at h = let e = ap length (part-from s at) ∙ length-drop at s in omega arith
+
+abbrev pub zeros : List ℕ
+zeros = 0 ∷ 0 ∷ 0 ∷ 0 ∷ 0 ∷ 0 ∷ 0 ∷ 0 ∷ 0 ∷ 0 ∷ 0 ∷ 0 ∷ 0 ∷ 0 ∷ 0 ∷ 0 ∷ []
+
+zero-at : (i : ℕ) → i < 16 → getD zeros i 0 ≡ 0
+zero-at = agree (λ i. getD zeros i 0) (λ i. 0) 16 tt
+
+-- a chain of one block after zeros is the cipher, and back
+module _ (ks : List (List ℕ)) (b : List ℕ) (e : length b ≡ 16) where
+  pub one-encrypted : cbcEncrypt ks zeros b ≡ cipher ks b
+  unfolding cbcEncrypt encryptBlocks
+  one-encrypted =
+      let n : length b / 16 ≡ 1 = omega arith in
+      ap (λ (k : ℕ). encryptBlocks ks k zeros b) n ∙ append-nil _
+      ∙ ap (cipher ks) (ap (λ (x : List ℕ). addRoundKey x zeros) (take-all 16 b (omega arith)) ∙ add-zeros b zeros e zero-at)
+
+  pub one-decrypted : (v : List ℕ) → cbcDecrypt ks v b ≡ cbcDecryptBlock ks v b
+  unfolding cbcDecrypt decryptBlocks
+  one-decrypted v =
+      let n : length b / 16 ≡ 1 = omega arith in
+      ap (λ (k : ℕ). decryptBlocks ks k v b) n ∙ append-nil _ ∙ ap (cbcDecryptBlock ks v) (take-all 16 b (omega arith))
+
+  pub after-zeros : cbcDecryptBlock ks zeros b ≡ invCipher ks b
+  unfolding cbcDecryptBlock
+  after-zeros = add-zeros (invCipher ks b) zeros (invCipher-length ks b) zero-at
+
+  -- written over a block, it is all that stands there
+  pub block-written : (out t : List ℕ) → length t ≡ 16 → written b out t ≡ out
+  block-written out t l =
+      let p = eq-eqb (length b % 16) 0 (omega arith) in
+      let q = le-leb (length b) (length t) (omega arith) in
+      rw (p, q) (ap (λ (k : ℕ). out ++ drop k t) (e ∙ sym l) ∙ ap (λ (x : List ℕ). out ++ x) (drop-length t) ∙ append-nil out)
+
+  pub block-encrypted : (out : List ℕ) → cond (eqb (length b % 16) 0) out b ≡ out
+  block-encrypted out = let p = eq-eqb (length b % 16) 0 (omega arith) in rw p (refl)
 
 -- ---- decryption undoes encryption
 

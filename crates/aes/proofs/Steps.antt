@@ -13,7 +13,7 @@ use Rattle.field.specs.Sbox.{sbox, invSbox}
 use Rattle.field.specs.Mix.{row, mixed, unmixed}
 use Rattle.field.proofs.Below.{every, below, agree, bounded}
 use Rattle.field.proofs.Runs.{run-length, run-from-zero, run-is}
-use Rattle.field.proofs.Xor.{byte, cancel}
+use Rattle.field.proofs.Xor.{byte, cancel, zero-r}
 use Rattle.field.proofs.Sbox.{sbox-byte, invSbox-byte, invSbox-sbox}
 use Rattle.field.proofs.Mix.{mixed-byte, unmixed-byte, unmixed-mixed, row-xor}
 use Rattle.aes.specs.State.{block, Block, subBytes, shifted, shiftRows, down, mixColumns, addRoundKey, unshifted, invShiftRows, invSubBytes, invMixColumns}
@@ -59,6 +59,11 @@ pub add-add : (s k : List ℕ) → length s ≡ 16 → addRoundKey (addRoundKey 
 unfolding addRoundKey
 add-add s k e =
     block-is _ s e (λ i h. ap (λ (x : ℕ). xor x (getD k i 0)) (block-at _ i h) ∙ cancel (getD s i 0) (getD k i 0))
+
+-- zeros add nothing
+pub add-zeros : (s z : List ℕ) → length s ≡ 16 → ((i : ℕ) → i < 16 → getD z i 0 ≡ 0) → addRoundKey s z ≡ s
+unfolding addRoundKey
+add-zeros s z e h = block-is _ s e (λ i g. ap (xor (getD s i 0)) (h i g) ∙ zero-r (getD s i 0))
 
 -- ---- SubBytes
 

@@ -66,6 +66,15 @@ pub cipher-length : (ks : List (List ℕ)) (b : List ℕ) → length (cipher ks 
 unfolding cipher
 cipher-length ks b = add-length _ _
 
+unrounds-length : (ks : List (List ℕ)) (n : ℕ) (s : List ℕ) → length (unrounds ks n s) ≡ 16
+unfolding unrounds
+unrounds-length ks zero s = add-length _ _
+unrounds-length ks (suc n) s = unrounds-length ks n _
+
+pub invCipher-length : (ks : List (List ℕ)) (b : List ℕ) → length (invCipher ks b) ≡ 16
+unfolding invCipher
+invCipher-length ks b = unrounds-length ks 9 _
+
 -- ---- decryption undoes encryption
 
 module _ (ks : List (List ℕ)) (hk : Keys ks) (b : List ℕ) (hb : Block b) where

@@ -163,11 +163,11 @@ own-columns s = record { is-a = word-of (s .a); is-b = word-of (s .b); is-c = wo
 -- ---- a round by tables
 
 module _ (f : ℕ → ℕ) (fits : (x : ℕ) → x < 256 → f x < 256) where
-  pub by-words : (k l m n : ℕ) (t0 t1 t2 t3 : List ℕ) → Mixes f k l m n t0 t1 t2 t3 → (w a b c d : ℕ) → d < 4294967296
-      → w ≡ lookedUp t0 t1 t2 t3 a b c d → w ≡ column k l m n (f (a % 256)) (f (b / 256 % 256)) (f (c / 65536 % 256)) (f (d / 16777216))
+  pub by-words : (k l m n : ℕ) (t : List ℕ) → Mixes f k l m n t → (w a b c d : ℕ) → d < 4294967296
+      → w ≡ lookedUp t a b c d → w ≡ column k l m n (f (a % 256)) (f (b / 256 % 256)) (f (c / 65536 % 256)) (f (d / 16777216))
   unfolding lookedUp
-  by-words k l m n t0 t1 t2 t3 t w a b c d hd e =
-      e ∙ looked-up f fits k l m n t0 t1 t2 t3 t (a % 256) (b / 256 % 256) (c / 65536 % 256) (d / 16777216)
+  by-words k l m n t et w a b c d hd e =
+      e ∙ looked-up f fits k l m n t et (a % 256) (b / 256 % 256) (c / 65536 % 256) (d / 16777216)
       (omega arith) (omega arith) (omega arith) (omega arith)
 
 pub by-bytes : (f : ℕ → ℕ) (t : List ℕ) → t ≡ table f → (w a b c d : ℕ) → d < 4294967296
@@ -181,30 +181,30 @@ by-bytes f t et w a b c d hd e =
 
 -- the columns after SubBytes, ShiftRows and MixColumns, and after SubBytes and ShiftRows alone; and back
 module _ (s : State) (w : Words s) (a b c d : ℕ) where
-  pub mixed-columns : (t0 t1 t2 t3 : List ℕ) → Mixes sbox 2 3 1 1 t0 t1 t2 t3
-      → a ≡ lookedUp t0 t1 t2 t3 (s .a) (s .b) (s .c) (s .d) → b ≡ lookedUp t0 t1 t2 t3 (s .b) (s .c) (s .d) (s .a)
-      → c ≡ lookedUp t0 t1 t2 t3 (s .c) (s .d) (s .a) (s .b) → d ≡ lookedUp t0 t1 t2 t3 (s .d) (s .a) (s .b) (s .c)
+  pub mixed-columns : (t : List ℕ) → Mixes sbox 2 3 1 1 t
+      → a ≡ lookedUp t (s .a) (s .b) (s .c) (s .d) → b ≡ lookedUp t (s .b) (s .c) (s .d) (s .a)
+      → c ≡ lookedUp t (s .c) (s .d) (s .a) (s .b) → d ≡ lookedUp t (s .d) (s .a) (s .b) (s .c)
       → Columns (mixColumns (shiftRows (subBytes (bytesOf s)))) a b c d
   unfolding mixColumns shiftRows shifted subBytes block run down bytesOf column mixed
-  mixed-columns t0 t1 t2 t3 t ea eb ec ed =
+  mixed-columns t et ea eb ec ed =
       record {
-        is-a = by-words sbox sbox-byte 2 3 1 1 t0 t1 t2 t3 t a _ _ _ _ (w .fits-d) ea;
-        is-b = by-words sbox sbox-byte 2 3 1 1 t0 t1 t2 t3 t b _ _ _ _ (w .fits-a) eb;
-        is-c = by-words sbox sbox-byte 2 3 1 1 t0 t1 t2 t3 t c _ _ _ _ (w .fits-b) ec;
-        is-d = by-words sbox sbox-byte 2 3 1 1 t0 t1 t2 t3 t d _ _ _ _ (w .fits-c) ed;
+        is-a = by-words sbox sbox-byte 2 3 1 1 t et a _ _ _ _ (w .fits-d) ea;
+        is-b = by-words sbox sbox-byte 2 3 1 1 t et b _ _ _ _ (w .fits-a) eb;
+        is-c = by-words sbox sbox-byte 2 3 1 1 t et c _ _ _ _ (w .fits-b) ec;
+        is-d = by-words sbox sbox-byte 2 3 1 1 t et d _ _ _ _ (w .fits-c) ed;
       }
 
-  pub unmixed-columns : (t0 t1 t2 t3 : List ℕ) → Mixes invSbox 14 11 13 9 t0 t1 t2 t3
-      → a ≡ lookedUp t0 t1 t2 t3 (s .a) (s .d) (s .c) (s .b) → b ≡ lookedUp t0 t1 t2 t3 (s .b) (s .a) (s .d) (s .c)
-      → c ≡ lookedUp t0 t1 t2 t3 (s .c) (s .b) (s .a) (s .d) → d ≡ lookedUp t0 t1 t2 t3 (s .d) (s .c) (s .b) (s .a)
+  pub unmixed-columns : (t : List ℕ) → Mixes invSbox 14 11 13 9 t
+      → a ≡ lookedUp t (s .a) (s .d) (s .c) (s .b) → b ≡ lookedUp t (s .b) (s .a) (s .d) (s .c)
+      → c ≡ lookedUp t (s .c) (s .b) (s .a) (s .d) → d ≡ lookedUp t (s .d) (s .c) (s .b) (s .a)
       → Columns (invMixColumns (invSubBytes (invShiftRows (bytesOf s)))) a b c d
   unfolding invMixColumns invShiftRows unshifted invSubBytes block run down bytesOf column unmixed
-  unmixed-columns t0 t1 t2 t3 t ea eb ec ed =
+  unmixed-columns t et ea eb ec ed =
       record {
-        is-a = by-words invSbox invSbox-byte 14 11 13 9 t0 t1 t2 t3 t a _ _ _ _ (w .fits-b) ea;
-        is-b = by-words invSbox invSbox-byte 14 11 13 9 t0 t1 t2 t3 t b _ _ _ _ (w .fits-c) eb;
-        is-c = by-words invSbox invSbox-byte 14 11 13 9 t0 t1 t2 t3 t c _ _ _ _ (w .fits-d) ec;
-        is-d = by-words invSbox invSbox-byte 14 11 13 9 t0 t1 t2 t3 t d _ _ _ _ (w .fits-a) ed;
+        is-a = by-words invSbox invSbox-byte 14 11 13 9 t et a _ _ _ _ (w .fits-b) ea;
+        is-b = by-words invSbox invSbox-byte 14 11 13 9 t et b _ _ _ _ (w .fits-c) eb;
+        is-c = by-words invSbox invSbox-byte 14 11 13 9 t et c _ _ _ _ (w .fits-d) ec;
+        is-d = by-words invSbox invSbox-byte 14 11 13 9 t et d _ _ _ _ (w .fits-a) ed;
       }
 
   pub shifted-columns : (t : List ℕ) → t ≡ table sbox
@@ -236,10 +236,10 @@ module _ (s : State) (w : Words s) (a b c d : ℕ) where
 -- ---- a round key of the way back
 
 -- a word substituted, and looked up in the tables of the way back: its own bytes, mixed back
-pub unmixed-word : (tb t0 t1 t2 t3 : List ℕ) → tb ≡ table sbox → Mixes invSbox 14 11 13 9 t0 t1 t2 t3 → (x y z : ℕ) → x < 4294967296
-    → y ≡ lookedUpBytes tb x x x x → z ≡ lookedUp t0 t1 t2 t3 y y y y
+pub unmixed-word : (tb t : List ℕ) → tb ≡ table sbox → Mixes invSbox 14 11 13 9 t → (x y z : ℕ) → x < 4294967296
+    → y ≡ lookedUpBytes tb x x x x → z ≡ lookedUp t y y y y
     → z ≡ column 14 11 13 9 (x % 256) (x / 256 % 256) (x / 65536 % 256) (x / 16777216)
-unmixed-word tb t0 t1 t2 t3 eb t x y z hx ey ez =
+unmixed-word tb t eb et x y z hx ey ez =
     let b0 : x % 256 < 256 = omega arith in
     let b1 : x / 256 % 256 < 256 = omega arith in
     let b2 : x / 65536 % 256 < 256 = omega arith in
@@ -250,7 +250,7 @@ unmixed-word tb t0 t1 t2 t3 eb t x y z hx ey ez =
     let h2 = sbox-byte (x / 65536 % 256) b2 in
     let h3 = sbox-byte (x / 16777216) b3 in
     let hy : y < 4294967296 = omega arith in
-    by-words invSbox invSbox-byte 14 11 13 9 t0 t1 t2 t3 t z y y y y hy ez
+    by-words invSbox invSbox-byte 14 11 13 9 t et z y y y y hy ez
     ∙ (λ i. column 14 11 13 9 (ap invSbox (get0 _ _ _ _ _ e h0 h1 h2 h3) i) (ap invSbox (get1 _ _ _ _ _ e h0 h1 h2 h3) i)
     (ap invSbox (get2 _ _ _ _ _ e h0 h1 h2 h3) i) (ap invSbox (get3 _ _ _ _ _ e h0 h1 h2 h3) i))
     ∙ (λ i. column 14 11 13 9 (invSbox-sbox (x % 256) b0 i) (invSbox-sbox (x / 256 % 256) b1 i) (invSbox-sbox (x / 65536 % 256) b2 i)

@@ -16,10 +16,12 @@ bytesOf s =
     s .c % 256 ∷ s .c / 256 % 256 ∷ s .c / 65536 % 256 ∷ s .c / 16777216 ∷
     s .d % 256 ∷ s .d / 256 % 256 ∷ s .d / 65536 % 256 ∷ s .d / 16777216 ∷ []
 
--- Four words of four tables, added: the first looked up by the lowest byte of a, the last by the highest of d.
-unfoldable pub lookedUp : List ℕ → List ℕ → List ℕ → List ℕ → ℕ → ℕ → ℕ → ℕ → ℕ
-lookedUp t0 t1 t2 t3 a b c d =
-    xor (xor (xor (getD t0 (a % 256) 0) (getD t1 (b / 256 % 256) 0)) (getD t2 (c / 65536 % 256) 0)) (getD t3 (d / 16777216) 0)
+-- Four words of a table of doubled words, added: the first looked up by the lowest byte of a, the last by the highest of d, each read as many
+-- bytes from the top as it serves rows below the first.
+unfoldable pub lookedUp : List ℕ → ℕ → ℕ → ℕ → ℕ → ℕ
+lookedUp t a b c d =
+    xor (xor (xor (getD t (a % 256) 0 % 4294967296) (getD t (b / 256 % 256) 0 / 16777216 % 4294967296))
+    (getD t (c / 65536 % 256) 0 / 65536 % 4294967296)) (getD t (d / 16777216) 0 / 256 % 4294967296)
 
 -- Four bytes of one table, by the same places, as a word.
 unfoldable pub lookedUpBytes : List ℕ → ℕ → ℕ → ℕ → ℕ → ℕ

@@ -1,21 +1,10 @@
 // One block, both ways (FIPS 197, 5.1 and 5.3).
-use super::columns::State;
-use super::columns::bytes;
-use super::columns::words;
-use super::rounds::Pair;
-use super::rounds::decrypt_pair;
-use super::rounds::encrypt;
-use super::rounds::inverse_keys;
-use field::tables::inverse_substitution;
-use field::tables::mixing;
-use field::tables::substitution;
-use field::tables::turned;
-use field::tables::unmixing;
+use super::cbc::cbc_decrypt_block;
+use super::cbc::cbc_encrypt_in_place;
 ghost use mathlib.Core.Path.{_≡_};
 ghost use Prim.Native.Nat.{_≤_};
 ghost use lib.ListN.{getD, length};
 ghost use Rattle.aes.specs.State.{block, loadBlock};
-ghost use Rattle.aes.specs.Words.{bytesOf};
 ghost use Rattle.aes.specs.Cipher.{cipher, invCipher};
 
 // Sixteen bytes from the front of a slice; those that are missing count as zero.
@@ -68,41 +57,14 @@ fn byte_or_zero(s: &[u8], i: usize) -> u8
 pub fn encrypt_block(keys: &[[u8; 16]; 11], block: [u8; 16]) -> [u8; 16]
     ensures { λ r. ⌜ r ≡ cipher (now (keys .entry)) block ⌝ }
 {
-    let sb = substitution();
-    let t0 = mixing();
-    let t1 = turned(&t0);
-    let t2 = turned(&t1);
-    let t3 = turned(&t2);
-    bytes(encrypt(keys, &sb, &t0, &t1, &t2, &t3, words(block)))
-}
-
-// InvCipher() on four words.
-pub fn decrypt_words(keys: &[[u8; 16]; 11], b: State) -> State
-    ensures { λ r. ⌜ bytesOf r ≡ invCipher (now (keys .entry)) (bytesOf b) ⌝ }
-{
-    let sb = substitution();
-    let isb = inverse_substitution();
-    let t0 = unmixing();
-    let t1 = turned(&t0);
-    let t2 = turned(&t1);
-    let t3 = turned(&t2);
-    let inverse = inverse_keys(keys, &sb, &t0, &t1, &t2, &t3);
-    let p = decrypt_pair(
-        keys,
-        &inverse,
-        &isb,
-        &t0,
-        &t1,
-        &t2,
-        &t3,
-        Pair { x: b, y: b },
-    );
-    p.x
+    let mut b = block;
+    cbc_encrypt_in_place(keys, [0u8; 16], &mut b);
+    b
 }
 
 // InvCipher().
 pub fn decrypt_block(keys: &[[u8; 16]; 11], block: [u8; 16]) -> [u8; 16]
     ensures { λ r. ⌜ r ≡ invCipher (now (keys .entry)) block ⌝ }
 {
-    bytes(decrypt_words(keys, words(block)))
+    cbc_decrypt_block(keys, [0u8; 16], block)
 }

@@ -1,9 +1,7 @@
 // Cipher block chaining (SP 800-38A, 6.2), from one slice to another and, for encryption, in place.
-use super::block::decrypt_words;
-use super::block::load_block;
 use super::columns::State;
 use super::columns::add;
-use super::columns::bytes;
+use super::columns::bytes_of;
 use super::columns::words;
 use super::rounds::Pair;
 use super::rounds::decrypt_pair;
@@ -12,20 +10,45 @@ use super::rounds::inverse_keys;
 use field::tables::inverse_substitution;
 use field::tables::mixing;
 use field::tables::substitution;
-use field::tables::turned;
 use field::tables::unmixing;
 ghost use mathlib.Core.Path.{_≡_};
 ghost use mathlib.Core.Bool.{cond};
 ghost use mathlib.Core.List.{_++_};
-ghost use Prim.Native.Nat.{_+_, _%_, _≤_};
+ghost use Prim.Native.Nat.{_+_, _%_, _≤_, _<_};
 ghost use lib.Dec.{eqb};
 ghost use lib.ListN.{length, take, drop};
 ghost use lib.Seq.{paste};
 ghost use Rattle.field.specs.Runs.{table};
 ghost use Rattle.field.specs.Sbox.{sbox, invSbox};
 ghost use Rattle.field.specs.Words.{Mixes};
+ghost use Rattle.aes.specs.State.{loadBlock};
 ghost use Rattle.aes.specs.Words.{bytesOf, InverseKeys};
 ghost use Rattle.aes.specs.Cbc.{cbcDecryptBlock, cbcEncrypt, cbcDecrypt, fits, written};
+
+// The block at the front of a slice, as words.
+fn words_from(s: &[u8]) -> State
+    requires { ⌜ 16 ≤ length (now s) ⌝ }
+    ensures { λ r. ⌜ bytesOf r ≡ loadBlock (now (s .entry)) ⌝ }
+{
+    words([
+        s[0],
+        s[1],
+        s[2],
+        s[3],
+        s[4],
+        s[5],
+        s[6],
+        s[7],
+        s[8],
+        s[9],
+        s[10],
+        s[11],
+        s[12],
+        s[13],
+        s[14],
+        s[15],
+    ])
+}
 
 // Sixteen bytes to place `at` of a slice.
 fn put(s: &mut [u8], at: usize, b: [u8; 16])
@@ -39,131 +62,79 @@ fn put(s: &mut [u8], at: usize, b: [u8; 16])
     }
 }
 
-// Each block of the source, encrypted into the target.
-fn encrypt_blocks(
-    keys: &[[u8; 16]; 11],
-    sb: &[u8; 256],
-    t0: &[u32; 256],
-    t1: &[u32; 256],
-    t2: &[u32; 256],
-    t3: &[u32; 256],
-    vector: State,
-    source: &[u8],
-    target: &mut [u8],
-)
-    requires { ⌜ (now sb ≡ table sbox) × Mixes sbox 2 3 1 1 (now t0) (now t1) (now t2) (now t3) × (length (now source) % 16 ≡ 0) × (length (now source) ≤ length (now target)) ⌝ }
-    ensures { λ _. ⌜ now (target .exit) ≡ cbcEncrypt (now (keys .entry)) (bytesOf vector) (now (source .entry)) ++ drop (length (now (source .entry))) (now (target .entry)) ⌝ }
-{
-    let mut v = vector;
-    let mut at: usize = 0;
-    while at < source.len() {
-        let b = load_block(&source[at..]);
-        v = encrypt(keys, sb, t0, t1, t2, t3, add(words(b), v));
-        put(target, at, bytes(v));
-        at += 16;
-    }
-}
-
 // Each block of the buffer, encrypted where it stands.
 fn encrypt_buffer(
     keys: &[[u8; 16]; 11],
     sb: &[u8; 256],
-    t0: &[u32; 256],
-    t1: &[u32; 256],
-    t2: &[u32; 256],
-    t3: &[u32; 256],
+    t: &[u64; 256],
     vector: State,
     buffer: &mut [u8],
 )
-    requires { ⌜ (now sb ≡ table sbox) × Mixes sbox 2 3 1 1 (now t0) (now t1) (now t2) (now t3) × (length (now buffer) % 16 ≡ 0) ⌝ }
+    requires { ⌜ (now sb ≡ table sbox) × Mixes sbox 2 3 1 1 (now t) × (length (now buffer) % 16 ≡ 0) ⌝ }
     ensures { λ _. ⌜ now (buffer .exit) ≡ cbcEncrypt (now (keys .entry)) (bytesOf vector) (now (buffer .entry)) ⌝ }
 {
     let mut v = vector;
     let mut at: usize = 0;
     while at < buffer.len() {
-        let b = load_block(&buffer[at..]);
-        v = encrypt(keys, sb, t0, t1, t2, t3, add(words(b), v));
-        put(buffer, at, bytes(v));
+        let b = words_from(&buffer[at..]);
+        v = encrypt(keys, sb, t, add(b, v));
+        put(buffer, at, bytes_of(v));
         at += 16;
     }
 }
 
-// Two blocks at place `at`, after the cipher block v; the answer is the second of them as it was.
+// The blocks at two places, the second next to the first, after the cipher block v; the answer is the second as it was. Where both places
+// are one, what stands there in the end is that block, after v.
 fn decrypt_two(
     keys: &[[u8; 16]; 11],
     inverse: &[[u8; 16]; 11],
     sb: &[u8; 256],
-    t0: &[u32; 256],
-    t1: &[u32; 256],
-    t2: &[u32; 256],
-    t3: &[u32; 256],
+    t: &[u64; 256],
     v: State,
     source: &[u8],
     target: &mut [u8],
     at: usize,
+    next: usize,
 ) -> State
-    requires { ⌜ (now sb ≡ table invSbox) × Mixes invSbox 14 11 13 9 (now t0) (now t1) (now t2) (now t3) × InverseKeys (now keys) (now inverse) 11 × (at + 32 ≤ length (now source)) × (at + 32 ≤ length (now target)) ⌝ }
-    ensures { λ r. ⌜ bytesOf r ≡ take 16 (drop (at + 16) (now (source .entry))) ⌝ }
-    ensures { λ _. ⌜ now (target .exit) ≡ paste (paste (now (target .entry)) at (cbcDecryptBlock (now (keys .entry)) (bytesOf v) (take 16 (drop at (now (source .entry))))) 16) (at + 16) (cbcDecryptBlock (now (keys .entry)) (take 16 (drop at (now (source .entry)))) (take 16 (drop (at + 16) (now (source .entry))))) 16 ⌝ }
+    requires { ⌜ (now sb ≡ table invSbox) × Mixes invSbox 14 11 13 9 (now t) × InverseKeys (now keys) (now inverse) 11 × (at ≤ next) × (next + 16 ≤ length (now source)) × (next + 16 ≤ length (now target)) ⌝ }
+    ensures { λ r. ⌜ bytesOf r ≡ take 16 (drop next (now (source .entry))) ⌝ }
+    ensures { λ _. ⌜ now (target .exit) ≡ paste (paste (now (target .entry)) next (cbcDecryptBlock (now (keys .entry)) (take 16 (drop at (now (source .entry)))) (take 16 (drop next (now (source .entry))))) 16) at (cbcDecryptBlock (now (keys .entry)) (bytesOf v) (take 16 (drop at (now (source .entry))))) 16 ⌝ }
 {
-    let next = at + 16;
-    let b = load_block(&source[at..]);
-    let d = load_block(&source[next..]);
-    let x = words(b);
-    let y = words(d);
-    let p = decrypt_pair(keys, inverse, sb, t0, t1, t2, t3, Pair { x: x, y: y });
-    put(target, at, bytes(add(p.x, v)));
-    put(target, next, bytes(add(p.y, x)));
+    let x = words_from(&source[at..]);
+    let y = words_from(&source[next..]);
+    let p = decrypt_pair(keys, inverse, sb, t, Pair { x: x, y: y });
+    put(target, next, bytes_of(add(p.y, x)));
+    put(target, at, bytes_of(add(p.x, v)));
     y
 }
 
-// One block at place `at`, after the cipher block v.
-fn decrypt_one(
-    keys: &[[u8; 16]; 11],
-    inverse: &[[u8; 16]; 11],
-    sb: &[u8; 256],
-    t0: &[u32; 256],
-    t1: &[u32; 256],
-    t2: &[u32; 256],
-    t3: &[u32; 256],
-    v: State,
-    source: &[u8],
-    target: &mut [u8],
-    at: usize,
-)
-    requires { ⌜ (now sb ≡ table invSbox) × Mixes invSbox 14 11 13 9 (now t0) (now t1) (now t2) (now t3) × InverseKeys (now keys) (now inverse) 11 × (at + 16 ≤ length (now source)) × (at + 16 ≤ length (now target)) ⌝ }
-    ensures { λ _. ⌜ now (target .exit) ≡ paste (now (target .entry)) at (cbcDecryptBlock (now (keys .entry)) (bytesOf v) (take 16 (drop at (now (source .entry))))) 16 ⌝ }
+// The place of the block after the one at `at`, and `at` itself where that is the last.
+fn following(at: usize, len: usize) -> usize
+    requires { ⌜ at + 16 ≤ len ⌝ }
+    ensures { λ r. ⌜ (at ≤ r) × (r + 16 ≤ len) × (at < r → r ≡ at + 16) ⌝ }
 {
-    let b = load_block(&source[at..]);
-    let x = words(b);
-    let p = decrypt_pair(keys, inverse, sb, t0, t1, t2, t3, Pair { x: x, y: x });
-    put(target, at, bytes(add(p.x, v)));
+    if 32 <= len - at { at + 16 } else { at }
 }
 
-// Each block of the source, decrypted into the target.
+// Each block of the source, decrypted into the target, two at a time.
 fn decrypt_blocks(
     keys: &[[u8; 16]; 11],
     inverse: &[[u8; 16]; 11],
     sb: &[u8; 256],
-    t0: &[u32; 256],
-    t1: &[u32; 256],
-    t2: &[u32; 256],
-    t3: &[u32; 256],
+    t: &[u64; 256],
     vector: State,
     source: &[u8],
     target: &mut [u8],
 )
-    requires { ⌜ (now sb ≡ table invSbox) × Mixes invSbox 14 11 13 9 (now t0) (now t1) (now t2) (now t3) × InverseKeys (now keys) (now inverse) 11 × (length (now source) % 16 ≡ 0) × (length (now source) ≤ length (now target)) ⌝ }
+    requires { ⌜ (now sb ≡ table invSbox) × Mixes invSbox 14 11 13 9 (now t) × InverseKeys (now keys) (now inverse) 11 × (length (now source) % 16 ≡ 0) × (length (now source) ≤ length (now target)) ⌝ }
     ensures { λ _. ⌜ now (target .exit) ≡ cbcDecrypt (now (keys .entry)) (bytesOf vector) (now (source .entry)) ++ drop (length (now (source .entry))) (now (target .entry)) ⌝ }
 {
     let mut v = vector;
     let mut at: usize = 0;
-    while 32 <= source.len() - at {
-        v = decrypt_two(keys, inverse, sb, t0, t1, t2, t3, v, source, target, at);
-        at += 32;
-    }
-    if at < source.len() {
-        decrypt_one(keys, inverse, sb, t0, t1, t2, t3, v, source, target, at);
+    while at < source.len() {
+        let next = following(at, source.len());
+        v = decrypt_two(keys, inverse, sb, t, v, source, target, at, next);
+        at = next + 16;
     }
 }
 
@@ -184,13 +155,9 @@ pub fn cbc_encrypt(
     if target.len() < source.len() {
         return false;
     }
-    let sb = substitution();
-    let t0 = mixing();
-    let t1 = turned(&t0);
-    let t2 = turned(&t1);
-    let t3 = turned(&t2);
-    encrypt_blocks(keys, &sb, &t0, &t1, &t2, &t3, words(vector), source, target);
-    true
+    let n = source.len();
+    bytes::copy(source, target);
+    cbc_encrypt_in_place(keys, vector, &mut target[0..n])
 }
 
 // Encrypts a buffer in place. False, with the buffer left alone, where it is not whole blocks.
@@ -202,11 +169,8 @@ pub fn cbc_encrypt_in_place(keys: &[[u8; 16]; 11], vector: [u8; 16], buffer: &mu
         return false;
     }
     let sb = substitution();
-    let t0 = mixing();
-    let t1 = turned(&t0);
-    let t2 = turned(&t1);
-    let t3 = turned(&t2);
-    encrypt_buffer(keys, &sb, &t0, &t1, &t2, &t3, words(vector), buffer);
+    let t = mixing();
+    encrypt_buffer(keys, &sb, &t, words(vector), buffer);
     true
 }
 
@@ -229,23 +193,9 @@ pub fn cbc_decrypt(
     }
     let sb = substitution();
     let isb = inverse_substitution();
-    let t0 = unmixing();
-    let t1 = turned(&t0);
-    let t2 = turned(&t1);
-    let t3 = turned(&t2);
-    let inverse = inverse_keys(keys, &sb, &t0, &t1, &t2, &t3);
-    decrypt_blocks(
-        keys,
-        &inverse,
-        &isb,
-        &t0,
-        &t1,
-        &t2,
-        &t3,
-        words(vector),
-        source,
-        target,
-    );
+    let t = unmixing();
+    let inverse = inverse_keys(keys, &sb, &t);
+    decrypt_blocks(keys, &inverse, &isb, &t, words(vector), source, target);
     true
 }
 
@@ -253,5 +203,7 @@ pub fn cbc_decrypt(
 pub fn cbc_decrypt_block(keys: &[[u8; 16]; 11], previous: [u8; 16], block: [u8; 16]) -> [u8; 16]
     ensures { λ r. ⌜ r ≡ cbcDecryptBlock (now (keys .entry)) previous block ⌝ }
 {
-    bytes(add(decrypt_words(keys, words(block)), words(previous)))
+    let mut plain = [0u8; 16];
+    cbc_decrypt(keys, previous, &block, &mut plain);
+    plain
 }

@@ -38,7 +38,7 @@ pub fn words(k: [u8; 16]) -> State
 }
 
 // The sixteen bytes of four words.
-pub fn bytes(s: State) -> [u8; 16]
+pub fn bytes_of(s: State) -> [u8; 16]
     ensures { λ r. ⌜ r ≡ bytesOf s ⌝ }
 {
     [

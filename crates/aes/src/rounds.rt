@@ -4,7 +4,7 @@
 // The way back is the same with the other tables, once InvMixColumns was applied to the round keys (FIPS 197, 5.3.5): it is linear.
 use super::columns::State;
 use super::columns::add;
-use super::columns::bytes;
+use super::columns::bytes_of;
 use super::columns::join;
 use super::columns::words;
 ghost use mathlib.Core.Path.{_≡_};
@@ -17,22 +17,13 @@ ghost use Rattle.aes.specs.Words.{bytesOf, lookedUp, lookedUpBytes, Inve
 ghost use Rattle.aes.specs.Cipher.{cipher, invCipher};
 
 // A column by four tables.
-fn look(
-    t0: &[u32; 256],
-    t1: &[u32; 256],
-    t2: &[u32; 256],
-    t3: &[u32; 256],
-    a: u32,
-    b: u32,
-    c: u32,
-    d: u32,
-) -> u32
-    ensures { λ r. ⌜ (r ≡ lookedUp (now (t0 .entry)) (now (t1 .entry)) (now (t2 .entry)) (now (t3 .entry)) a b c d) × (d < 4294967296) ⌝ }
+fn look(t: &[u64; 256], a: u32, b: u32, c: u32, d: u32) -> u32
+    ensures { λ r. ⌜ (r ≡ lookedUp (now (t .entry)) a b c d) × (d < 4294967296) ⌝ }
 {
-    t0[(a % 256) as usize]
-        ^ t1[(b / 256 % 256) as usize]
-        ^ t2[(c / 65536 % 256) as usize]
-        ^ t3[(d / 16777216) as usize]
+    (t[(a % 256) as usize] % 4294967296) as u32
+        ^ (t[(b / 256 % 256) as usize] / 16777216 % 4294967296) as u32
+        ^ (t[(c / 65536 % 256) as usize] / 65536 % 4294967296) as u32
+        ^ (t[(d / 16777216) as usize] / 256 % 4294967296) as u32
 }
 
 // A column by one table of bytes.
@@ -48,22 +39,15 @@ fn look_bytes(t: &[u8; 256], a: u32, b: u32, c: u32, d: u32) -> u32
 }
 
 // A round of the cipher.
-fn round(
-    t0: &[u32; 256],
-    t1: &[u32; 256],
-    t2: &[u32; 256],
-    t3: &[u32; 256],
-    s: State,
-    k: State,
-) -> State
-    requires { ⌜ Mixes sbox 2 3 1 1 (now t0) (now t1) (now t2) (now t3) ⌝ }
+fn round(t: &[u64; 256], s: State, k: State) -> State
+    requires { ⌜ Mixes sbox 2 3 1 1 (now t) ⌝ }
     ensures { λ r. ⌜ bytesOf r ≡ addRoundKey (mixColumns (shiftRows (subBytes (bytesOf s)))) (bytesOf k) ⌝ }
 {
     State {
-        a: look(t0, t1, t2, t3, s.a, s.b, s.c, s.d) ^ k.a,
-        b: look(t0, t1, t2, t3, s.b, s.c, s.d, s.a) ^ k.b,
-        c: look(t0, t1, t2, t3, s.c, s.d, s.a, s.b) ^ k.c,
-        d: look(t0, t1, t2, t3, s.d, s.a, s.b, s.c) ^ k.d,
+        a: look(t, s.a, s.b, s.c, s.d) ^ k.a,
+        b: look(t, s.b, s.c, s.d, s.a) ^ k.b,
+        c: look(t, s.c, s.d, s.a, s.b) ^ k.c,
+        d: look(t, s.d, s.a, s.b, s.c) ^ k.d,
     }
 }
 
@@ -81,22 +65,15 @@ fn last_round(t: &[u8; 256], s: State, k: State) -> State
 }
 
 // A round of the inverse cipher, by a round key that InvMixColumns was applied to.
-fn inv_round(
-    t0: &[u32; 256],
-    t1: &[u32; 256],
-    t2: &[u32; 256],
-    t3: &[u32; 256],
-    s: State,
-    k: State,
-) -> State
-    requires { ⌜ Mixes invSbox 14 11 13 9 (now t0) (now t1) (now t2) (now t3) ⌝ }
+fn inv_round(t: &[u64; 256], s: State, k: State) -> State
+    requires { ⌜ Mixes invSbox 14 11 13 9 (now t) ⌝ }
     ensures { λ r. ⌜ (bytesOf r ≡ addRoundKey (invMixColumns (invSubBytes (invShiftRows (bytesOf s)))) (bytesOf k)) × Block (bytesOf s) ⌝ }
 {
     State {
-        a: look(t0, t1, t2, t3, s.a, s.d, s.c, s.b) ^ k.a,
-        b: look(t0, t1, t2, t3, s.b, s.a, s.d, s.c) ^ k.b,
-        c: look(t0, t1, t2, t3, s.c, s.b, s.a, s.d) ^ k.c,
-        d: look(t0, t1, t2, t3, s.d, s.c, s.b, s.a) ^ k.d,
+        a: look(t, s.a, s.d, s.c, s.b) ^ k.a,
+        b: look(t, s.b, s.a, s.d, s.c) ^ k.b,
+        c: look(t, s.c, s.b, s.a, s.d) ^ k.c,
+        d: look(t, s.d, s.c, s.b, s.a) ^ k.d,
     }
 }
 
@@ -114,59 +91,38 @@ fn inv_last_round(t: &[u8; 256], s: State, k: State) -> State
 }
 
 // InvMixColumns of one column: the tables undo the substitution before they mix.
-fn unmix_word(
-    sb: &[u8; 256],
-    t0: &[u32; 256],
-    t1: &[u32; 256],
-    t2: &[u32; 256],
-    t3: &[u32; 256],
-    x: u32,
-) -> u32
-    requires { ⌜ (now sb ≡ table sbox) × Mixes invSbox 14 11 13 9 (now t0) (now t1) (now t2) (now t3) ⌝ }
+fn unmix_word(sb: &[u8; 256], t: &[u64; 256], x: u32) -> u32
+    requires { ⌜ (now sb ≡ table sbox) × Mixes invSbox 14 11 13 9 (now t) ⌝ }
     ensures { λ r. ⌜ (r ≡ column 14 11 13 9 (x % 256) (x / 256 % 256) (x / 65536 % 256) (x / 16777216)) × (x < 4294967296) ⌝ }
 {
     let y = look_bytes(sb, x, x, x, x);
-    look(t0, t1, t2, t3, y, y, y, y)
+    look(t, y, y, y, y)
 }
 
 // InvMixColumns of a round key.
-fn unmix_key(
-    sb: &[u8; 256],
-    t0: &[u32; 256],
-    t1: &[u32; 256],
-    t2: &[u32; 256],
-    t3: &[u32; 256],
-    k: [u8; 16],
-) -> [u8; 16]
-    requires { ⌜ (now sb ≡ table sbox) × Mixes invSbox 14 11 13 9 (now t0) (now t1) (now t2) (now t3) ⌝ }
+fn unmix_key(sb: &[u8; 256], t: &[u64; 256], k: [u8; 16]) -> [u8; 16]
+    requires { ⌜ (now sb ≡ table sbox) × Mixes invSbox 14 11 13 9 (now t) ⌝ }
     ensures { λ r. ⌜ (r ≡ invMixColumns k) × Block k ⌝ }
 {
     let s = words(k);
-    bytes(State {
-        a: unmix_word(sb, t0, t1, t2, t3, s.a),
-        b: unmix_word(sb, t0, t1, t2, t3, s.b),
-        c: unmix_word(sb, t0, t1, t2, t3, s.c),
-        d: unmix_word(sb, t0, t1, t2, t3, s.d),
+    bytes_of(State {
+        a: unmix_word(sb, t, s.a),
+        b: unmix_word(sb, t, s.b),
+        c: unmix_word(sb, t, s.c),
+        d: unmix_word(sb, t, s.d),
     })
 }
 
 // The round keys of the way back.
-pub(crate) fn inverse_keys(
-    keys: &[[u8; 16]; 11],
-    sb: &[u8; 256],
-    t0: &[u32; 256],
-    t1: &[u32; 256],
-    t2: &[u32; 256],
-    t3: &[u32; 256],
-) -> [[u8; 16]; 11]
-    requires { ⌜ (now sb ≡ table sbox) × Mixes invSbox 14 11 13 9 (now t0) (now t1) (now t2) (now t3) ⌝ }
+pub(crate) fn inverse_keys(keys: &[[u8; 16]; 11], sb: &[u8; 256], t: &[u64; 256]) -> [[u8; 16]; 11]
+    requires { ⌜ (now sb ≡ table sbox) × Mixes invSbox 14 11 13 9 (now t) ⌝ }
     ensures { λ r. ⌜ InverseKeys (now (keys .entry)) r 11 ⌝ }
 {
     let mut inverse = [[0u8; 16]; 11];
     let mut n: usize = 0;
     while n < 11 {
         let k = keys[n];
-        let u = unmix_key(sb, t0, t1, t2, t3, k);
+        let u = unmix_key(sb, t, k);
         inverse[n] = u;
         n += 1;
     }
@@ -174,16 +130,8 @@ pub(crate) fn inverse_keys(
 }
 
 // The cipher on four words.
-pub(crate) fn encrypt(
-    keys: &[[u8; 16]; 11],
-    sb: &[u8; 256],
-    t0: &[u32; 256],
-    t1: &[u32; 256],
-    t2: &[u32; 256],
-    t3: &[u32; 256],
-    b: State,
-) -> State
-    requires { ⌜ (now sb ≡ table sbox) × Mixes sbox 2 3 1 1 (now t0) (now t1) (now t2) (now t3) ⌝ }
+pub(crate) fn encrypt(keys: &[[u8; 16]; 11], sb: &[u8; 256], t: &[u64; 256], b: State) -> State
+    requires { ⌜ (now sb ≡ table sbox) × Mixes sbox 2 3 1 1 (now t) ⌝ }
     ensures { λ r. ⌜ bytesOf r ≡ cipher (now (keys .entry)) (bytesOf b) ⌝ }
 {
     let first = keys[0];
@@ -191,7 +139,7 @@ pub(crate) fn encrypt(
     let mut n: usize = 0;
     while n < 9 {
         let k = keys[n + 1];
-        s = round(t0, t1, t2, t3, s, words(k));
+        s = round(t, s, words(k));
         n += 1;
     }
     let last = keys[10];
@@ -209,13 +157,10 @@ pub(crate) fn decrypt_pair(
     keys: &[[u8; 16]; 11],
     inverse: &[[u8; 16]; 11],
     sb: &[u8; 256],
-    t0: &[u32; 256],
-    t1: &[u32; 256],
-    t2: &[u32; 256],
-    t3: &[u32; 256],
+    t: &[u64; 256],
     p: Pair,
 ) -> Pair
-    requires { ⌜ (now sb ≡ table invSbox) × Mixes invSbox 14 11 13 9 (now t0) (now t1) (now t2) (now t3) × InverseKeys (now keys) (now inverse) 11 ⌝ }
+    requires { ⌜ (now sb ≡ table invSbox) × Mixes invSbox 14 11 13 9 (now t) × InverseKeys (now keys) (now inverse) 11 ⌝ }
     ensures { λ r. ⌜ (bytesOf (r .x) ≡ invCipher (now (keys .entry)) (bytesOf (p .x))) × (bytesOf (r .y) ≡ invCipher (now (keys .entry)) (bytesOf (p .y))) ⌝ }
 {
     let first = keys[10];
@@ -226,8 +171,8 @@ pub(crate) fn decrypt_pair(
     while 0 < n {
         let kn = inverse[n];
         let kw = words(kn);
-        x = inv_round(t0, t1, t2, t3, x, kw);
-        y = inv_round(t0, t1, t2, t3, y, kw);
+        x = inv_round(t, x, kw);
+        y = inv_round(t, y, kw);
         n -= 1;
     }
     let last = keys[0];

@@ -5,7 +5,7 @@ use native.Mathlib.Nat.{mod-lt, zero-mul, one-mul, le-of-suc-le-suc, not-suc-le-
 use native.Mathlib.Omega.{arith}
 use lib.Dec.{lit<}
 use Rattle.field.specs.Xor.{xor}
-use Rattle.field.specs.Field.{xtime, times, mul}
+use Rattle.field.specs.Field.{polynomial, xtime, times, mul}
 use Rattle.field.proofs.Xor.{self, zero-r, zero-l, byte, swap4, double, top}
 use Rattle.field.proofs.Below.{agree, bounded}
 
@@ -29,8 +29,8 @@ pub xtime-xor : (a b : ℕ) → a < 256 → b < 256 → xtime (xor a b) ≡ xor 
 unfolding xtime
 xtime-xor a b ha hb =
     ap₂ xor (double a b)
-    (ap (λ (x : ℕ). x * 0x11B) (top a b) ∙ digit-times (a / 128) (b / 128) 0x11B (omega arith) (omega arith))
-    ∙ swap4 (a * 2) (b * 2) (a / 128 * 0x11B) (b / 128 * 0x11B)
+    (ap (λ (x : ℕ). x * polynomial) (top a b) ∙ digit-times (a / 128) (b / 128) polynomial (omega arith) (omega arith))
+    ∙ swap4 (a * 2) (b * 2) (a / 128 * polynomial) (b / 128 * polynomial)
 
 digit-byte : (c x : ℕ) → c < 2 → x < 256 → c * x < 256
 digit-byte zero x h hx = subst (λ (y : ℕ). y < 256) (sym (zero-mul x)) (lit< tt)

@@ -42,11 +42,6 @@ pub tabled : (f : ℕ → ℕ) (t : List ℕ) → length t ≡ 256 → T (every 
 unfolding table
 tabled f t e h = run-is 0 f 256 t e (agree (λ x. getD t x 0) f 256 h)
 
--- two tables agree where their entries do
-pub table-same : (f g : ℕ → ℕ) → ((x : ℕ) → x < 256 → f x ≡ g x) → table f ≡ table g
-unfolding table
-table-same f g h = run-is 0 g 256 (run f 0 256) (run-length f 0 256) (λ k b. run-from-zero f 256 k 0 b ∙ h k b)
-
 -- ---- a list that a loop fills element by element
 
 module _ {A : Type 0} (n : ℕ) (d : A) (f : ℕ → A) where

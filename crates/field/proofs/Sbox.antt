@@ -53,14 +53,15 @@ sbox-substitutes b h =
 back : ℕ → ℕ → ℕ
 back b d = mul (inverse b) (mul b d)
 
-kept : ℕ → ℕ → Bool
-kept k j = eqb (back (suc k) (2 ^ j)) (2 ^ j)
+-- y undoes b at the digit j
+kept : ℕ → ℕ → ℕ → Bool
+kept b y j = eqb (mul y (mul b (2 ^ j))) (2 ^ j)
 
-row-kept : ℕ → Bool
-row-kept k = every (kept k) 0 8
+row-kept : ℕ → ℕ → Bool
+row-kept b y = every (kept b y) 0 8
 
-all-kept : T (every row-kept 0 255)
-unfolding row-kept kept back inverse square ones mul times xtime xor
+all-kept : T (every (λ k. row-kept (suc k) (inverse (suc k))) 0 255)
+unfolding row-kept kept inverse square ones mul times xtime xor
 all-kept = tt
 
 mul-zero : (k : ℕ) → mul k 0 ≡ 0
@@ -68,8 +69,10 @@ mul-zero k = ap (mul k) (sym (self 0)) ∙ mul-xor k 0 0 (lit< tt) (lit< tt) ∙
 
 module _ (k : ℕ) (hk : k < 255) where
   back-one : (j : ℕ) → j < 8 → back (suc k) (2 ^ j) ≡ 2 ^ j
-  unfolding row-kept kept
-  back-one j hj = eqb→eq (back (suc k) (2 ^ j)) (2 ^ j) (below (kept k) 8 (below row-kept 255 all-kept k hk) j hj)
+  unfolding row-kept kept back
+  back-one j hj =
+      eqb→eq (back (suc k) (2 ^ j)) (2 ^ j)
+      (below (kept (suc k) (inverse (suc k))) 8 (below (λ k. row-kept (suc k) (inverse (suc k))) 255 all-kept k hk) j hj)
 
   back-xor : (a b : ℕ) → a < 256 → b < 256 → back (suc k) (xor a b) ≡ xor (back (suc k) a) (back (suc k) b)
   unfolding back
@@ -115,14 +118,30 @@ only-sbox-substitutes (suc k) s h r =
 
 -- ---- bytes to bytes, and back
 
+affine-byte : (b : ℕ) → b < 256 → affine b < 256
+unfolding affine
+affine-byte = bounded affine 256 256 tt
+
+unaffine-byte : (b : ℕ) → b < 256 → unaffine b < 256
+unfolding unaffine
+unaffine-byte = bounded unaffine 256 256 tt
+
+unaffine-affine : (b : ℕ) → b < 256 → unaffine (affine b) ≡ b
+unfolding unaffine affine
+unaffine-affine = agree (λ b. unaffine (affine b)) (λ b. b) 256 tt
+
+inverse-inverse : (b : ℕ) → b < 256 → inverse (inverse b) ≡ b
+unfolding inverse square ones mul times xtime xor
+inverse-inverse = agree (λ b. inverse (inverse b)) (λ b. b) 256 tt
+
 pub sbox-byte : (b : ℕ) → b < 256 → sbox b < 256
-unfolding sbox affine inverse square ones mul times xtime xor
-sbox-byte = bounded sbox 256 256 tt
+unfolding sbox
+sbox-byte b h = affine-byte (inverse b) (inverse-byte b h)
 
 pub invSbox-byte : (b : ℕ) → b < 256 → invSbox b < 256
-unfolding invSbox unaffine inverse square ones mul times xtime xor
-invSbox-byte = bounded invSbox 256 256 tt
+unfolding invSbox
+invSbox-byte b h = inverse-byte (unaffine b) (unaffine-byte b h)
 
 pub invSbox-sbox : (b : ℕ) → b < 256 → invSbox (sbox b) ≡ b
-unfolding invSbox unaffine sbox affine inverse square ones mul times xtime xor
-invSbox-sbox = agree (λ b. invSbox (sbox b)) (λ b. b) 256 tt
+unfolding invSbox sbox
+invSbox-sbox b h = ap inverse (unaffine-affine (inverse b) (inverse-byte b h)) ∙ inverse-inverse b h

@@ -1,16 +1,17 @@
 -- Four looked-up words, added, are the column: the rows of their sum are the rows of the matrix, turned. Assumes nothing.
 use mathlib.Core.Path.{_≡_, refl, sym, ap, ap₂, _∙_}
 use Prim.Native.Nat.{ℕ, _+_, _*_, _/_, _%_, _<_}
+use native.Mathlib.Nat.{mul-add-div-right, div-eq-of-lt}
 use native.Mathlib.Omega.{arith}
+use lib.Dec.{lit<}
 use mathlib.Core.List.{List}
 use lib.ListN.{getD}
 use lib.Bits.{xor-block}
 use Rattle.field.specs.Xor.{xor}
 use Rattle.field.specs.Field.{mul}
 use Rattle.field.specs.Mix.{xor4, row}
-use Rattle.field.specs.Runs.{table}
-use Rattle.field.specs.Words.{word, column, spread, turnWord, Mixes}
-use Rattle.field.proofs.Runs.{table-at, table-same}
+use Rattle.field.specs.Words.{word, column, spread, twice, Mixes}
+use Rattle.field.proofs.Runs.{table-at}
 use Rattle.field.proofs.Xor.{byte, assoc}
 use Rattle.field.proofs.Linear.{mul-byte}
 use Rattle.field.proofs.Mix.{turn}
@@ -67,45 +68,48 @@ spread-column k l m n a b c d ha hb hc hd =
     (mul-byte n b hb) (mul-byte m c hc) (mul-byte l c hc) (mul-byte k c hc) (mul-byte n d hd) (mul-byte m d hd) (mul-byte l d hd)
     ∙ words refl (sym (turn (mul k b) (mul l c) (mul m d) (mul n a))) (turn _ _ _ _ ∙ turn _ _ _ _) (turn _ _ _ _)
 
--- a word turned serves the row below
-turn-word : (a b c d : ℕ) → a < 256 → b < 256 → c < 256 → d < 256 → turnWord (word a b c d) ≡ word d a b c
-unfolding turnWord
-turn-word a b c d ha hb hc hd = omega arith
+-- ---- a word read out of two: turned by as many bytes as it is read further up, it serves that many rows below
 
-turn-spread : (k l m n a : ℕ) → a < 256 → turnWord (spread k l m n a) ≡ spread l m n k a
+-- the digits of x in the middle: above l, which is below n, and below h
+middle : (n x h r l : ℕ) → 0 < n → l < n → r < 4294967296 → x ≡ (h * 4294967296 + r) * n + l → x / n % 4294967296 ≡ r
+middle n x h r l hn hl hr e =
+    ap (λ (y : ℕ). y / n % 4294967296) e
+    ∙ ap (λ (y : ℕ). y % 4294967296) (mul-add-div-right hn (h * 4294967296 + r) l)
+    ∙ ap (λ (y : ℕ). (h * 4294967296 + r + y) % 4294967296) (div-eq-of-lt hl)
+    ∙ omega arith
+
+module _ (a b c d : ℕ) (ha : a < 256) (hb : b < 256) (hc : c < 256) (hd : d < 256) where
+  turn0 : twice (word a b c d) % 4294967296 ≡ word a b c d
+  unfolding twice
+  turn0 = omega arith
+
+  turn1 : twice (word a b c d) / 16777216 % 4294967296 ≡ word d a b c
+  unfolding twice
+  turn1 = middle 16777216 _ d _ (word a b c 0) (lit< tt) (omega arith) (omega arith) (omega arith)
+
+  turn2 : twice (word a b c d) / 65536 % 4294967296 ≡ word c d a b
+  unfolding twice
+  turn2 = middle 65536 _ (word c d 0 0) _ (word a b 0 0) (lit< tt) (omega arith) (omega arith) (omega arith)
+
+  turn3 : twice (word a b c d) / 256 % 4294967296 ≡ word b c d a
+  unfolding twice
+  turn3 = middle 256 _ (word b c d 0) _ a (lit< tt) (omega arith) (omega arith) (omega arith)
+
+-- four words looked up and added are the column of what the table makes of the four bytes
+pub looked-up : (f : ℕ → ℕ) → ((x : ℕ) → x < 256 → f x < 256) → (k l m n : ℕ) (t : List ℕ) → Mixes f k l m n t
+    → (a b c d : ℕ) → a < 256 → b < 256 → c < 256 → d < 256
+    → xor (xor (xor (getD t a 0 % 4294967296) (getD t b 0 / 16777216 % 4294967296)) (getD t c 0 / 65536 % 4294967296)) (getD t d 0 / 256 % 4294967296)
+    ≡ column k l m n (f a) (f b) (f c) (f d)
 unfolding spread
-turn-spread k l m n a h = turn-word _ _ _ _ (mul-byte k a h) (mul-byte n a h) (mul-byte m a h) (mul-byte l a h)
+looked-up f bytes k l m n t e a b c d ha hb hc hd =
+    (λ i. xor (xor (xor (at a ha i % 4294967296) (at b hb i / 16777216 % 4294967296)) (at c hc i / 65536 % 4294967296)) (at d hd i / 256 % 4294967296))
+    ∙ (λ i. xor (xor (xor (on a ha turn0 i) (on b hb turn1 i)) (on c hc turn2 i)) (on d hd turn3 i))
+    ∙ spread-column k l m n (f a) (f b) (f c) (f d) (bytes a ha) (bytes b hb) (bytes c hc) (bytes d hd)
+  where
+    at : (x : ℕ) → x < 256 → getD t x 0 ≡ twice (spread k l m n (f x))
+    at x h = ap (λ (l : List ℕ). getD l x 0) e ∙ table-at _ x h
 
--- and so does a table of such words
-module _ (f : ℕ → ℕ) (bytes : (x : ℕ) → x < 256 → f x < 256) where
-  turned-table : (k l m n : ℕ) (t u : List ℕ) → t ≡ table (λ x. spread k l m n (f x)) → u ≡ table (λ x. turnWord (getD t x 0))
-      → u ≡ table (λ x. spread l m n k (f x))
-  turned-table k l m n t u et eu =
-      eu
-      ∙ table-same _ _ (λ x h. ap turnWord (ap (λ (l : List ℕ). getD l x 0) et ∙ table-at _ x h) ∙ turn-spread k l m n (f x) (bytes x h))
-
-  pub mixes : (k l m n : ℕ) (t0 t1 t2 t3 : List ℕ) → t0 ≡ table (λ x. spread k l m n (f x)) → t1 ≡ table (λ x. turnWord (getD t0 x 0))
-      → t2 ≡ table (λ x. turnWord (getD t1 x 0)) → t3 ≡ table (λ x. turnWord (getD t2 x 0)) → Mixes f k l m n t0 t1 t2 t3
-  mixes k l m n t0 t1 t2 t3 e0 e1 e2 e3 =
-      let p = turned-table k l m n t0 t1 e0 e1 in
-      let q = turned-table l m n k t1 t2 p e2 in
-      record { first = e0; second = p; third = q; fourth = turned-table m n k l t2 t3 q e3 }
-
-  -- four words looked up and added are the column of what the table makes of the four bytes
-  pub looked-up : (k l m n : ℕ) (t0 t1 t2 t3 : List ℕ) → Mixes f k l m n t0 t1 t2 t3 → (a b c d : ℕ) → a < 256 → b < 256 → c < 256 → d < 256
-      → xor (xor (xor (getD t0 a 0) (getD t1 b 0)) (getD t2 c 0)) (getD t3 d 0) ≡ column k l m n (f a) (f b) (f c) (f d)
-  looked-up k l m n t0 t1 t2 t3 t a b c d ha hb hc hd =
-      (λ i. xor (xor (xor (at0 i) (at1 i)) (at2 i)) (at3 i))
-      ∙ spread-column k l m n (f a) (f b) (f c) (f d) (bytes a ha) (bytes b hb) (bytes c hc) (bytes d hd)
-    where
-      at0 : getD t0 a 0 ≡ spread k l m n (f a)
-      at0 = ap (λ (l : List ℕ). getD l a 0) (t .first) ∙ table-at _ a ha
-
-      at1 : getD t1 b 0 ≡ spread l m n k (f b)
-      at1 = ap (λ (l : List ℕ). getD l b 0) (t .second) ∙ table-at _ b hb
-
-      at2 : getD t2 c 0 ≡ spread m n k l (f c)
-      at2 = ap (λ (l : List ℕ). getD l c 0) (t .third) ∙ table-at _ c hc
-
-      at3 : getD t3 d 0 ≡ spread n k l m (f d)
-      at3 = ap (λ (l : List ℕ). getD l d 0) (t .fourth) ∙ table-at _ d hd
+    on : {R : ℕ → ℕ → ℕ → ℕ → Type 0} (x : ℕ) → x < 256
+        → ((p q r s : ℕ) → p < 256 → q < 256 → r < 256 → s < 256 → R p q r s) → R (mul k (f x)) (mul n (f x)) (mul m (f x)) (mul l (f x))
+    on x h turned =
+        turned _ _ _ _ (mul-byte k (f x) (bytes x h)) (mul-byte n (f x) (bytes x h)) (mul-byte m (f x) (bytes x h)) (mul-byte l (f x) (bytes x h))

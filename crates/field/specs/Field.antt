@@ -3,9 +3,12 @@
 use Prim.Native.Nat.{ℕ, zero, suc, _*_, _/_, _%_}
 use Rattle.field.specs.Xor.{xor}
 
+abbrev pub polynomial : ℕ
+polynomial = 0x11B
+
 -- 4.2: times x. The digits move up by one, and where an eighth comes out the polynomial is taken off.
 unfoldable pub xtime : ℕ → ℕ
-xtime b = xor (b * 2) (b / 128 * 0x11B)
+xtime b = xor (b * 2) (b / 128 * polynomial)
 
 -- The product of b by the n lowest digits of a.
 unfoldable pub times : ℕ → ℕ → ℕ → ℕ

@@ -1,21 +1,18 @@
--- `block::decrypt_block` meets its contract, by those of what it calls.
+-- `block::decrypt_block` meets its contract: a block decrypted after zeros is the inverse cipher of it.
 -- Assumes nothing.
+use mathlib.Core.Path.{_∙_}
+use Rattle.aes.proofs.Chain.{after-zeros}
 use borrow.Author.Needs.{needs}
 use Rattle.aes.proofs.block.decrypt_block.Statement.{statement}
 use Rattle.aes.proofs.block.decrypt_block.Tie as tie
 
-words-requires : tie.Need-words-requires
-words-requires c κs = search needs
-
-decrypt-words-requires : tie.Need-decrypt-words-requires
-decrypt-words-requires c κs = search needs
-
-bytes-requires : tie.Need-bytes-requires
-bytes-requires c κs = search needs
+cbc-decrypt-block-requires : tie.Need-cbc-decrypt-block-requires
+cbc-decrypt-block-requires c κs = search needs
 
 returns : tie.Need-returns
-returns c = cc
+returns c =
+    let a = c .before .args in
+    c .cbc-decrypt-block .ensures ∙ after-zeros (a .keys .now) (a .block) (search needs)
 
 pub decrypt-block-spec : {M : Type 1} → statement M
-decrypt-block-spec =
-    tie.close (tie.spec words-requires decrypt-words-requires bytes-requires returns)
+decrypt-block-spec = tie.close (tie.spec cbc-decrypt-block-requires returns)

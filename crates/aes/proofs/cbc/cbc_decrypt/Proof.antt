@@ -4,9 +4,6 @@ use mathlib.Core.Path.{_∙_, ap}
 use mathlib.Core.List.{List, _++_}
 use Prim.Native.Nat.{ℕ}
 use lib.ListN.{length, drop}
-use Rattle.field.specs.Sbox.{invSbox}
-use Rattle.field.proofs.Sbox.{invSbox-byte}
-use Rattle.field.proofs.Words.{mixes}
 use Rattle.aes.specs.Cbc.{cbcDecrypt}
 use Rattle.aes.proofs.Chain.{not-whole, no-room, all-fits}
 use borrow.Author.Needs.{needs}
@@ -32,37 +29,19 @@ inverse-substitution-requires c κs = search needs
 unmixing-requires : tie.Need-unmixing-requires
 unmixing-requires c κs = search needs
 
-turned-requires : tie.Need-turned-requires
-turned-requires c κs = search needs
-
-turned-requires-2 : tie.Need-turned-requires-2
-turned-requires-2 c κs = search needs
-
-turned-requires-3 : tie.Need-turned-requires-3
-turned-requires-3 c κs = search needs
-
 inverse-keys-requires : tie.Need-inverse-keys-requires
-inverse-keys-requires c κs = (
-  c .before .before .before .before .before .before .before .before .before .before .before .before .before .substitution .ensures,
-  mixes invSbox invSbox-byte 14 11 13 9 _ _ _ _ (c .before .before .before .before .before .before .before .before .before .before .before .unmixing .ensures)
-      (c .before .before .before .before .before .before .before .before .before .turned .ensures)
-      (c .before .before .before .before .before .before .before .turned2 .ensures)
-      (c .before .before .before .before .before .turned3 .ensures),
-)
+inverse-keys-requires c κs = (c .before .before .before .before .substitution .ensures, c .before .before .unmixing .ensures)
 
 words-requires : tie.Need-words-requires
 words-requires c κs = search needs
 
 decrypt-blocks-requires : tie.Need-decrypt-blocks-requires
 decrypt-blocks-requires c κs = (
-  c .before .before .before .before .before .before .before .before .before .before .before .before .before .before .before .before .before .before .before .before .before .inverse-substitution .ensures,
-  mixes invSbox invSbox-byte 14 11 13 9 _ _ _ _ (c .before .before .before .before .before .before .before .before .before .before .before .before .before .before .before .before .before .before .before .before .unmixing .ensures)
-      (c .before .before .before .before .before .before .before .before .before .before .before .before .before .before .before .before .before .before .turned .ensures)
-      (c .before .before .before .before .before .before .before .before .before .before .before .before .before .before .before .before .turned2 .ensures)
-      (c .before .before .before .before .before .before .before .before .before .before .before .before .before .before .turned3 .ensures),
-  c .before .before .before .before .before .before .before .before .inverse-keys .ensures,
-  c .before .before .before .before .before .before .before .before .before .before .before .before .before .before .before .before .before .before .before .before .before .before .before .before .if1 .left,
-  c .before .before .before .before .before .before .before .before .before .before .before .before .before .before .before .before .before .before .before .before .before .before .before .if2 .left,
+  c .before .before .before .before .before .before .before .before .before .inverse-substitution .ensures,
+  c .before .before .before .before .before .before .before .before .unmixing .ensures,
+  c .before .before .before .before .before .inverse-keys .ensures,
+  c .before .before .before .before .before .before .before .before .before .before .before .before .if1 .left,
+  c .before .before .before .before .before .before .before .before .before .before .before .if2 .left,
 )
 
 same-length : tie.Need-same-length
@@ -70,8 +49,8 @@ same-length c = search needs
 
 returns-3 : tie.Need-returns-3
 returns-3 c =
-    let a = c .before .before .before .before .before .before .before .before .before .before .before .before .before .before .before .before .before .before .before .before .before .before .before .before .before .before .before .before .before .before .args in
-    all-fits (a .source .now) (a .target .now) (cbcDecrypt (a .keys .now) (a .vector) (a .source .now)) _ (c .before .before .before .before .before .before .before .before .before .before .before .before .before .before .before .before .before .before .before .before .before .before .before .before .before .before .before .if1 .left) (c .before .before .before .before .before .before .before .before .before .before .before .before .before .before .before .before .before .before .before .before .before .before .before .before .before .before .if2 .left)
+    let a = c .before .before .before .before .before .before .before .before .before .before .before .before .before .before .before .before .before .before .args in
+    all-fits (a .source .now) (a .target .now) (cbcDecrypt (a .keys .now) (a .vector) (a .source .now)) _ (c .before .before .before .before .before .before .before .before .before .before .before .before .before .before .before .if1 .left) (c .before .before .before .before .before .before .before .before .before .before .before .before .before .before .if2 .left)
     (c .before .before .decrypt-blocks .ensures
     ∙ ap (λ (v : List ℕ). cbcDecrypt (a .keys .now) v (a .source .now) ++ drop (length (a .source .now)) (a .target .now)) (c .before .before .before .before .words .ensures))
 
@@ -84,9 +63,6 @@ cbc-decrypt-spec =
     substitution-requires
     inverse-substitution-requires
     unmixing-requires
-    turned-requires
-    turned-requires-2
-    turned-requires-3
     inverse-keys-requires
     words-requires
     decrypt-blocks-requires

@@ -1,36 +1,31 @@
--- `cbc::cbc_decrypt_block` meets its contract, by those of what it calls.
+-- `cbc::cbc_decrypt_block` meets its contract: it is a chain of one block.
 -- Assumes nothing.
-use Rattle.aes.specs.Cbc.{cbcDecryptBlock}
+use mathlib.Core.Path.{refl, _∙_}
+use Rattle.aes.proofs.Chain.{zeros, one-decrypted, block-written}
 use borrow.Author.Needs.{needs}
 use Rattle.aes.proofs.cbc.cbc_decrypt_block.Statement.{statement}
 use Rattle.aes.proofs.cbc.cbc_decrypt_block.Tie as tie
 
-words-requires : tie.Need-words-requires
-words-requires c κs = search needs
+slice-aggregate-cbc-decrypt : tie.Need-slice-aggregate-cbc-decrypt
+slice-aggregate-cbc-decrypt c = search needs
 
-decrypt-words-requires : tie.Need-decrypt-words-requires
-decrypt-words-requires c κs = search needs
+slice-aggregate-cbc-decrypt-2 : tie.Need-slice-aggregate-cbc-decrypt-2
+slice-aggregate-cbc-decrypt-2 c = search needs
 
-words-requires-2 : tie.Need-words-requires-2
-words-requires-2 c κs = search needs
-
-add-requires : tie.Need-add-requires
-add-requires c κs = search needs
-
-bytes-requires : tie.Need-bytes-requires
-bytes-requires c κs = search needs
+cbc-decrypt-requires : tie.Need-cbc-decrypt-requires
+cbc-decrypt-requires c κs = search needs
 
 returns : tie.Need-returns
-unfolding cbcDecryptBlock
-returns c = cc
+returns c =
+    let a = c .before .before .before .before .args in
+    c .before .cbc-decrypt .ensures .1 ∙ block-written (a .keys .now) (a .t3) (search needs) _ zeros refl
+    ∙ one-decrypted (a .keys .now) (a .t3) (search needs) (a .previous)
 
 pub cbc-decrypt-block-spec : {M : Type 1} → statement M
 cbc-decrypt-block-spec =
     tie.close
     (tie.spec
-    words-requires
-    decrypt-words-requires
-    words-requires-2
-    add-requires
-    bytes-requires
+    slice-aggregate-cbc-decrypt
+    slice-aggregate-cbc-decrypt-2
+    cbc-decrypt-requires
     returns)

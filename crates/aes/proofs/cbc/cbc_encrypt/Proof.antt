@@ -1,14 +1,11 @@
--- `cbc::cbc_encrypt` meets its contract, by those of what it calls.
+-- `cbc::cbc_encrypt` meets its contract: a copy, encrypted in place.
 -- Assumes nothing.
-use mathlib.Core.Path.{_∙_, ap}
-use mathlib.Core.List.{List, _++_}
-use Prim.Native.Nat.{ℕ}
-use lib.ListN.{length, drop}
-use Rattle.field.specs.Sbox.{sbox}
-use Rattle.field.proofs.Sbox.{sbox-byte}
-use Rattle.field.proofs.Words.{mixes}
+use native.Mathlib.Omega.{arith}
+use mathlib.Core.Path.{refl}
+use Prim.Native.Nat.{_-_}
+use lib.ListN.{length}
 use Rattle.aes.specs.Cbc.{cbcEncrypt}
-use Rattle.aes.proofs.Chain.{not-whole, no-room, all-fits}
+use Rattle.aes.proofs.Chain.{not-whole, no-room, encrypted-copy}
 use borrow.Author.Needs.{needs}
 use Rattle.aes.proofs.cbc.cbc_encrypt.Statement.{statement}
 use Rattle.aes.proofs.cbc.cbc_encrypt.Tie as tie
@@ -23,44 +20,29 @@ returns-2 c =
     let a = c .before .before .before .before .args in
     no-room (a .source .now) (a .target .now) (cbcEncrypt (a .keys .now) (a .vector) (a .source .now)) (c .before .if1 .left) (c .if2 .taken)
 
-substitution-requires : tie.Need-substitution-requires
-substitution-requires c κs = search needs
+copy-requires : tie.Need-copy-requires
+copy-requires c κs = search needs
 
-mixing-requires : tie.Need-mixing-requires
-mixing-requires c κs = search needs
+sub-cbc-encrypt-in-place : tie.Need-sub-cbc-encrypt-in-place
+sub-cbc-encrypt-in-place c = search needs
 
-turned-requires : tie.Need-turned-requires
-turned-requires c κs = search needs
+part-cbc-encrypt-in-place-start : tie.Need-part-cbc-encrypt-in-place-start
+part-cbc-encrypt-in-place-start c = search needs
 
-turned-requires-2 : tie.Need-turned-requires-2
-turned-requires-2 c κs = search needs
+part-cbc-encrypt-in-place-end : tie.Need-part-cbc-encrypt-in-place-end
+part-cbc-encrypt-in-place-end c = search needs
 
-turned-requires-3 : tie.Need-turned-requires-3
-turned-requires-3 c κs = search needs
-
-words-requires : tie.Need-words-requires
-words-requires c κs = search needs
-
-encrypt-blocks-requires : tie.Need-encrypt-blocks-requires
-encrypt-blocks-requires c κs = (
-  c .before .before .before .before .before .before .before .before .before .before .before .before .before .before .substitution .ensures,
-  mixes sbox sbox-byte 2 3 1 1 _ _ _ _ (c .before .before .before .before .before .before .before .before .before .before .before .before .before .mixing .ensures)
-      (c .before .before .before .before .before .before .before .before .before .before .before .turned .ensures)
-      (c .before .before .before .before .before .before .before .before .before .turned2 .ensures)
-      (c .before .before .before .before .before .before .before .turned3 .ensures),
-  c .before .before .before .before .before .before .before .before .before .before .before .before .before .before .before .before .if1 .left,
-  c .before .before .before .before .before .before .before .before .before .before .before .before .before .before .before .if2 .left,
-)
+cbc-encrypt-in-place-requires : tie.Need-cbc-encrypt-in-place-requires
+cbc-encrypt-in-place-requires c κs = search needs
 
 same-length : tie.Need-same-length
 same-length c = search needs
 
 returns-3 : tie.Need-returns-3
 returns-3 c =
-    let a = c .before .before .before .before .before .before .before .before .before .before .before .before .before .before .before .before .before .before .before .before .before .before .args in
-    all-fits (a .source .now) (a .target .now) (cbcEncrypt (a .keys .now) (a .vector) (a .source .now)) _ (c .before .before .before .before .before .before .before .before .before .before .before .before .before .before .before .before .before .before .before .if1 .left) (c .before .before .before .before .before .before .before .before .before .before .before .before .before .before .before .before .before .before .if2 .left)
-    (c .before .before .encrypt-blocks .ensures
-    ∙ ap (λ (v : List ℕ). cbcEncrypt (a .keys .now) v (a .source .now) ++ drop (length (a .source .now)) (a .target .now)) (c .before .before .before .before .words .ensures))
+    let a = c .before .before .before .before .before .before .before .before .before .before .before .before .args in
+    encrypted-copy (a .keys .now) (a .vector) (a .source .now) (a .target .now) _ _ _ (length (a .source .now) - 0) _ (c .before .before .before .before .before .before .before .before .before .if1 .left) (c .before .before .before .before .before .before .before .before .if2 .left) (omega arith)
+    (c .before .before .before .before .before .before .copy .ensures .1) (c .before .before .cbc-encrypt-in-place .ensures .0) (c .before .before .cbc-encrypt-in-place .ensures .1) refl
 
 pub cbc-encrypt-spec : {M : Type 1} → statement M
 cbc-encrypt-spec =
@@ -68,12 +50,10 @@ cbc-encrypt-spec =
     (tie.spec
     returns
     returns-2
-    substitution-requires
-    mixing-requires
-    turned-requires
-    turned-requires-2
-    turned-requires-3
-    words-requires
-    encrypt-blocks-requires
+    copy-requires
+    sub-cbc-encrypt-in-place
+    part-cbc-encrypt-in-place-start
+    part-cbc-encrypt-in-place-end
+    cbc-encrypt-in-place-requires
     same-length
     returns-3)

@@ -4,9 +4,6 @@ use mathlib.Core.Path.{_∙_, ap}
 use mathlib.Core.List.{List, _++_}
 use Prim.Native.Nat.{ℕ}
 use lib.ListN.{length, drop}
-use Rattle.field.specs.Sbox.{sbox}
-use Rattle.field.proofs.Sbox.{sbox-byte}
-use Rattle.field.proofs.Words.{mixes}
 use Rattle.aes.specs.Cbc.{cbcEncrypt}
 use Rattle.aes.proofs.Chain.{odd-buffer, whole-buffer}
 use borrow.Author.Needs.{needs}
@@ -22,35 +19,19 @@ substitution-requires c κs = search needs
 mixing-requires : tie.Need-mixing-requires
 mixing-requires c κs = search needs
 
-turned-requires : tie.Need-turned-requires
-turned-requires c κs = search needs
-
-turned-requires-2 : tie.Need-turned-requires-2
-turned-requires-2 c κs = search needs
-
-turned-requires-3 : tie.Need-turned-requires-3
-turned-requires-3 c κs = search needs
-
 words-requires : tie.Need-words-requires
 words-requires c κs = search needs
 
 encrypt-buffer-requires : tie.Need-encrypt-buffer-requires
-encrypt-buffer-requires c κs = (
-  c .before .before .before .before .before .before .before .before .before .before .before .before .before .before .substitution .ensures,
-  mixes sbox sbox-byte 2 3 1 1 _ _ _ _ (c .before .before .before .before .before .before .before .before .before .before .before .before .before .mixing .ensures)
-      (c .before .before .before .before .before .before .before .before .before .before .before .turned .ensures)
-      (c .before .before .before .before .before .before .before .before .before .turned2 .ensures)
-      (c .before .before .before .before .before .before .before .turned3 .ensures),
-  c .before .before .before .before .before .before .before .before .before .before .before .before .before .before .before .if1 .left,
-)
+encrypt-buffer-requires c κs = (c .before .before .before .before .before .substitution .ensures, c .before .before .before .before .mixing .ensures, c .before .before .before .before .before .before .if1 .left)
 
 same-length : tie.Need-same-length
 same-length c = search needs
 
 returns-2 : tie.Need-returns-2
 returns-2 c =
-    let a = c .before .before .before .before .before .before .before .before .before .before .before .before .before .before .before .before .before .before .before .before .args in
-    whole-buffer (a .buffer .now) (cbcEncrypt (a .keys .now) (a .vector) (a .buffer .now)) _ (c .before .before .before .before .before .before .before .before .before .before .before .before .before .before .before .before .before .before .if1 .left)
+    let a = c .before .before .before .before .before .before .before .before .before .before .before .args in
+    whole-buffer (a .buffer .now) (cbcEncrypt (a .keys .now) (a .vector) (a .buffer .now)) _ (c .before .before .before .before .before .before .before .before .before .if1 .left)
     (c .before .before .encrypt-buffer .ensures ∙ ap (λ (v : List ℕ). cbcEncrypt (a .keys .now) v (a .buffer .now)) (c .before .before .before .before .words .ensures))
 
 pub cbc-encrypt-in-place-spec : {M : Type 1} → statement M
@@ -60,9 +41,6 @@ cbc-encrypt-in-place-spec =
     returns
     substitution-requires
     mixing-requires
-    turned-requires
-    turned-requires-2
-    turned-requires-3
     words-requires
     encrypt-buffer-requires
     same-length

@@ -1,49 +1,41 @@
 -- `cbc::decrypt_two` meets its contract, by those of what it calls.
 -- Assumes nothing.
 use native.Mathlib.Omega.{arith}
-use mathlib.Core.Path.{_≡_, _∙_, ap₂}
+use mathlib.Core.Path.{_≡_, _∙_, ap}
 use mathlib.Core.List.{List}
 use Prim.Native.Nat.{ℕ, _+_, _≤_}
 use lib.ListN.{length, take, drop}
 use lib.Seq.{paste}
+use Rattle.aes.specs.Words.{bytesOf}
 use Rattle.aes.specs.Cbc.{cbcDecryptBlock}
-use Rattle.aes.proofs.Chain.{loaded, decrypted, half-room, room-after}
+use Rattle.aes.proofs.Chain.{loaded, decrypted, room-after}
 use borrow.Author.Needs.{needs}
 use Rattle.aes.proofs.cbc.decrypt_two.Statement.{statement}
 use Rattle.aes.proofs.cbc.decrypt_two.Tie as tie
 
-add-next : tie.Need-add-next
-add-next c = search needs
+sub-words-from : tie.Need-sub-words-from
+sub-words-from c = search needs
 
-sub-load-block : tie.Need-sub-load-block
-sub-load-block c = search needs
+part-words-from-start : tie.Need-part-words-from-start
+part-words-from-start c = search needs
 
-part-load-block-start : tie.Need-part-load-block-start
-part-load-block-start c = search needs
+part-words-from-end : tie.Need-part-words-from-end
+part-words-from-end c = search needs
 
-part-load-block-end : tie.Need-part-load-block-end
-part-load-block-end c = search needs
+words-from-requires : tie.Need-words-from-requires
+words-from-requires c κs = search needs
 
-load-block-requires : tie.Need-load-block-requires
-load-block-requires c κs = search needs
+sub-words-from-2 : tie.Need-sub-words-from-2
+sub-words-from-2 c = search needs
 
-sub-load-block-2 : tie.Need-sub-load-block-2
-sub-load-block-2 c = search needs
+part-words-from-start-2 : tie.Need-part-words-from-start-2
+part-words-from-start-2 c = search needs
 
-part-load-block-start-2 : tie.Need-part-load-block-start-2
-part-load-block-start-2 c = search needs
+part-words-from-end-2 : tie.Need-part-words-from-end-2
+part-words-from-end-2 c = search needs
 
-part-load-block-end-2 : tie.Need-part-load-block-end-2
-part-load-block-end-2 c = search needs
-
-load-block-requires-2 : tie.Need-load-block-requires-2
-load-block-requires-2 c κs = search needs
-
-words-requires : tie.Need-words-requires
-words-requires c κs = search needs
-
-words-requires-2 : tie.Need-words-requires-2
-words-requires-2 c κs = search needs
+words-from-requires-2 : tie.Need-words-from-requires-2
+words-from-requires-2 c κs = search needs
 
 decrypt-pair-requires : tie.Need-decrypt-pair-requires
 decrypt-pair-requires c κs = search needs
@@ -51,65 +43,64 @@ decrypt-pair-requires c κs = search needs
 add-requires : tie.Need-add-requires
 add-requires c κs = search needs
 
-bytes-requires : tie.Need-bytes-requires
-bytes-requires c κs = search needs
+bytes-of-requires : tie.Need-bytes-of-requires
+bytes-of-requires c κs = search needs
 
 put-requires : tie.Need-put-requires
-put-requires c κs = half-room _ _ (c .before .before .before .before .before .before .before .before .before .before .before .before .pre .4)
+put-requires c κs = search needs
 
 add-requires-2 : tie.Need-add-requires-2
 add-requires-2 c κs = search needs
 
-bytes-requires-2 : tie.Need-bytes-requires-2
-bytes-requires-2 c κs = search needs
+bytes-of-requires-2 : tie.Need-bytes-of-requires-2
+bytes-of-requires-2 c κs = search needs
 
 put-requires-2 : tie.Need-put-requires-2
-put-requires-2 c κs =
-    room-after _ _ _ _ _ (c .before .before .before .before .before .before .before .before .before .before .before .before .before .before .before .before .before .before .pre .4) (c .before .before .before .before .before .before .bytes .ensures) (c .before .before .before .before .before .put .ensures)
+put-requires-2 c κs = room-after _ _ _ _ _ _ (c .before .before .before .before .before .before .before .before .before .before .before .before .before .before .before .before .pre .3) (c .before .before .before .before .before .before .before .before .before .before .before .before .before .before .before .before .pre .5) (c .before .before .before .before .before .before .bytes-of .ensures) (c .before .before .before .before .before .put .ensures)
 
 same-length : tie.Need-same-length
 same-length c = search needs
 
 returns : tie.Need-returns
 returns c =
-    let a = c .before .before .before .before .before .before .before .before .before .before .before .before .before .before .before .before .before .before .before .before .before in
+    let a = c .before .before .before .before .before .before .before .before .before .before .before .before .before .before .before .before .before .before .before in
     let s = a .args .source .now in
     let at = a .args .at in
-    let h : at + 16 ≤ length s = omega arith in
-    let g : at + 16 + 16 ≤ length s = omega arith in
-    let x = c .before .before .before .before .before .before .before .before .before .before .before .before .before .before .words .ensures ∙ c .before .before .before .before .before .before .before .before .before .before .before .before .before .before .before .before .before .load-block .ensures ∙ loaded s at h in
-    let one =
-    decrypted _ s _ (a .args .target .now) at _ _ _ _ _ _ h (c .before .before .before .before .before .before .before .before .before .before .before .before .before .before .before .before .before .load-block .ensures) (c .before .before .before .before .before .before .before .before .before .before .before .before .before .before .words .ensures) (c .before .before .before .before .before .before .before .before .before .before .before .before .decrypt-pair .ensures .0)
-    (c .before .before .before .before .before .before .before .before .before .before .add .ensures) (c .before .before .before .before .before .before .before .before .before .bytes .ensures) (c .before .before .before .before .before .before .before .before .put .ensures) in
-    let two =
-    decrypted _ s _ _ (at + 16) _ _ _ _ _ _ g (c .before .before .before .before .before .before .before .before .before .before .before .before .before .before .before .load-block2 .ensures) (c .before .before .before .before .before .before .before .before .before .before .before .before .before .words2 .ensures) (c .before .before .before .before .before .before .before .before .before .before .before .before .decrypt-pair .ensures .1)
-    (c .before .before .before .before .add2 .ensures) (c .before .before .before .bytes2 .ensures) (c .before .before .put2 .ensures) in (
-      c .before .before .before .before .before .before .before .before .before .before .before .before .before .words2 .ensures ∙ c .before .before .before .before .before .before .before .before .before .before .before .before .before .before .before .load-block2 .ensures ∙ loaded s (at + 16) g,
-      two
-          ∙ ap₂ (λ (t u : List ℕ). paste t (at + 16) (cbcDecryptBlock (a .args .keys .now) u (take 16 (drop (at + 16) s))) 16) one x,
+    let next = a .args .next in
+    let h : at + 16 ≤ length s = omega (arith, a .pre .3, a .pre .4) in
+    let x = c .before .before .before .before .before .before .before .before .before .before .before .before .before .before .before .words-from in
+    let y = c .before .before .before .before .before .before .before .before .before .before .before .before .before .words-from2 in
+    let p = c .before .before .before .before .before .before .before .before .before .before .before .before .decrypt-pair .ensures in
+    let ex = x .ensures ∙ loaded s at h in
+    let later =
+    decrypted _ s _ (a .args .target .now) next _ _ _ _ _ (a .pre .4) (y .ensures) (p .1) (c .before .before .before .before .before .before .before .before .before .before .add .ensures)
+    (c .before .before .before .before .before .before .before .before .before .bytes-of .ensures) (c .before .before .before .before .before .before .before .before .put .ensures) in
+    let first =
+    decrypted _ s _ _ at _ _ _ _ _ h (x .ensures) (p .0) (c .before .before .before .before .add2 .ensures) (c .before .before .before .bytes-of2 .ensures) (c .before .before .put2 .ensures) in (
+      y .ensures ∙ loaded s next (a .pre .4),
+      first
+          ∙ ap (λ (t : List ℕ). paste t at (cbcDecryptBlock (a .args .keys .now) (bytesOf (a .args .v)) (take 16 (drop at s))) 16)
+          (later ∙ ap (λ (u : List ℕ). paste (a .args .target .now) next (cbcDecryptBlock (a .args .keys .now) u (take 16 (drop next s))) 16) ex),
     )
 
 pub decrypt-two-spec : {M : Type 1} → statement M
 decrypt-two-spec =
     tie.close
     (tie.spec
-    add-next
-    sub-load-block
-    part-load-block-start
-    part-load-block-end
-    load-block-requires
-    sub-load-block-2
-    part-load-block-start-2
-    part-load-block-end-2
-    load-block-requires-2
-    words-requires
-    words-requires-2
+    sub-words-from
+    part-words-from-start
+    part-words-from-end
+    words-from-requires
+    sub-words-from-2
+    part-words-from-start-2
+    part-words-from-end-2
+    words-from-requires-2
     decrypt-pair-requires
     add-requires
-    bytes-requires
+    bytes-of-requires
     put-requires
     add-requires-2
-    bytes-requires-2
+    bytes-of-requires-2
     put-requires-2
     same-length
     returns)

@@ -7,34 +7,31 @@ use Prim.Native.Nat.{_-_, _<_}
 use lib.ListN.{length, take}
 use Rattle.aes.specs.Words.{bytesOf}
 use Rattle.aes.specs.Cbc.{encryptBlocks, cbcEncrypt}
-use Rattle.aes.proofs.Chain.{loaded, Chained, begin, in-source, in-target, done, encrypt-none, encrypt-more, all-written}
+use Rattle.aes.proofs.Chain.{loaded, enough, Chained, begin, in-source, in-target, done, encrypt-none, encrypt-more, all-written}
 use borrow.Author.Needs.{needs}
 use Rattle.aes.proofs.cbc.encrypt_buffer.Statement.{statement}
 use Rattle.aes.proofs.cbc.encrypt_buffer.Tie as tie
 
 abbrev Inv-loop : tie.InvT-loop
-Inv-loop keys sb t0 t1 t2 t3 buffer₀ v₀ at₀ buffer v at = Chained (encryptBlocks keys) buffer₀ buffer₀ (bytesOf v₀) (bytesOf v) buffer at × (length buffer₀ < 18446744073709551616)
+Inv-loop keys sb t buffer₀ v₀ at₀ buffer v at = Chained (encryptBlocks keys) buffer₀ buffer₀ (bytesOf v₀) (bytesOf v) buffer at × (length buffer₀ < 18446744073709551616)
 
 abbrev μ-loop : tie.MeasureT-loop
-μ-loop keys sb t0 t1 t2 t3 buffer₀ v₀ at₀ buffer v at = length buffer₀ - at
+μ-loop keys sb t buffer₀ v₀ at₀ buffer v at = length buffer₀ - at
 
 loop-holds : tie.Need-loop-holds Inv-loop μ-loop
 loop-holds c = (begin _ _ _ _ (c .before .pre .2) (le-refl _), omega arith)
 
-sub-load-block : tie.Need-sub-load-block Inv-loop μ-loop
-sub-load-block c = omega (arith, c .before .loop .inv .0 .len)
+sub-words-from : tie.Need-sub-words-from Inv-loop μ-loop
+sub-words-from c = omega (arith, c .before .loop .inv .0 .len)
 
-part-load-block-start : tie.Need-part-load-block-start Inv-loop μ-loop
-part-load-block-start c = search needs
+part-words-from-start : tie.Need-part-words-from-start Inv-loop μ-loop
+part-words-from-start c = search needs
 
-part-load-block-end : tie.Need-part-load-block-end Inv-loop μ-loop
-part-load-block-end c = search needs
+part-words-from-end : tie.Need-part-words-from-end Inv-loop μ-loop
+part-words-from-end c = search needs
 
-load-block-requires : tie.Need-load-block-requires Inv-loop μ-loop
-load-block-requires c κs = search needs
-
-words-requires : tie.Need-words-requires Inv-loop μ-loop
-words-requires c κs = search needs
+words-from-requires : tie.Need-words-from-requires Inv-loop μ-loop
+words-from-requires c κs = enough (c .before .before .before .loop .buffer) (c .before .before .before .loop .at) (in-target _ _ _ _ _ _ _ (c .before .before .before .loop .inv .0) (omega (arith, c .before .before .before .loop .inv .0 .len)))
 
 add-requires : tie.Need-add-requires Inv-loop μ-loop
 add-requires c κs = search needs
@@ -42,25 +39,25 @@ add-requires c κs = search needs
 encrypt-requires : tie.Need-encrypt-requires Inv-loop μ-loop
 encrypt-requires c κs = search needs
 
-bytes-requires : tie.Need-bytes-requires Inv-loop μ-loop
-bytes-requires c κs = search needs
+bytes-of-requires : tie.Need-bytes-of-requires Inv-loop μ-loop
+bytes-of-requires c κs = search needs
 
 put-requires : tie.Need-put-requires Inv-loop μ-loop
-put-requires c κs = in-target _ _ _ _ _ _ _ (c .before .before .before .before .before .before .before .before .before .loop .inv .0) (omega (arith, c .before .before .before .before .before .before .before .before .before .loop .inv .0 .len))
+put-requires c κs = in-target _ _ _ _ _ _ _ (c .before .before .before .before .before .before .before .before .loop .inv .0) (omega (arith, c .before .before .before .before .before .before .before .before .loop .inv .0 .len))
 
 add-at : tie.Need-add-at Inv-loop μ-loop
-add-at c = omega (arith, c .before .before .before .before .before .before .before .before .before .before .before .before .loop .inv .1, c .before .before .before .before .before .before .before .before .before .before .before .before .loop .inv .0 .len, in-source _ _ _ _ _ _ _ (c .before .before .before .before .before .before .before .before .before .before .before .before .loop .inv .0) (omega (arith, c .before .before .before .before .before .before .before .before .before .before .before .before .loop .inv .0 .len)))
+add-at c = omega (arith, c .before .before .before .before .before .before .before .before .before .before .before .loop .inv .1, c .before .before .before .before .before .before .before .before .before .before .before .loop .inv .0 .len, in-source _ _ _ _ _ _ _ (c .before .before .before .before .before .before .before .before .before .before .before .loop .inv .0) (omega (arith, c .before .before .before .before .before .before .before .before .before .before .before .loop .inv .0 .len)))
 
 loop-less : tie.Need-loop-less Inv-loop μ-loop
-loop-less c = omega (arith, c .before .before .before .before .before .before .before .before .before .before .before .before .loop .inv .0 .len, in-source _ _ _ _ _ _ _ (c .before .before .before .before .before .before .before .before .before .before .before .before .loop .inv .0) (omega (arith, c .before .before .before .before .before .before .before .before .before .before .before .before .loop .inv .0 .len)))
+loop-less c = omega (arith, c .before .before .before .before .before .before .before .before .before .before .before .loop .inv .0 .len, in-source _ _ _ _ _ _ _ (c .before .before .before .before .before .before .before .before .before .before .before .loop .inv .0) (omega (arith, c .before .before .before .before .before .before .before .before .before .before .before .loop .inv .0 .len)))
 
 loop-again : tie.Need-loop-again Inv-loop μ-loop
 loop-again c =
-    let l = c .before .before .before .before .before .before .before .before .before .before .before .before .loop in
-    let h : l .at < length (c .before .before .before .before .before .before .before .before .before .before .before .before .before .before .args .buffer .now) = omega (arith, l .inv .0 .len) in (
-      encrypt-more _ _ _ _ _ _ _ (l .inv .0) _ _ _ _ _ _ h
-          (c .before .before .before .before .before .before .before .before .load-block .ensures ∙ loaded _ _ (in-target _ _ _ _ _ _ _ (l .inv .0) h) ∙ ap (take 16) (l .inv .0 .rest)) (c .before .before .before .before .before .before .before .words .ensures)
-          (c .before .before .before .before .before .before .add .ensures) (c .before .before .before .before .before .encrypt .ensures) (c .before .before .before .bytes .ensures) (c .before .before .put .ensures),
+    let l = c .before .before .before .before .before .before .before .before .before .before .before .loop in
+    let h : l .at < length (c .before .before .before .before .before .before .before .before .before .before .before .before .before .args .buffer .now) = omega (arith, l .inv .0 .len) in (
+      encrypt-more _ _ _ _ _ _ _ (l .inv .0) _ _ _ _ _ h
+          (c .before .before .before .before .before .before .before .words-from .ensures ∙ loaded _ _ (in-target _ _ _ _ _ _ _ (l .inv .0) h) ∙ ap (take 16) (l .inv .0 .rest))
+          (c .before .before .before .before .before .before .add .ensures) (c .before .before .before .before .before .encrypt .ensures) (c .before .before .before .bytes-of .ensures) (c .before .before .put .ensures),
       l .inv .1,
     )
 
@@ -80,14 +77,13 @@ encrypt-buffer-spec =
     Inv-loop
     μ-loop
     loop-holds
-    sub-load-block
-    part-load-block-start
-    part-load-block-end
-    load-block-requires
-    words-requires
+    sub-words-from
+    part-words-from-start
+    part-words-from-end
+    words-from-requires
     add-requires
     encrypt-requires
-    bytes-requires
+    bytes-of-requires
     put-requires
     add-at
     loop-less

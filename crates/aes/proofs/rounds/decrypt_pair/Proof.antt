@@ -11,10 +11,10 @@ use Rattle.aes.proofs.rounds.decrypt_pair.Statement.{statement}
 use Rattle.aes.proofs.rounds.decrypt_pair.Tie as tie
 
 abbrev Inv-loop : tie.InvT-loop
-Inv-loop keys inverse sb t0 t1 t2 t3 x₀ y₀ n₀ x y n = (n ≤ 9) × (unrounds keys n (bytesOf x) ≡ unrounds keys 9 (bytesOf x₀)) × (unrounds keys n (bytesOf y) ≡ unrounds keys 9 (bytesOf y₀))
+Inv-loop keys inverse sb t x₀ y₀ n₀ x y n = (n ≤ 9) × (unrounds keys n (bytesOf x) ≡ unrounds keys 9 (bytesOf x₀)) × (unrounds keys n (bytesOf y) ≡ unrounds keys 9 (bytesOf y₀))
 
 abbrev μ-loop : tie.MeasureT-loop
-μ-loop keys inverse sb t0 t1 t2 t3 x₀ y₀ n₀ x y n = n
+μ-loop keys inverse sb t x₀ y₀ n₀ x y n = n
 
 element-copy-out-first : tie.Need-element-copy-out-first Inv-loop μ-loop
 element-copy-out-first c = search needs

@@ -11,10 +11,10 @@ use Rattle.aes.proofs.rounds.encrypt.Statement.{statement}
 use Rattle.aes.proofs.rounds.encrypt.Tie as tie
 
 abbrev Inv-loop : tie.InvT-loop
-Inv-loop keys sb t0 t1 t2 t3 s₀ n₀ s n = (n ≤ 9) × (bytesOf s ≡ rounds keys (bytesOf s₀) n)
+Inv-loop keys sb t s₀ n₀ s n = (n ≤ 9) × (bytesOf s ≡ rounds keys (bytesOf s₀) n)
 
 abbrev μ-loop : tie.MeasureT-loop
-μ-loop keys sb t0 t1 t2 t3 s₀ n₀ s n = 9 - n
+μ-loop keys sb t s₀ n₀ s n = 9 - n
 
 element-copy-out-first : tie.Need-element-copy-out-first Inv-loop μ-loop
 element-copy-out-first c = search needs

@@ -12,10 +12,10 @@ use Rattle.aes.proofs.rounds.inverse_keys.Statement.{statement}
 use Rattle.aes.proofs.rounds.inverse_keys.Tie as tie
 
 abbrev Inv-loop : tie.InvT-loop
-Inv-loop keys sb t0 t1 t2 t3 inverse₀ n₀ inverse n = (n ≤ 11) × (length inverse ≡ 11) × InverseKeys keys inverse n
+Inv-loop keys sb t inverse₀ n₀ inverse n = (n ≤ 11) × (length inverse ≡ 11) × InverseKeys keys inverse n
 
 abbrev μ-loop : tie.MeasureT-loop
-μ-loop keys sb t0 t1 t2 t3 inverse₀ n₀ inverse n = 11 - n
+μ-loop keys sb t inverse₀ n₀ inverse n = 11 - n
 
 loop-holds : tie.Need-loop-holds Inv-loop μ-loop
 loop-holds c = (search needs, refl, λ i h. absurd (not-suc-le-zero h))

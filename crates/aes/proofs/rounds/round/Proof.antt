@@ -32,7 +32,7 @@ returns c =
     } in
     let b = bytesOf-block (a .args .s) w in
     columns-added _ (mix-block _ (shift-block _ (sub-block _ b))) (a .args .k) _ _ _ _
-    (mixed-columns (a .args .s) w _ _ _ _ _ _ _ _ (a .pre)
+    (mixed-columns (a .args .s) w _ _ _ _ _ (a .pre)
     (c .before .before .before .before .before .before .before .look .ensures .0)
     (c .before .before .before .before .before .look2 .ensures .0)
     (c .before .before .before .look3 .ensures .0)

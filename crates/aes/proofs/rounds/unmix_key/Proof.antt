@@ -24,8 +24,8 @@ unmix-word-requires-3 c κs = search needs
 unmix-word-requires-4 : tie.Need-unmix-word-requires-4
 unmix-word-requires-4 c κs = search needs
 
-bytes-requires : tie.Need-bytes-requires
-bytes-requires c κs = search needs
+bytes-of-requires : tie.Need-bytes-of-requires
+bytes-of-requires c κs = search needs
 
 returns : tie.Need-returns
 returns c =
@@ -36,7 +36,7 @@ returns c =
     let r = c .before .before .unmix-word3 .ensures in
     let u = c .before .unmix-word4 .ensures in
     let b = bytesOf-block s (record { fits-a = p .1; fits-b = q .1; fits-c = r .1; fits-d = u .1 }) in (
-      c .bytes .ensures
+      c .bytes-of .ensures
           ∙ columns-bytes (invMixColumns (bytesOf s)) (unmix-block (bytesOf s) b) _ (key-columns s _ _ _ _ (p .0) (q .0) (r .0) (u .0))
           ∙ ap invMixColumns e,
       subst Block e b,
@@ -51,5 +51,5 @@ unmix-key-spec =
     unmix-word-requires-2
     unmix-word-requires-3
     unmix-word-requires-4
-    bytes-requires
+    bytes-of-requires
     returns)

@@ -15,7 +15,7 @@ look-requires c κs = search needs
 returns : tie.Need-returns
 returns c =
     let a = c .before .before in
-    (unmixed-word _ _ _ _ _ (a .pre .0) (a .pre .1) (a .args .x) _ _ (a .fits .x .fits) (c .before .look-bytes .ensures .0) (c .look .ensures .0), a .fits .x .fits)
+    (unmixed-word _ _ (a .pre .0) (a .pre .1) (a .args .x) _ _ (a .fits .x .fits) (c .before .look-bytes .ensures .0) (c .look .ensures .0), a .fits .x .fits)
 
 pub unmix-word-spec : {M : Type 1} → statement M
 unmix-word-spec = tie.close (tie.spec look-bytes-requires look-requires returns)

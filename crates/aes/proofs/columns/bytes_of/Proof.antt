@@ -1,10 +1,10 @@
--- `columns::bytes` meets its contract: the code is the definition.
+-- `columns::bytes_of` meets its contract: the code is the definition.
 -- Assumes nothing.
 use mathlib.Core.Path.{refl}
 use Rattle.aes.specs.Words.{bytesOf}
 use borrow.Author.Needs.{needs}
-use Rattle.aes.proofs.columns.bytes.Statement.{statement}
-use Rattle.aes.proofs.columns.bytes.Tie as tie
+use Rattle.aes.proofs.columns.bytes_of.Statement.{statement}
+use Rattle.aes.proofs.columns.bytes_of.Tie as tie
 
 cast-t3 : tie.Need-cast-t3
 cast-t3 c = search needs
@@ -58,8 +58,8 @@ returns : tie.Need-returns
 unfolding bytesOf
 returns c = refl
 
-pub bytes-spec : {M : Type 1} → statement M
-bytes-spec =
+pub bytes-of-spec : {M : Type 1} → statement M
+bytes-of-spec =
     tie.close
     (tie.spec
     cast-t3
