@@ -1,1 +1,6 @@
 pub mod NumberedExamples
+pub mod RefusalTables
+pub mod ReportsJoined
+pub mod Repeats
+pub mod Determined
+pub mod Witness

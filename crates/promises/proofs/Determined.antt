@@ -1,0 +1,9 @@
+-- Two values that equal a third are equal. Assumes nothing.
+use mathlib.Core.Path.{_≡_, sym, _∙_}
+use Rattle.promises.specs.Determinacy.{Determined, OneResult, OneOutcome}
+
+pub one-result : OneResult
+one-result A value r s p q = p ∙ sym q
+
+pub one-outcome : OneOutcome
+one-outcome A B value held r s p q = λ i. ((p .0 ∙ sym (q .0)) i, (p .1 ∙ sym (q .1)) i)

@@ -1,0 +1,146 @@
+-- Demand 1 for reader, step and cutter: each call's refusal is the first number of its table, and laws' both directions do the rest.
+-- Assumes nothing.
+use Prim.Native.Nat.{ℕ, _+_, _-_, _*_, _%_, _≤_, _<_}
+use mathlib.Core.Path.{_≡_, refl, sym, ap, _∙_}
+use mathlib.Core.List.{List, [], _∷_, _++_}
+use mathlib.Core.Bool.{Bool, true, false, cond, not, _&&_, _||_, true≢false}
+use native.Mathlib.Omega.{arith}
+use lib.ListN.{length, take, drop}
+use lib.Dec.{ltb, leb, eqb}
+use borrow.Author.Tests.{eqb-true, eqb-false, eq-eqb, le-ltb, lt-leb}
+use Rattle.laws.specs.Bytes.{be8, be16, be32}
+use Rattle.laws.specs.Rows.{first, orElse, leads}
+use Rattle.laws.specs.Same.{same}
+use Rattle.laws.proofs.Firsts.{first-append, first-leads, leads-first}
+use Rattle.wire.specs.Fields.{isSealed, tagSize, mostPieces}
+use Rattle.wire.specs.Chain.{leaves, isBroken}
+use Rattle.wire.specs.Payload.{badPayload, connectType, readRequest}
+use Rattle.wire.specs.Reader.{headerOf, chainOf, headerRows, rowsOf, refusalWith, refusalOf, readHeader}
+use Rattle.wire.specs.declared.header.Header.{Header}
+use Rattle.wire.proofs.Reading.{read-good}
+use Rattle.wire.proofs.Sound as wire
+use Rattle.sha256.specs.Digests.{digest}
+use Rattle.seal.specs.Keys.{tagOf}
+use Rattle.seal.specs.Padding.{badPlain}
+use Rattle.seal.specs.Opening.{bodyOf, tagIn, sealedPart, plainOf, noPart, partRefusal, openRefusal}
+use Rattle.message.specs.Reading.{opened, unless, plainRead, sealedRead, readMessage, workingAfter}
+use Rattle.message.specs.Handed.{payload}
+use Rattle.message.specs.declared.reading.MessageRead.{MessageRead}
+use Rattle.message.specs.declared.reading.MessageRead.the-variants as read
+use Rattle.joining.specs.declared.Progress.{Progress}
+use Rattle.joining.specs.declared.Piece.{Piece}
+use Rattle.joining.specs.declared.Joined.{Joined}
+use Rattle.joining.specs.Heard.{most, has}
+use Rattle.joining.specs.Cut.{badSize, cutRefusal}
+use Rattle.joining.specs.Join.{badIndex, unlike, misfit, conflict, completes, taken, joinRefusal, join}
+use Rattle.hub.specs.declared.Connection.{Connection}
+use Rattle.hub.specs.declared.Stepped.{Stepped}
+use Rattle.hub.specs.declared.Answer.{Answer}
+use Rattle.hub.specs.declared.Answer.the-variants.{Refused, Reply, Again, Failure, Taken, Repeat, Complete}
+use Rattle.hub.specs.Answers.{valuesOf, answerOf}
+use Rattle.hub.specs.Host.{hostRows, firstRow, host, refuse}
+use Rattle.hub.specs.Hear.{certificate, connect, pieceIn, joined, isForeign, joins, heard}
+use Rattle.hub.specs.Step.{afterRead, step, reportStepped}
+use Rattle.hub.proofs.Layer.{step-still}
+use Rattle.promises.specs.Examples.{numberOf}
+use Rattle.promises.specs.Refusals.{AreBytes, sealed, start, payloadIn, headerTable, openingTable, readerTable, _⇔_, ReaderExact, anyOf, enrols, hostTable, handed, stepTable, StepExact, LeavesAlone, cutTable, CutterExact}
+
+-- A table's answer is n if and only if row n is the first that applies.
+exact : (rows : List (ℕ × Bool)) (n : ℕ) → (n ≡ 0 → ⊥) → (first rows ≡ n) ⇔ leads n rows
+exact rows n z = (first-leads n z rows, leads-first n rows)
+
+pub cutter-exact : CutterExact
+unfolding cutRefusal
+cutter-exact F bytes i n z = exact (cutTable F bytes i) n z
+
+-- Rows one behind the other, and tables in turn.
+in-turn : (a b c d : Bool) (x : ℕ)
+    → orElse (orElse (cond a 10 (cond b 11 0)) (cond c 12 (cond d 13 0))) x ≡ cond a 10 (cond b 11 (cond c 12 (cond d 13 x)))
+in-turn true b c d x = refl
+in-turn false true c d x = refl
+in-turn false false true d x = refl
+in-turn false false false true x = refl
+in-turn false false false false x = refl
+
+module _ (m keys : List ℕ) (room : ℕ) (bytes : AreBytes m) where
+  header-first : first (headerTable m keys) ≡ refusalOf m
+  unfolding refusalOf refusalWith rowsOf headerRows
+  header-first = refl
+
+  pub reader-first : first (readerTable m keys room) ≡ orElse (refusalOf m) (first (openingTable m keys room))
+  reader-first = first-append (headerTable m keys) (openingTable m keys room) refl ∙ ap (λ (n : ℕ). orElse n (first (openingTable m keys room))) header-first
+
+  -- What was read.
+  abbrev pub whatIsRead : MessageRead
+  whatIsRead =
+      read.Read (headerOf m) (sealed m keys) (cond (sealed m keys) 4 (start m keys))
+      (cond (sealed m keys) (be32 (opened m keys (start m keys)) 0) (leaves (chainOf m)))
+
+  module _ (z : refusalOf m ≡ 0) where
+    g : wire.Good m
+    g = wire.good m z
+
+    short : length m ≤ 65535
+    short = omega (arith, g .size, bytes 2, bytes 3)
+
+    -- What seal tests for itself never applies to what passed 1 to 9.
+    part-there : isSealed (be16 m 6) ≡ true → noPart (length m) (start m keys) ≡ 0
+    unfolding noPart
+    part-there s =
+        let w = wire.read-sound m (headerOf m) (start m keys) (leaves (chainOf m)) (read-good m z) in
+        let b = g .blocks s in
+        let t = wire.sealed-tag (be16 m 6) s in
+        let l = g .long in
+        let k = w .spans in
+        let q : length m - 32 - start m keys ≡ leaves (chainOf m) = omega arith in
+        rw (le-ltb (length m) 42 l, le-ltb 65535 (length m) short, lt-leb (length m - 32) (start m keys) (omega arith), q, b .0)
+
+    sealed-way : isSealed (be16 m 6) ≡ true
+        → sealedRead m keys (headerOf m) (start m keys) room ≡ unless (first (openingTable m keys room)) whatIsRead
+    unfolding sealedRead openRefusal partRefusal
+    sealed-way s =
+        rw (part-there s, s)
+        (ap (λ (n : ℕ). unless n (read.Read (headerOf m) true 4 (be32 (opened m keys (start m keys)) 0)))
+        (in-turn (not (eqb (length keys) 64)) (not (same (tagOf keys (bodyOf m)) (tagIn m))) (ltb room (length (sealedPart m (start m keys))))
+        (badPlain (opened m keys (start m keys))) _))
+
+    plain-way : isSealed (be16 m 6) ≡ false → plainRead m (headerOf m) (start m keys) (leaves (chainOf m)) ≡ unless (first (openingTable m keys room)) whatIsRead
+    unfolding plainRead
+    plain-way s = rw s
+
+    by-seal : (t : Bool) → isSealed (be16 m 6) ≡ t → readMessage m keys room ≡ unless (first (openingTable m keys room)) whatIsRead
+    unfolding readMessage
+    by-seal true s = rw (read-good m z, s) (rw s at (sealed-way s))
+    by-seal false s = rw (read-good m z, s) (rw s at (plain-way s))
+
+  header-refused : eqb (refusalOf m) 0 ≡ false → readMessage m keys room ≡ read.Refused (refusalOf m)
+  unfolding readMessage readHeader
+  header-refused e = rw e
+
+  -- The reader's answer is its table's.
+  pub read-by-table : readMessage m keys room ≡ unless (first (readerTable m keys room)) whatIsRead
+  read-by-table = by (eqb (refusalOf m) 0) refl
+    where
+      by : (t : Bool) → eqb (refusalOf m) 0 ≡ t → readMessage m keys room ≡ unless (first (readerTable m keys room)) whatIsRead
+      by true e = rw (reader-first, e) (by-seal (eqb-true (refusalOf m) 0 e) (isSealed (be16 m 6)) refl)
+      by false e = rw (reader-first, e, e) (header-refused e)
+
+number-unless : (n : ℕ) (h : Header) (s : Bool) (from size : ℕ) → numberOf (unless n (read.Read h s from size)) ≡ n
+number-unless n h s from size = by (eqb n 0) refl
+  where
+    by : (t : Bool) → eqb n 0 ≡ t → numberOf (cond t (read.Read h s from size) (read.Refused n)) ≡ n
+    by true e = sym (eqb-true n 0 e)
+    by false e = refl
+
+read-refused : (r : MessageRead) (n : ℕ) → (n ≡ 0 → ⊥) → numberOf r ≡ n → r ≡ read.Refused n
+read-refused (read.Refused k) n z e = ap read.Refused e
+read-refused (read.Read h s from size) n z e = absurd (z (sym e))
+
+pub reader-exact : ReaderExact
+reader-exact m keys room n b z =
+    let e : numberOf (readMessage m keys room) ≡ first (readerTable m keys room) =
+    ap numberOf (read-by-table m keys room b) ∙ number-unless (first (readerTable m keys room)) _ _ _ _ in
+    let t = exact (readerTable m keys room) n z in (
+      λ r. t .0 (sym e ∙ ap numberOf r),
+      λ l. read-refused (readMessage m keys room) n z (e ∙ t .1 l),
+    )

@@ -1,0 +1,125 @@
+-- Demand 3: the step is the machine over which joining proved it for any number of pieces. Assumes nothing.
+use Prim.Native.Nat.{ℕ, _*_, _≤_, _<_}
+use mathlib.Core.Path.{_≡_, refl, sym, ap, _∙_}
+use mathlib.Core.List.{List, [], _∷_}
+use mathlib.Core.Bool.{Bool, true, false, cond, _||_, true≢false}
+use native.Mathlib.Omega.{arith}
+use lib.ListN.{length, take}
+use lib.Dec.{eqb, ltb, leb}
+use borrow.Author.Tests.{lt-leb}
+use Rattle.laws.proofs.Bools.{or-false}
+use Rattle.joining.specs.Heard.{most}
+use Rattle.joining.specs.Report.{part}
+use Rattle.joining.specs.Cut.{badSize, pieceCount, cutRefusal, cutCount, cutPiece}
+use Rattle.joining.proofs.Cuts.{passed, Cuttable, cuttable}
+use Rattle.joining.proofs.Coming as coming
+use Rattle.joining.proofs.Courses as joining
+use Rattle.joining.proofs.Courses.{Event, piece, between, came, LastMissing, Machine, final, ends-at, only-the-set, handed-out, as-sent, at-no-other, late-copy}
+use Rattle.hub.specs.declared.Connection.{Connection}
+use Rattle.hub.specs.declared.Answer.{Answer}
+use Rattle.hub.specs.declared.Answer.the-variants.{Refused, Reply, Again, Failure, Taken, Repeat, Complete}
+use Rattle.hub.specs.Answers.{isQuiet, isComplete}
+use Rattle.hub.proofs.Layer.{Call, Place, Brings, hub}
+use Rattle.promises.specs.Reports.{after, answer, afterAll, Sending, began, fragments, Fair, pieceOf, Opens, Course, done, brings, rests, OnlyWhatCame, HandedOut, AtTheLastMissing, AtNoOther, LaterCopies, NotBetween}
+
+-- What the cutter does not refuse at piece 0 it refuses at no piece under the count.
+module _ (F L : ℕ) (e : cutRefusal F L 0 ≡ 0) where
+  pub sized : badSize F ≡ false
+  unfolding cutRefusal
+  sized = passed (badSize F) 24 _ (λ z. omega arith) e .0
+
+  not-longer : ltb (F * most) L ≡ false
+  unfolding cutRefusal
+  not-longer =
+      or-false (ltb (F * most) L) (leb (pieceCount F L) 0)
+      (passed (ltb (F * most) L || leb (pieceCount F L) 0) 7 0 (λ z. omega arith) (passed (badSize F) 24 _ (λ z. omega arith) e .1) .0)
+      .0
+
+  pub each-cut : (i : ℕ) → i < pieceCount F L → cutRefusal F L i ≡ 0
+  unfolding cutRefusal
+  each-cut i l = rw (sized, not-longer, lt-leb (pieceCount F L) i l)
+
+  pub each-count : (i : ℕ) → i < pieceCount F L → cutCount F L i ≡ pieceCount F L
+  each-count i l = rw (each-cut i l)
+
+module _ (s : Sending) (f : Fair s) where
+  -- The report as joining sees it.
+  abbrev pub start : coming.Start
+  start =
+      record {
+        size = s .connection .size;
+        count = fragments s;
+        channel = s .channel;
+        report = s .report;
+        held = s .connection .progress;
+        buffer = s .buffer;
+      }
+
+  pub start-fair : coming.Fair start
+  start-fair =
+      let k = cuttable (s .connection .size) (length (s .report)) 0 (f .cut) in
+      record { small = k .small; cut = k .cut; number = f .number; fresh = f .unheard; room = f .room }
+
+  -- The step as joining's machine.
+  abbrev pub machine : Machine (s .connection .size)
+  machine = hub (s .connection) (f .ready) (sized (s .connection .size) (length (s .report)) (f .cut))
+
+  opens-brings : (i : ℕ) → i < fragments s → (x : Call) → Opens s i x → Brings (s .connection) (coming.pieceOf start i) (coming.bytesOf start i) x
+  opens-brings i l x o =
+      record {
+        verdict = o .verdict;
+        header = o .header;
+        sealed = o .sealed;
+        from = o .from;
+        size = o .size;
+        reads = rw (o .keys) (o .reads);
+        kind = o .kind;
+        session = o .session;
+        piece = o .piece ∙ rw (each-count (s .connection .size) (length (s .report)) (f .cut) i l);
+        payload = rw (o .keys) (o .payload ∙ rw (each-cut (s .connection .size) (length (s .report)) (f .cut) i l));
+      }
+
+  course : {p : Place} {xs : List Call} {es : List Event} → Course s p xs es → joining.Course start machine p xs es
+  course done = joining.end
+  course (brings {x = x} {i = i} l o r) = joining.brings l (opens-brings i l x o) (course r)
+  course (rests q r) = joining.rests q (course r)
+
+  finally : (p : Place) (xs : List Call) → final machine p xs ≡ afterAll p xs
+  finally p [] = refl
+  finally p (x ∷ xs) = finally (after p x) xs
+
+  pub only-what-came : OnlyWhatCame s
+  only-what-came xs ys es ds r q e =
+      sym (finally (began s) xs) ∙ only-the-set start start-fair machine (course r) (course q) e ∙ finally (began s) ys
+
+  module _ (xs : List Call) (es : List Event) (i : ℕ) (x : Call) where
+    pub at-the-last-missing : AtTheLastMissing s xs es i x
+    at-the-last-missing r l o d =
+        let b = opens-brings i l x o in
+        let z = finally (began s) xs in
+        let a = as-sent start start-fair machine (course r) i l x b d in
+        let n = sym (ap (λ (p : Place). after p x) z) ∙ a .1 in
+        record {
+          answered = sym (ap (λ (p : Place). answer p x) z) ∙ handed-out start start-fair machine (course r) i l x b d;
+          whole = ap (λ (p : Place). take (length (s .report)) (p .report)) n ∙ a .2;
+          long = ap (λ (p : Place). length (p .report)) n ∙ a .3;
+          next = ap (λ (p : Place). p .connection) n;
+        }
+
+    pub at-no-other-call : AtNoOther s xs es i x
+    at-no-other-call r l o d =
+        at-no-other start start-fair machine (course r) i l x (opens-brings i l x o)
+        (ap (λ (p : Place). isComplete (answer p x)) (finally (began s) xs) ∙ d)
+
+    pub later-copies : LaterCopies s xs es i x
+    later-copies r l o d =
+        sym (ap (λ (p : Place). answer p x) (finally (began s) xs)) ∙ late-copy start start-fair machine (course r) i l x (opens-brings i l x o) d
+
+pub not-between : NotBetween
+not-between (Refused n) e = refl
+not-between (Reply t) e = absurd (true≢false (sym e))
+not-between (Again t) e = refl
+not-between Failure e = refl
+not-between (Taken k) e = refl
+not-between (Repeat k) e = refl
+not-between (Complete l k) e = sym e

@@ -1,0 +1,169 @@
+-- Demand 1: every refusal is given exactly when the table of document 01 says: a number is answered if and only if its row is the first that
+-- applies. The tables below are that table's rows in the order of each call. Every refusal leaves connection and report buffer alone.
+use Prim.Native.Nat.{ℕ, _+_, _-_, _*_, _%_, _<_}
+use mathlib.Core.Path.{_≡_}
+use mathlib.Core.List.{List, [], _∷_, _++_}
+use mathlib.Core.Bool.{Bool, true, false, cond, not, _&&_, _||_}
+use lib.ListN.{length, take, drop}
+use lib.Dec.{ltb, leb, eqb}
+use Rattle.laws.specs.Bytes.{be8, be16, be32}
+use Rattle.laws.specs.Rows.{first, leads, quiet}
+use Rattle.laws.specs.Same.{same}
+use Rattle.wire.specs.Fields.{badKind, badFlags, badPiece, isSealed, tagSize}
+use Rattle.wire.specs.Chain.{leaves, isBroken}
+use Rattle.wire.specs.Payload.{badPayload, connectType, readRequest}
+use Rattle.wire.specs.Reader.{headerOf, chainOf}
+use Rattle.wire.specs.declared.header.Header.{Header}
+use Rattle.sha256.specs.Digests.{digest}
+use Rattle.seal.specs.Keys.{tagOf}
+use Rattle.seal.specs.Padding.{badPlain, payloadOf}
+use Rattle.seal.specs.Opening.{bodyOf, tagIn, sealedPart}
+use Rattle.message.specs.Reading.{opened, readMessage, workingAfter}
+use Rattle.message.specs.Handed.{payload}
+use Rattle.message.specs.declared.reading.MessageRead.the-variants.{Refused as notRead}
+use Rattle.joining.specs.Heard.{most}
+use Rattle.joining.specs.Cut.{badSize, pieceCount, cutRefusal}
+use Rattle.joining.specs.Join.{unlike, misfit, conflict}
+use Rattle.hub.specs.declared.Connection.{Connection}
+use Rattle.hub.specs.declared.Stepped.{Stepped}
+use Rattle.hub.specs.declared.Answer.the-variants.{Refused}
+use Rattle.hub.specs.Host.{hostRows}
+use Rattle.hub.specs.Hear.{certificate, pieceIn, isForeign, joins}
+use Rattle.hub.specs.Step.{step, reportStepped}
+
+-- A list of bytes, as every message is.
+abbrev pub AreBytes : List ℕ → Type 0
+AreBytes m = (i : ℕ) → be8 m i < 256
+
+-- What the reader sees of a message, with these keys.
+module _ (m keys : List ℕ) where
+  -- "'Sealed' means flags 2 and 4 both set."
+  abbrev pub sealed : Bool
+  sealed = isSealed (be16 m 6)
+
+  -- Where the payload or the sealed part starts: behind the chain.
+  abbrev pub start : ℕ
+  start = length m - tagSize (be16 m 6) - leaves (chainOf m)
+
+  -- The payload.
+  abbrev pub payloadIn : List ℕ
+  payloadIn = cond sealed (payloadOf (opened m keys start)) (take (leaves (chainOf m)) (drop start m))
+
+  -- Rows 1 to 9.
+  abbrev pub headerTable : List (ℕ × Bool)
+  headerTable =
+      -- fewer than 42 bytes
+      (1, ltb (length m) 42)
+      -- wrong signature
+      ∷ (2, not (eqb (be16 m 0) 0x3030))
+      -- MessageLength under 42 or not the bytes given
+      ∷ (3, ltb (be16 m 2) 42 || not (eqb (be16 m 2) (length m)))
+      -- version not 3
+      ∷ (4, not (eqb (be8 m 4) 3))
+      -- type not 1, 2, 4
+      ∷ (5, badKind (be8 m 5))
+      -- a flag above 8; flags 2 and 4 not alike; sealed Discovery; plain Session
+      ∷ (6, badFlags (be8 m 5) (be16 m 6))
+      -- count 0 or over 64; index not under count; count not 1 outside Session
+      ∷ (7, badPiece (be8 m 5) (be16 m 20) (be16 m 22))
+      -- chain leaves its room (message less tag), unknown type, type 0 with a size, over 8 entries
+      ∷ (8, isBroken (chainOf m))
+      -- sealed part empty or no multiple of 16
+      ∷ (9, sealed && (eqb (leaves (chainOf m)) 0 || not (eqb (leaves (chainOf m) % 16) 0)))
+      ∷ []
+
+  -- Rows 10 to 14, with a working buffer of `room` bytes: "for sealed messages 10 to 13; 14".
+  abbrev pub openingTable : ℕ → List (ℕ × Bool)
+  openingTable room =
+      -- keys not 64 bytes
+      (10, sealed && not (eqb (length keys) 64))
+      -- tag differs
+      ∷ (11, sealed && not (same (tagOf keys (bodyOf m)) (tagIn m)))
+      -- working buffer shorter than the sealed part
+      ∷ (12, sealed && ltb room (length (sealedPart m start)))
+      -- size or padding not as the rule gives
+      ∷ (13, sealed && badPlain (opened m keys start))
+      -- Discovery or Connect payload not as above
+      ∷ (14, badPayload (be8 m 5) sealed payloadIn)
+      ∷ []
+
+  -- "The reader gives 1 to 14."
+  abbrev pub readerTable : ℕ → List (ℕ × Bool)
+  readerTable room = headerTable ++ openingTable room
+
+infixl 20 _⇔_
+-- Of two statements each follows from the other.
+abbrev pub _⇔_ : Type 0 → Type 0 → Type 0
+A ⇔ B = (A → B) × (B → A)
+
+-- The reader: "Given exactly when".
+abbrev pub ReaderExact : Type 0
+ReaderExact =
+    (m keys : List ℕ) (room n : ℕ) → AreBytes m → (n ≡ 0 → ⊥) → (readMessage m keys room ≡ notRead n) ⇔ leads n (readerTable m keys room)
+
+-- One of the sentences of "Host states" applies to a Connect message.
+abbrev pub anyOf : List (Bool × Stepped) → Bool
+anyOf [] = false
+anyOf (row ∷ rows) = row .0 || anyOf rows
+
+module _ (c : Connection) (h : Header) (payload report : List ℕ) (verdict : ℕ) where
+  abbrev pub enrols : Bool
+  enrols = eqb (h .kind) 2 && anyOf (hostRows c (connectType payload) (h .session) (readRequest payload) (digest (certificate payload)) verdict)
+
+  -- What follows 14 in a step: "16; 15; then 19, 17, 18, 21, 20, 22, 23". "Discovery skips 16."
+  abbrev pub hostTable : List (ℕ × Bool)
+  hostTable =
+      -- state not 0 and another SessionID
+      (16, isForeign c h)
+      -- message not allowed in this state
+      ∷ (15, not (joins c h) && not enrols)
+      -- SequenceNumber is 2^32 − 1
+      ∷ (19, joins c h && eqb (h .sequence) 4294967295)
+      -- SequenceNumber below
+      ∷ (17, joins c h && ltb (h .sequence) (c .progress .expected))
+      -- / above the expected one
+      ∷ (18, joins c h && ltb (c .progress .expected) (h .sequence))
+      -- count or channel unlike the first piece taken of this message
+      ∷ (21, joins c h && unlike (c .progress) (pieceIn h))
+      -- piece not F bytes and not last; last over F; last empty with count over 1
+      ∷ (20, joins c h && misfit (c .size) (pieceIn h) (length payload))
+      -- F × index + piece length exceeds the report buffer
+      ∷ (22, joins c h && ltb (length report) (c .size * h .index + length payload))
+      -- index already heard, and the bytes differ from the report buffer's there, or the length from the one taken
+      ∷ (23, joins c h && conflict (c .size) (c .progress) (pieceIn h) payload report)
+      ∷ []
+
+module _ (c : Connection) (m keys working report : List ℕ) (verdict : ℕ) where
+  -- The payload that the reader hands out: of the working buffer if it was sealed, else of the message.
+  abbrev pub handed : List ℕ
+  handed =
+      payload m (workingAfter m keys working) (sealed m keys) (cond (sealed m keys) 4 (start m keys))
+      (cond (sealed m keys) (be32 (opened m keys (start m keys)) 0) (leaves (chainOf m)))
+
+  -- "A step checks in this order, the first that applies being the answer: 25; 24; 1 to 9; for sealed messages 10 to 13; 14; 16; 15; then
+  -- 19, 17, 18, 21, 20, 22, 23."
+  abbrev pub stepTable : List (ℕ × Bool)
+  stepTable =
+      -- verdict not 0 or 1
+      (25, ltb 1 verdict)
+      -- F outside 1 to 16,384 … in the connection given to a step
+      ∷ (24, badSize (c .size))
+      ∷ (readerTable m keys (length working) ++ hostTable c (headerOf m) handed report verdict)
+
+  -- The step: "Given exactly when".
+  abbrev pub StepExact : Type 0
+  StepExact =
+      (n : ℕ) → AreBytes m → (n ≡ 0 → ⊥) → (step c m keys working report verdict .answer ≡ Refused n) ⇔ leads n stepTable
+
+  -- "Every refusal leaves connection and report buffer alone."
+  abbrev pub LeavesAlone : Type 0
+  LeavesAlone =
+      (n : ℕ) → step c m keys working report verdict .answer ≡ Refused n
+      → (step c m keys working report verdict .connection ≡ c) × (reportStepped c m keys working report verdict ≡ report)
+
+-- The cutter: "it refuses with 24, then with 7 if the report is longer than 64 × F or i is not under the count".
+abbrev pub cutTable : ℕ → ℕ → ℕ → List (ℕ × Bool)
+cutTable F bytes i = (24, badSize F) ∷ (7, ltb (F * most) bytes || leb (pieceCount F bytes) i) ∷ []
+
+abbrev pub CutterExact : Type 0
+CutterExact = (F bytes i n : ℕ) → (n ≡ 0 → ⊥) → (cutRefusal F bytes i ≡ n) ⇔ leads n (cutTable F bytes i)

@@ -1,0 +1,137 @@
+-- Demand 3: "connection and report buffer depend only on how they began and which fragments have come; the report is handed out whole, exactly
+-- as sent, at the call that brings the last missing fragment, at no other". It is about the step that runs: sealed bytes go in.
+use Prim.Native.Nat.{ℕ, _+_, _≤_, _<_}
+use mathlib.Core.Path.{_≡_}
+use mathlib.Core.List.{List, [], _∷_}
+use mathlib.Core.Bool.{Bool, true, false}
+use lib.ListN.{length, take}
+use Rattle.wire.specs.declared.header.Header.{Header}
+use Rattle.message.specs.Reading.{readMessage, workingAfter}
+use Rattle.message.specs.Handed.{payload}
+use Rattle.message.specs.declared.reading.MessageRead.the-variants.{Read}
+use Rattle.joining.specs.declared.Piece.{Piece}
+use Rattle.joining.specs.Heard.{most, tally, none}
+use Rattle.joining.specs.Cut.{pieceCount, cutRefusal, cutCount, cutPiece}
+use Rattle.joining.specs.Join.{expecting}
+use Rattle.joining.proofs.Courses.{Event, piece, between, came, setOf, LastMissing}
+use Rattle.hub.specs.declared.Connection.{Connection}
+use Rattle.hub.specs.declared.Answer.{Answer}
+use Rattle.hub.specs.declared.Answer.the-variants.{Refused, Complete}
+use Rattle.hub.specs.Answers.{valuesOf, isQuiet, isComplete}
+use Rattle.hub.specs.Hear.{pieceIn, withProgress}
+use Rattle.hub.specs.Step.{step, reportStepped}
+use Rattle.hub.proofs.Layer.{Call, Place}
+
+-- What one call of the step leaves: the next connection and the report buffer.
+abbrev pub after : Place → Call → Place
+after s x =
+    record {
+      connection = step (s .connection) (x .message) (x .keys) (x .working) (s .report) (x .verdict) .connection;
+      report = reportStepped (s .connection) (x .message) (x .keys) (x .working) (s .report) (x .verdict);
+    }
+
+-- What it answers.
+abbrev pub answer : Place → Call → Answer
+answer s x = step (s .connection) (x .message) (x .keys) (x .working) (s .report) (x .verdict) .answer
+
+-- What a list of calls leaves, one after the other.
+abbrev pub afterAll : Place → List Call → Place
+afterAll s [] = s
+afterAll s (x ∷ xs) = afterAll (after s x) xs
+
+-- A report that is sent to a connection, in these keys and on this channel; and the report buffer as it began.
+pub record Sending : Type 0 where
+  pub connection : Connection
+  pub buffer : List ℕ
+  pub keys : List ℕ
+  pub channel : ℕ
+  pub report : List ℕ
+
+-- How connection and report buffer began.
+abbrev pub began : Sending → Place
+began s = record { connection = s .connection; report = s .buffer }
+
+-- The number of fragments.
+abbrev pub fragments : Sending → ℕ
+fragments s = pieceCount (s .connection .size) (length (s .report))
+
+-- "on a Ready connection that has heard nothing of the message it expects": its number is one that may be used (at most 2^32 − 2), the
+-- cutter cuts the report at the connection's fragment size, and the report buffer has room for it.
+pub record Fair (s : Sending) : Type 0 where
+  pub ready : s .connection .state ≡ 3
+  pub unheard : s .connection .progress .heard ≡ none most
+  pub number : s .connection .progress .expected < 4294967295
+  pub cut : cutRefusal (s .connection .size) (length (s .report)) 0 ≡ 0
+  pub room : length (s .report) ≤ length (s .buffer)
+
+-- What the header of fragment i says of it: the expected number, the channel, the cutter's count, and i.
+abbrev pub pieceOf : Sending → ℕ → Piece
+pieceOf s i =
+    record {
+      sequence = s .connection .progress .expected;
+      channel = s .channel;
+      count = cutCount (s .connection .size) (length (s .report)) i;
+      index = i;
+    }
+
+-- A call whose message opens, with the keys that every step is given, to fragment i of the report: a Session message of the connection's
+-- session, its payload the cutter's piece. RequestID, acknowledge and wake flags and chain are any; the working buffer is long enough, what
+-- stands in it is any; the verdict is 0 or 1.
+pub record Opens (s : Sending) (i : ℕ) (x : Call) : Type 0 where
+  pub keys : x .keys ≡ s .keys
+  pub verdict : x .verdict ≤ 1
+  pub header : Header
+  pub sealed : Bool
+  pub from : ℕ
+  pub size : ℕ
+  pub reads : readMessage (x .message) (s .keys) (length (x .working)) ≡ Read header sealed from size
+  pub kind : header .kind ≡ 4
+  pub session : header .session ≡ s .connection .session
+  pub piece : pieceIn header ≡ pieceOf s i
+  pub payload : payload (x .message) (workingAfter (x .message) (s .keys) (x .working)) sealed from size ≡ cutPiece (s .connection .size) (s .report) i
+
+-- "any course of messages, each one of the report's fragments or one whose step answers Refused or Again". The list of events says which.
+pub data Course (s : Sending) : Place → List Call → List Event → Type 0 where
+  done : {p : Place} → Course s p [] []
+  brings : {p : Place} {x : Call} {xs : List Call} {i : ℕ} {es : List Event} → i < fragments s → Opens s i x → Course s (after p x) xs es
+      → Course s p (x ∷ xs) (piece i ∷ es)
+  rests : {p : Place} {x : Call} {xs : List Call} {es : List Event} → isQuiet (answer p x) ≡ true → Course s (after p x) xs es
+      → Course s p (x ∷ xs) (between ∷ es)
+
+-- "Then connection and report buffer depend only on how they began and which fragments have come": after two courses that brought the same
+-- fragments, in any order, each any number of times, with anything between them, they are the same.
+abbrev pub OnlyWhatCame : Sending → Type 0
+OnlyWhatCame s =
+    (xs ys : List Call) (es ds : List Event) → Course s (began s) xs es → Course s (began s) ys ds
+    → ((j : ℕ) → j < fragments s → came j es ≡ came j ds) → afterAll (began s) xs ≡ afterAll (began s) ys
+
+-- After a course, a call brings fragment i.
+module _ (s : Sending) (xs : List Call) (es : List Event) (i : ℕ) (x : Call) where
+  -- "the report is handed out whole, exactly as sent, at the call that brings the last missing fragment": the answer is Complete with the
+  -- report's length and the number of fragments, the report buffer begins with the report and is as long as it was, and the connection
+  -- expects the next number, nothing of it heard, all else as it began.
+  pub record HandedOut : Type 0 where
+    pub answered : answer (afterAll (began s) xs) x ≡ Complete (length (s .report)) (fragments s)
+    pub whole : take (length (s .report)) (after (afterAll (began s) xs) x .report) ≡ s .report
+    pub long : length (after (afterAll (began s) xs) x .report) ≡ length (s .buffer)
+    pub next : after (afterAll (began s) xs) x .connection ≡ withProgress (s .connection) (expecting (s .connection .progress .expected + 1))
+
+  abbrev pub AtTheLastMissing : Type 0
+  AtTheLastMissing =
+      Course s (began s) xs es → i < fragments s → Opens s i x → LastMissing (fragments s) i es → HandedOut
+
+  -- "at no other": where a fragment is answered Complete, it was the last missing one;
+  abbrev pub AtNoOther : Type 0
+  AtNoOther =
+      Course s (began s) xs es → i < fragments s → Opens s i x → isComplete (answer (afterAll (began s) xs) x) ≡ true
+      → LastMissing (fragments s) i es
+
+  -- "later copies get 17".
+  abbrev pub LaterCopies : Type 0
+  LaterCopies =
+      Course s (began s) xs es → i < fragments s → Opens s i x → ((j : ℕ) → j < fragments s → came j es ≡ true)
+      → answer (afterAll (began s) xs) x ≡ Refused 17
+
+-- and what is Refused or Again hands nothing out.
+abbrev pub NotBetween : Type 0
+NotBetween = (a : Answer) → isQuiet a ≡ true → isComplete a ≡ false
