@@ -4,3 +4,4 @@ pub mod ReportsJoined
 pub mod Repeats
 pub mod Determined
 pub mod Witness
+pub mod StepTable
