@@ -5,3 +5,4 @@ pub mod Repeats
 pub mod Determined
 pub mod Witness
 pub mod StepTable
+pub mod Working

@@ -63,7 +63,7 @@ in-turn false false false true x = refl
 in-turn false false false false x = refl
 
 module _ (m keys : List ℕ) (room : ℕ) (bytes : AreBytes m) where
-  header-first : first (headerTable m keys) ≡ refusalOf m
+  pub header-first : first (headerTable m keys) ≡ refusalOf m
   unfolding refusalOf refusalWith rowsOf headerRows
   header-first = refl
 
@@ -84,7 +84,7 @@ module _ (m keys : List ℕ) (room : ℕ) (bytes : AreBytes m) where
     short = omega (arith, g .size, bytes 2, bytes 3)
 
     -- What seal tests for itself never applies to what passed 1 to 9.
-    part-there : isSealed (be16 m 6) ≡ true → noPart (length m) (start m keys) ≡ 0
+    pub part-there : isSealed (be16 m 6) ≡ true → noPart (length m) (start m keys) ≡ 0
     unfolding noPart
     part-there s =
         let w = wire.read-sound m (headerOf m) (start m keys) (leaves (chainOf m)) (read-good m z) in

@@ -29,7 +29,7 @@ use Rattle.hub.specs.declared.Stepped.{Stepped}
 use Rattle.hub.specs.declared.Answer.the-variants.{Refused}
 use Rattle.hub.specs.Host.{hostRows}
 use Rattle.hub.specs.Hear.{certificate, pieceIn, isForeign, joins}
-use Rattle.hub.specs.Step.{step, reportStepped}
+use Rattle.hub.specs.Step.{step, reportStepped, workingStepped}
 
 -- A list of bytes, as every message is.
 abbrev pub AreBytes : List ℕ → Type 0
@@ -160,6 +160,27 @@ module _ (c : Connection) (m keys working report : List ℕ) (verdict : ℕ) whe
   LeavesAlone =
       (n : ℕ) → step c m keys working report verdict .answer ≡ Refused n
       → (step c m keys working report verdict .connection ≡ c) × (reportStepped c m keys working report verdict ≡ report)
+
+  -- The rows that leave the working buffer untouched: 25, 24, 1 to 13.
+  abbrev pub untouchedTable : List (ℕ × Bool)
+  untouchedTable =
+      (25, ltb 1 verdict)
+      ∷ (24, badSize (c .size))
+      ∷ (headerTable m keys
+      ++ ((10, sealed m keys && not (eqb (length keys) 64))
+      ∷ (11, sealed m keys && not (same (tagOf keys (bodyOf m)) (tagIn m)))
+      ∷ (12, sealed m keys && ltb (length working) (length (sealedPart m (start m keys))))
+      ∷ (13, sealed m keys && badPlain (opened m keys (start m keys)))
+      ∷ []))
+
+  -- "The working buffer is untouched by refusals 1 to 13, 24 and 25, and by plain messages. After a sealed message got past 13 its first bytes
+  -- hold the opened sealed part, the rest is unchanged."
+  pub record WorkingBuffer : Type 0 where
+    pub refused : (n : ℕ) → (n ≡ 0 → ⊥) → leads n untouchedTable → workingStepped c m keys working verdict ≡ working
+    pub plain : sealed m keys ≡ false → workingStepped c m keys working verdict ≡ working
+    pub past : quiet untouchedTable → sealed m keys ≡ true
+        → workingStepped c m keys working verdict
+        ≡ opened m keys (start m keys) ++ drop (length (opened m keys (start m keys))) working
 
 -- The cutter: "it refuses with 24, then with 7 if the report is longer than 64 × F or i is not under the count".
 abbrev pub cutTable : ℕ → ℕ → ℕ → List (ℕ × Bool)
