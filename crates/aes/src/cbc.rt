@@ -83,8 +83,8 @@ fn encrypt_buffer(
     }
 }
 
-// The blocks at two places, the second next to the first, after the cipher block v; the answer is the second as it was. Where both places
-// are one, what stands there in the end is that block, after v.
+// The blocks at two places, side by side, decrypted after the cipher block v; the answer is the second as it was. Where both places are one,
+// as they are for the last of an odd number, what stands there in the end is that block, after v.
 fn decrypt_two(
     keys: &[[u8; 16]; 11],
     inverse: &[[u8; 16]; 11],

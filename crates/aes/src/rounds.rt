@@ -1,7 +1,8 @@
-// The rounds of the cipher, by tables of words, and those of its inverse, two blocks at a time.
+// The rounds of the cipher, by a table of words, and those of its inverse, two blocks at a time.
 //
-// A round looks up four words for each column: SubBytes, ShiftRows and MixColumns in one. The last round has no MixColumns and takes bytes.
-// The way back is the same with the other tables, once InvMixColumns was applied to the round keys (FIPS 197, 5.3.5): it is linear.
+// A round looks up four words for each column: SubBytes, ShiftRows and MixColumns in one. The table holds each word twice over, so that a
+// lower row reads it turned, at the cost of no rotation. The last round has no MixColumns and takes bytes.
+// The way back is the same with the other table, once InvMixColumns was applied to the round keys (FIPS 197, 5.3.5): it is linear.
 use super::columns::State;
 use super::columns::add;
 use super::columns::bytes_of;
@@ -16,7 +17,7 @@ ghost use Rattle.aes.specs.State.{Block, subBytes, shiftRows, mixColumns
 ghost use Rattle.aes.specs.Words.{bytesOf, lookedUp, lookedUpBytes, InverseKeys};
 ghost use Rattle.aes.specs.Cipher.{cipher, invCipher};
 
-// A column by four tables.
+// A column by a table of doubled words: each division by a power of 256 reads the word turned.
 fn look(t: &[u64; 256], a: u32, b: u32, c: u32, d: u32) -> u32
     ensures { λ r. ⌜ (r ≡ lookedUp (now (t .entry)) a b c d) × (d < 4294967296) ⌝ }
 {
@@ -90,7 +91,7 @@ fn inv_last_round(t: &[u8; 256], s: State, k: State) -> State
     }
 }
 
-// InvMixColumns of one column: the tables undo the substitution before they mix.
+// InvMixColumns of one column: the table undoes the substitution before it mixes.
 fn unmix_word(sb: &[u8; 256], t: &[u64; 256], x: u32) -> u32
     requires { ⌜ (now sb ≡ table sbox) × Mixes invSbox 14 11 13 9 (now t) ⌝ }
     ensures { λ r. ⌜ (r ≡ column 14 11 13 9 (x % 256) (x / 256 % 256) (x / 65536 % 256) (x / 16777216)) × (x < 4294967296) ⌝ }
