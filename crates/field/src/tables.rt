@@ -57,7 +57,8 @@ pub fn inverse_substitution() -> [u8; 256]
     INV_SBOX
 }
 
-// What the substitute of each byte, standing in the first row, adds to its column in MixColumns.
+// What the substitute of each byte, standing in the first row, adds to its column in MixColumns: each word twice over, so that a word read
+// from one byte further up serves the row below.
 pub fn mixing() -> [u64; 256]
     ensures { λ r. ⌜ r ≡ table (λ x. twice (spread 0x02 0x03 0x01 0x01 (sbox x))) ⌝ }
 {
