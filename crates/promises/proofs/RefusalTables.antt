@@ -24,6 +24,7 @@ use Rattle.seal.specs.Keys.{tagOf}
 use Rattle.seal.specs.Padding.{badPlain}
 use Rattle.seal.specs.Opening.{bodyOf, tagIn, sealedPart, plainOf, noPart, partRefusal, openRefusal}
 use Rattle.message.specs.Reading.{opened, unless, plainRead, sealedRead, readMessage, workingAfter}
+use Rattle.message.specs.Writing.{writeRefusal}
 use Rattle.message.specs.Handed.{payload}
 use Rattle.message.specs.declared.reading.MessageRead.{MessageRead}
 use Rattle.message.specs.declared.reading.MessageRead.the-variants as read
@@ -43,7 +44,7 @@ use Rattle.hub.specs.Hear.{certificate, connect, pieceIn, joined, isForeign, jo
 use Rattle.hub.specs.Step.{afterRead, step, reportStepped}
 use Rattle.hub.proofs.Layer.{step-still}
 use Rattle.promises.specs.Examples.{numberOf}
-use Rattle.promises.specs.Refusals.{AreBytes, sealed, start, payloadIn, headerTable, openingTable, readerTable, _⇔_, ReaderExact, anyOf, enrols, hostTable, handed, stepTable, StepExact, LeavesAlone, cutTable, CutterExact}
+use Rattle.promises.specs.Refusals.{AreBytes, sealed, start, payloadIn, headerTable, openingTable, readerTable, _⇔_, ReaderExact, anyOf, enrols, hostTable, handed, stepTable, StepExact, LeavesAlone, cutTable, CutterExact, writerTable, WriterExact}
 
 -- A table's answer is n if and only if row n is the first that applies.
 exact : (rows : List (ℕ × Bool)) (n : ℕ) → (n ≡ 0 → ⊥) → (first rows ≡ n) ⇔ leads n rows
@@ -52,6 +53,10 @@ exact rows n z = (first-leads n z rows, leads-first n rows)
 pub cutter-exact : CutterExact
 unfolding cutRefusal
 cutter-exact F bytes i n z = exact (cutTable F bytes i) n z
+
+pub writer-exact : WriterExact
+unfolding writeRefusal
+writer-exact h chain payload keys room n z = exact (writerTable h chain payload keys room) n z
 
 -- Rows one behind the other, and tables in turn.
 in-turn : (a b c d : Bool) (x : ℕ)

@@ -10,7 +10,7 @@ use Rattle.laws.specs.Bytes.{be8, be16, be32}
 use Rattle.laws.specs.Rows.{first, leads, quiet}
 use Rattle.laws.specs.Same.{same}
 use Rattle.wire.specs.Fields.{badKind, badFlags, badPiece, isSealed, tagSize}
-use Rattle.wire.specs.Chain.{leaves, isBroken}
+use Rattle.wire.specs.Chain.{leaves, isBroken, badChain}
 use Rattle.wire.specs.Payload.{badPayload, connectType, readRequest}
 use Rattle.wire.specs.Reader.{headerOf, chainOf}
 use Rattle.wire.specs.declared.header.Header.{Header}
@@ -21,6 +21,7 @@ use Rattle.seal.specs.Opening.{bodyOf, tagIn, sealedPart}
 use Rattle.message.specs.Reading.{opened, readMessage, workingAfter}
 use Rattle.message.specs.Handed.{payload}
 use Rattle.message.specs.declared.reading.MessageRead.the-variants.{Refused as notRead}
+use Rattle.message.specs.Writing.{lengthOf, writeRefusal}
 use Rattle.joining.specs.Heard.{most}
 use Rattle.joining.specs.Cut.{badSize, pieceCount, cutRefusal}
 use Rattle.joining.specs.Join.{unlike, misfit, conflict}
@@ -188,3 +189,21 @@ cutTable F bytes i = (24, badSize F) ∷ (7, ltb (F * most) bytes || leb (pieceC
 
 abbrev pub CutterExact : Type 0
 CutterExact = (F bytes i n : ℕ) → (n ≡ 0 → ⊥) → (cutRefusal F bytes i ≡ n) ⇔ leads n (cutTable F bytes i)
+
+-- The writer: "5, 6, 7, 8 (a chain given with bytes after its end too), 10 if sealed, 14, 20 (Session payload over 16,384), 22, in that order".
+abbrev pub writerTable : Header → (chain payload : List ℕ) → (keys room : ℕ) → List (ℕ × Bool)
+writerTable h chain payload keys room =
+    (5, badKind (h .kind))
+    ∷ (6, badFlags (h .kind) (h .flags))
+    ∷ (7, badPiece (h .kind) (h .index) (h .count))
+    ∷ (8, badChain chain)
+    ∷ (10, isSealed (h .flags) && not (eqb keys 64))
+    ∷ (14, badPayload (h .kind) (isSealed (h .flags)) payload)
+    ∷ (20, eqb (h .kind) 4 && ltb 16384 (length payload))
+    ∷ (22, ltb room (lengthOf h chain payload))
+    ∷ []
+
+abbrev pub WriterExact : Type 0
+WriterExact =
+    (h : Header) (chain payload : List ℕ) (keys room n : ℕ) → (n ≡ 0 → ⊥)
+    → (writeRefusal h chain payload keys room ≡ n) ⇔ leads n (writerTable h chain payload keys room)
