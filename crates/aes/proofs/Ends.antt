@@ -1,7 +1,7 @@
 -- Each block of a decrypted message by itself, the first and the last above all; and that what comes out is bytes. Assumes nothing.
 use mathlib.Core.Path.{_≡_, refl, sym, ap, ap₂, _∙_, subst}
-use mathlib.Core.List.{List, [], _∷_, _++_}
-use Prim.Native.Nat.{ℕ, zero, suc, _+_, _-_, _*_, _/_, _%_, _≤_, _<_}
+use mathlib.Core.List.{List, _++_}
+use Prim.Native.Nat.{ℕ, zero, suc, _+_, _-_, _*_, _/_, _≤_, _<_}
 use native.Mathlib.Nat.{le-trans, le-suc}
 use native.Mathlib.Omega.{arith}
 use mathlib.Core.Bool.{Bool, true, false}
@@ -9,8 +9,8 @@ use lib.Dec.{lit<, ltb}
 use borrow.Author.Tests.{ltb-true, ltb-false}
 use lib.ListN.{getD, length, take, drop, length-append, length-drop, List·getD-append}
 use lib.Seq.{take-all, take-at, drop-drop, drop-append-add, getD-append-add}
-use Rattle.aes.specs.State.{Block, addRoundKey, invShiftRows, invSubBytes, invMixColumns}
-use Rattle.aes.specs.Cipher.{cipher, unrounds, invCipher}
+use Rattle.aes.specs.State.{Block, addRoundKey}
+use Rattle.aes.specs.Cipher.{unrounds, invCipher}
 use Rattle.aes.specs.Cbc.{encryptBlocks, cbcDecryptBlock, decryptBlocks, cbcEncrypt, cbcDecrypt, blockBefore}
 use Rattle.aes.proofs.Steps.{add-length, add-block, unsub-block, unshift-block, unmix-block}
 use Rattle.aes.proofs.Schedule.{Keys}

@@ -1,7 +1,12 @@
 pub mod Steps
 pub mod Words
+pub mod Lookups
 pub mod Undo
 pub mod Schedule
+pub mod ChainLoop
+pub mod ChainPair
+pub mod ChainRoom
+pub mod ChainBlock
 pub mod Chain
 pub mod Ends
 pub mod Examples

@@ -1,15 +1,14 @@
 -- The steps of a round: each takes a block to a block, and each is undone by its inverse. Assumes nothing.
-use mathlib.Core.Path.{_≡_, refl, sym, ap, ap₂, _∙_, subst}
+use mathlib.Core.Path.{_≡_, sym, ap, _∙_, subst}
 use mathlib.Core.Bool.{Bool}
-use mathlib.Core.List.{List, [], _∷_}
-use Prim.Native.Nat.{ℕ, zero, suc, _+_, _-_, _*_, _/_, _%_, _≤_, _<_}
+use mathlib.Core.List.{List}
+use Prim.Native.Nat.{ℕ, _+_, _%_, _≤_, _<_}
 use native.Mathlib.Omega.{arith}
-use lib.Dec.{T, eqb, eqb→eq, lit<}
+use lib.Dec.{eqb, eqb→eq, lit<}
 use lib.ListN.{getD, length, take, drop, length-drop}
 use lib.Seq.{length-take-le, getD-take, getD-drop}
-use Rattle.field.specs.Runs.{run}
 use Rattle.field.specs.Xor.{xor}
-use Rattle.field.specs.Sbox.{sbox, invSbox}
+use Rattle.field.specs.Sbox.{invSbox}
 use Rattle.field.specs.Mix.{row, mixed, unmixed}
 use Rattle.field.proofs.Below.{every, below, agree, bounded}
 use Rattle.field.proofs.Runs.{run-length, run-from-zero, run-is}

@@ -2,8 +2,7 @@
 use super::cbc::cbc_decrypt_block;
 use super::cbc::cbc_encrypt_in_place;
 ghost use mathlib.Core.Path.{_≡_};
-ghost use Prim.Native.Nat.{_≤_};
-ghost use lib.ListN.{getD, length};
+ghost use lib.ListN.{getD};
 ghost use Rattle.aes.specs.State.{block, loadBlock};
 ghost use Rattle.aes.specs.Cipher.{cipher, invCipher};
 

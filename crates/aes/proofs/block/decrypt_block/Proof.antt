@@ -1,13 +1,10 @@
 -- `block::decrypt_block` meets its contract: a block decrypted after zeros is the inverse cipher of it.
 -- Assumes nothing.
 use mathlib.Core.Path.{_∙_}
-use Rattle.aes.proofs.Chain.{after-zeros}
+use Rattle.aes.proofs.ChainBlock.{after-zeros}
 use borrow.Author.Needs.{needs}
 use Rattle.aes.proofs.block.decrypt_block.Statement.{statement}
 use Rattle.aes.proofs.block.decrypt_block.Tie as tie
-
-cbc-decrypt-block-requires : tie.Need-cbc-decrypt-block-requires
-cbc-decrypt-block-requires c κs = search needs
 
 returns : tie.Need-returns
 returns c =
@@ -15,4 +12,4 @@ returns c =
     c .cbc-decrypt-block .ensures ∙ after-zeros (a .keys .now) (a .block) (search needs)
 
 pub decrypt-block-spec : {M : Type 1} → statement M
-decrypt-block-spec = tie.close (tie.spec cbc-decrypt-block-requires returns)
+decrypt-block-spec = tie.close (tie.spec (λ c κs. search needs) returns)

@@ -5,7 +5,7 @@ use mathlib.Core.List.{List, _++_}
 use Prim.Native.Nat.{ℕ}
 use lib.ListN.{length, drop}
 use Rattle.aes.specs.Cbc.{cbcDecrypt}
-use Rattle.aes.proofs.Chain.{not-whole, no-room, all-fits}
+use Rattle.aes.proofs.ChainRoom.{not-whole, no-room, all-fits}
 use borrow.Author.Needs.{needs}
 use Rattle.aes.proofs.cbc.cbc_decrypt.Statement.{statement}
 use Rattle.aes.proofs.cbc.cbc_decrypt.Tie as tie
@@ -20,20 +20,8 @@ returns-2 c =
     let a = c .before .before .before .before .args in
     no-room (a .source .now) (a .target .now) (cbcDecrypt (a .keys .now) (a .vector) (a .source .now)) (c .before .if1 .left) (c .if2 .taken)
 
-substitution-requires : tie.Need-substitution-requires
-substitution-requires c κs = search needs
-
-inverse-substitution-requires : tie.Need-inverse-substitution-requires
-inverse-substitution-requires c κs = search needs
-
-unmixing-requires : tie.Need-unmixing-requires
-unmixing-requires c κs = search needs
-
 inverse-keys-requires : tie.Need-inverse-keys-requires
 inverse-keys-requires c κs = (c .before .before .before .before .substitution .ensures, c .before .before .unmixing .ensures)
-
-words-requires : tie.Need-words-requires
-words-requires c κs = search needs
 
 decrypt-blocks-requires : tie.Need-decrypt-blocks-requires
 decrypt-blocks-requires c κs = (
@@ -43,9 +31,6 @@ decrypt-blocks-requires c κs = (
   c .before .before .before .before .before .before .before .before .before .before .before .before .if1 .left,
   c .before .before .before .before .before .before .before .before .before .before .before .if2 .left,
 )
-
-same-length : tie.Need-same-length
-same-length c = search needs
 
 returns-3 : tie.Need-returns-3
 returns-3 c =
@@ -60,11 +45,11 @@ cbc-decrypt-spec =
     (tie.spec
     returns
     returns-2
-    substitution-requires
-    inverse-substitution-requires
-    unmixing-requires
+    (λ c κs. search needs)
+    (λ c κs. search needs)
+    (λ c κs. search needs)
     inverse-keys-requires
-    words-requires
+    (λ c κs. search needs)
     decrypt-blocks-requires
-    same-length
+    (λ c. search needs)
     returns-3)

@@ -1,19 +1,10 @@
 -- `cbc::cbc_decrypt_block` meets its contract: it is a chain of one block.
 -- Assumes nothing.
 use mathlib.Core.Path.{refl, _∙_}
-use Rattle.aes.proofs.Chain.{zeros, one-decrypted, block-written}
+use Rattle.aes.proofs.ChainBlock.{zeros, one-decrypted, block-written}
 use borrow.Author.Needs.{needs}
 use Rattle.aes.proofs.cbc.cbc_decrypt_block.Statement.{statement}
 use Rattle.aes.proofs.cbc.cbc_decrypt_block.Tie as tie
-
-slice-aggregate-cbc-decrypt : tie.Need-slice-aggregate-cbc-decrypt
-slice-aggregate-cbc-decrypt c = search needs
-
-slice-aggregate-cbc-decrypt-2 : tie.Need-slice-aggregate-cbc-decrypt-2
-slice-aggregate-cbc-decrypt-2 c = search needs
-
-cbc-decrypt-requires : tie.Need-cbc-decrypt-requires
-cbc-decrypt-requires c κs = search needs
 
 returns : tie.Need-returns
 returns c =
@@ -25,7 +16,7 @@ pub cbc-decrypt-block-spec : {M : Type 1} → statement M
 cbc-decrypt-block-spec =
     tie.close
     (tie.spec
-    slice-aggregate-cbc-decrypt
-    slice-aggregate-cbc-decrypt-2
-    cbc-decrypt-requires
+    (λ c. search needs)
+    (λ c. search needs)
+    (λ c κs. search needs)
     returns)

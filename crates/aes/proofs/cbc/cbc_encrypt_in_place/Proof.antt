@@ -1,11 +1,10 @@
 -- `cbc::cbc_encrypt_in_place` meets its contract, by those of what it calls.
 -- Assumes nothing.
 use mathlib.Core.Path.{_∙_, ap}
-use mathlib.Core.List.{List, _++_}
+use mathlib.Core.List.{List}
 use Prim.Native.Nat.{ℕ}
-use lib.ListN.{length, drop}
 use Rattle.aes.specs.Cbc.{cbcEncrypt}
-use Rattle.aes.proofs.Chain.{odd-buffer, whole-buffer}
+use Rattle.aes.proofs.ChainRoom.{odd-buffer, whole-buffer}
 use borrow.Author.Needs.{needs}
 use Rattle.aes.proofs.cbc.cbc_encrypt_in_place.Statement.{statement}
 use Rattle.aes.proofs.cbc.cbc_encrypt_in_place.Tie as tie
@@ -13,20 +12,8 @@ use Rattle.aes.proofs.cbc.cbc_encrypt_in_place.Tie as tie
 returns : tie.Need-returns
 returns c = odd-buffer _ _ (c .if1 .taken)
 
-substitution-requires : tie.Need-substitution-requires
-substitution-requires c κs = search needs
-
-mixing-requires : tie.Need-mixing-requires
-mixing-requires c κs = search needs
-
-words-requires : tie.Need-words-requires
-words-requires c κs = search needs
-
 encrypt-buffer-requires : tie.Need-encrypt-buffer-requires
 encrypt-buffer-requires c κs = (c .before .before .before .before .before .substitution .ensures, c .before .before .before .before .mixing .ensures, c .before .before .before .before .before .before .if1 .left)
-
-same-length : tie.Need-same-length
-same-length c = search needs
 
 returns-2 : tie.Need-returns-2
 returns-2 c =
@@ -39,9 +26,9 @@ cbc-encrypt-in-place-spec =
     tie.close
     (tie.spec
     returns
-    substitution-requires
-    mixing-requires
-    words-requires
+    (λ c κs. search needs)
+    (λ c κs. search needs)
+    (λ c κs. search needs)
     encrypt-buffer-requires
-    same-length
+    (λ c. search needs)
     returns-2)

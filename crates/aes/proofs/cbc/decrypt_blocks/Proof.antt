@@ -6,8 +6,8 @@ use Prim.Native.Nat.{_-_}
 use lib.ListN.{length}
 use Rattle.aes.specs.Words.{bytesOf}
 use Rattle.aes.specs.Cbc.{decryptBlocks, cbcDecrypt}
-use Rattle.aes.proofs.Chain.{Chained, begin, in-source, done, decrypt-none, decrypt-two-more}
-use borrow.Author.Needs.{needs}
+use Rattle.aes.proofs.ChainLoop.{Chained, begin, in-source, done, decrypt-none}
+use Rattle.aes.proofs.ChainPair.{decrypt-two-more}
 use Rattle.aes.proofs.cbc.decrypt_blocks.Statement.{statement}
 use Rattle.aes.proofs.cbc.decrypt_blocks.Tie as tie
 

@@ -1,65 +1,21 @@
 -- `cbc::decrypt_two` meets its contract, by those of what it calls.
 -- Assumes nothing.
 use native.Mathlib.Omega.{arith}
-use mathlib.Core.Path.{_≡_, _∙_, ap}
+use mathlib.Core.Path.{_∙_, ap}
 use mathlib.Core.List.{List}
 use Prim.Native.Nat.{ℕ, _+_, _≤_}
 use lib.ListN.{length, take, drop}
 use lib.Seq.{paste}
 use Rattle.aes.specs.Words.{bytesOf}
 use Rattle.aes.specs.Cbc.{cbcDecryptBlock}
-use Rattle.aes.proofs.Chain.{loaded, decrypted, room-after}
+use Rattle.aes.proofs.ChainLoop.{loaded, decrypted}
+use Rattle.aes.proofs.ChainRoom.{room-after}
 use borrow.Author.Needs.{needs}
 use Rattle.aes.proofs.cbc.decrypt_two.Statement.{statement}
 use Rattle.aes.proofs.cbc.decrypt_two.Tie as tie
 
-sub-words-from : tie.Need-sub-words-from
-sub-words-from c = search needs
-
-part-words-from-start : tie.Need-part-words-from-start
-part-words-from-start c = search needs
-
-part-words-from-end : tie.Need-part-words-from-end
-part-words-from-end c = search needs
-
-words-from-requires : tie.Need-words-from-requires
-words-from-requires c κs = search needs
-
-sub-words-from-2 : tie.Need-sub-words-from-2
-sub-words-from-2 c = search needs
-
-part-words-from-start-2 : tie.Need-part-words-from-start-2
-part-words-from-start-2 c = search needs
-
-part-words-from-end-2 : tie.Need-part-words-from-end-2
-part-words-from-end-2 c = search needs
-
-words-from-requires-2 : tie.Need-words-from-requires-2
-words-from-requires-2 c κs = search needs
-
-decrypt-pair-requires : tie.Need-decrypt-pair-requires
-decrypt-pair-requires c κs = search needs
-
-add-requires : tie.Need-add-requires
-add-requires c κs = search needs
-
-bytes-of-requires : tie.Need-bytes-of-requires
-bytes-of-requires c κs = search needs
-
-put-requires : tie.Need-put-requires
-put-requires c κs = search needs
-
-add-requires-2 : tie.Need-add-requires-2
-add-requires-2 c κs = search needs
-
-bytes-of-requires-2 : tie.Need-bytes-of-requires-2
-bytes-of-requires-2 c κs = search needs
-
 put-requires-2 : tie.Need-put-requires-2
 put-requires-2 c κs = room-after _ _ _ _ _ _ (c .before .before .before .before .before .before .before .before .before .before .before .before .before .before .before .before .pre .3) (c .before .before .before .before .before .before .before .before .before .before .before .before .before .before .before .before .pre .5) (c .before .before .before .before .before .before .bytes-of .ensures) (c .before .before .before .before .before .put .ensures)
-
-same-length : tie.Need-same-length
-same-length c = search needs
 
 returns : tie.Need-returns
 returns c =
@@ -87,20 +43,20 @@ pub decrypt-two-spec : {M : Type 1} → statement M
 decrypt-two-spec =
     tie.close
     (tie.spec
-    sub-words-from
-    part-words-from-start
-    part-words-from-end
-    words-from-requires
-    sub-words-from-2
-    part-words-from-start-2
-    part-words-from-end-2
-    words-from-requires-2
-    decrypt-pair-requires
-    add-requires
-    bytes-of-requires
-    put-requires
-    add-requires-2
-    bytes-of-requires-2
+    (λ c. search needs)
+    (λ c. search needs)
+    (λ c. search needs)
+    (λ c κs. search needs)
+    (λ c. search needs)
+    (λ c. search needs)
+    (λ c. search needs)
+    (λ c κs. search needs)
+    (λ c κs. search needs)
+    (λ c κs. search needs)
+    (λ c κs. search needs)
+    (λ c κs. search needs)
+    (λ c κs. search needs)
+    (λ c κs. search needs)
     put-requires-2
-    same-length
+    (λ c. search needs)
     returns)

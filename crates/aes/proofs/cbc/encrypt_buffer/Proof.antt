@@ -7,7 +7,9 @@ use Prim.Native.Nat.{_-_, _<_}
 use lib.ListN.{length, take}
 use Rattle.aes.specs.Words.{bytesOf}
 use Rattle.aes.specs.Cbc.{encryptBlocks, cbcEncrypt}
-use Rattle.aes.proofs.Chain.{loaded, enough, Chained, begin, in-source, in-target, done, encrypt-none, encrypt-more, all-written}
+use Rattle.aes.proofs.ChainLoop.{loaded, Chained, begin, in-source, in-target, done, encrypt-none, encrypt-more}
+use Rattle.aes.proofs.ChainBlock.{enough}
+use Rattle.aes.proofs.ChainRoom.{all-written}
 use borrow.Author.Needs.{needs}
 use Rattle.aes.proofs.cbc.encrypt_buffer.Statement.{statement}
 use Rattle.aes.proofs.cbc.encrypt_buffer.Tie as tie
@@ -24,23 +26,8 @@ loop-holds c = (begin _ _ _ _ (c .before .pre .2) (le-refl _), omega arith)
 sub-words-from : tie.Need-sub-words-from Inv-loop μ-loop
 sub-words-from c = omega (arith, c .before .loop .inv .0 .len)
 
-part-words-from-start : tie.Need-part-words-from-start Inv-loop μ-loop
-part-words-from-start c = search needs
-
-part-words-from-end : tie.Need-part-words-from-end Inv-loop μ-loop
-part-words-from-end c = search needs
-
 words-from-requires : tie.Need-words-from-requires Inv-loop μ-loop
 words-from-requires c κs = enough (c .before .before .before .loop .buffer) (c .before .before .before .loop .at) (in-target _ _ _ _ _ _ _ (c .before .before .before .loop .inv .0) (omega (arith, c .before .before .before .loop .inv .0 .len)))
-
-add-requires : tie.Need-add-requires Inv-loop μ-loop
-add-requires c κs = search needs
-
-encrypt-requires : tie.Need-encrypt-requires Inv-loop μ-loop
-encrypt-requires c κs = search needs
-
-bytes-of-requires : tie.Need-bytes-of-requires Inv-loop μ-loop
-bytes-of-requires c κs = search needs
 
 put-requires : tie.Need-put-requires Inv-loop μ-loop
 put-requires c κs = in-target _ _ _ _ _ _ _ (c .before .before .before .before .before .before .before .before .loop .inv .0) (omega (arith, c .before .before .before .before .before .before .before .before .loop .inv .0 .len))
@@ -78,12 +65,12 @@ encrypt-buffer-spec =
     μ-loop
     loop-holds
     sub-words-from
-    part-words-from-start
-    part-words-from-end
+    (λ c. search needs)
+    (λ c. search needs)
     words-from-requires
-    add-requires
-    encrypt-requires
-    bytes-of-requires
+    (λ c κs. search needs)
+    (λ c κs. search needs)
+    (λ c κs. search needs)
     put-requires
     add-at
     loop-less

@@ -8,12 +8,6 @@ use borrow.Author.Needs.{needs}
 use Rattle.aes.proofs.key.double.Statement.{statement}
 use Rattle.aes.proofs.key.double.Tie as tie
 
-mul-result : tie.Need-mul-result
-mul-result c = search needs
-
-mul-result-2 : tie.Need-mul-result-2
-mul-result-2 c = search needs
-
 cast-result : tie.Need-cast-result
 unfolding xtime xor
 cast-result c = record { fits = xtime-byte (c .args .b) (c .fits .b .fits) }
@@ -23,4 +17,4 @@ unfolding xtime xor
 returns c = refl
 
 pub double-spec : {M : Type 1} → statement M
-double-spec = tie.close (tie.spec mul-result mul-result-2 cast-result returns)
+double-spec = tie.close (tie.spec (λ c. search needs) (λ c. search needs) cast-result returns)

@@ -17,33 +17,9 @@ Inv-loop sb keys₀ k₀ c₀ n₀ keys k c n = (n ≤ 10) × Filled 11 [] (roun
 abbrev μ-loop : tie.MeasureT-loop
 μ-loop sb keys₀ k₀ c₀ n₀ keys k c n = 10 - n
 
-substitution-requires : tie.Need-substitution-requires Inv-loop μ-loop
-substitution-requires c κs = search needs
-
 loop-holds : tie.Need-loop-holds Inv-loop μ-loop
 unfolding roundKey rcon
 loop-holds c = (search needs, first-key _ _ _ refl refl, refl, refl)
-
-next-key-requires : tie.Need-next-key-requires Inv-loop μ-loop
-next-key-requires c κs = search needs
-
-add-keys : tie.Need-add-keys Inv-loop μ-loop
-add-keys c = search needs
-
-mul-keys : tie.Need-mul-keys Inv-loop μ-loop
-mul-keys c = search needs
-
-array-set-from-keys : tie.Need-array-set-from-keys Inv-loop μ-loop
-array-set-from-keys c = search needs
-
-double-requires : tie.Need-double-requires Inv-loop μ-loop
-double-requires c κs = search needs
-
-add-n : tie.Need-add-n Inv-loop μ-loop
-add-n c = search needs
-
-loop-less : tie.Need-loop-less Inv-loop μ-loop
-loop-less c = search needs
 
 loop-again : tie.Need-loop-again Inv-loop μ-loop
 loop-again c =
@@ -61,14 +37,14 @@ expand-key-spec =
     (tie.spec
     Inv-loop
     μ-loop
-    substitution-requires
+    (λ c κs. search needs)
     loop-holds
-    next-key-requires
-    add-keys
-    mul-keys
-    array-set-from-keys
-    double-requires
-    add-n
-    loop-less
+    (λ c κs. search needs)
+    (λ c. search needs)
+    (λ c. search needs)
+    (λ c. search needs)
+    (λ c κs. search needs)
+    (λ c. search needs)
+    (λ c. search needs)
     loop-again
     returns)

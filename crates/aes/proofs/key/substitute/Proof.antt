@@ -10,11 +10,8 @@ use borrow.Author.Needs.{needs}
 use Rattle.aes.proofs.key.substitute.Statement.{statement}
 use Rattle.aes.proofs.key.substitute.Tie as tie
 
-element-copy-out-result : tie.Need-element-copy-out-result
-element-copy-out-result c = search needs
-
 returns : tie.Need-returns
 returns c = ap (λ (l : List ℕ). getD l (c .before .args .b) 0) (c .before .pre) ∙ table-at sbox (c .before .args .b) (c .before .fits .b .fits)
 
 pub substitute-spec : {M : Type 1} → statement M
-substitute-spec = tie.close (tie.spec element-copy-out-result returns)
+substitute-spec = tie.close (tie.spec (λ c. search needs) returns)

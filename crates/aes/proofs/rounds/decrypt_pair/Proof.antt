@@ -1,6 +1,5 @@
 -- `rounds::decrypt_pair` meets its contract: round by round, the same for both blocks.
 -- Assumes nothing.
-use native.Mathlib.Omega.{arith}
 use mathlib.Core.Path.{_≡_, _∙_, refl}
 use Prim.Native.Nat.{_≤_}
 use Rattle.aes.specs.Words.{bytesOf}
@@ -16,41 +15,8 @@ Inv-loop keys inverse sb t x₀ y₀ n₀ x y n = (n ≤ 9) × (unrounds keys n 
 abbrev μ-loop : tie.MeasureT-loop
 μ-loop keys inverse sb t x₀ y₀ n₀ x y n = n
 
-element-copy-out-first : tie.Need-element-copy-out-first Inv-loop μ-loop
-element-copy-out-first c = search needs
-
-words-requires : tie.Need-words-requires Inv-loop μ-loop
-words-requires c κs = search needs
-
-add-requires : tie.Need-add-requires Inv-loop μ-loop
-add-requires c κs = search needs
-
-add-requires-2 : tie.Need-add-requires-2 Inv-loop μ-loop
-add-requires-2 c κs = search needs
-
 loop-holds : tie.Need-loop-holds Inv-loop μ-loop
 loop-holds c = (search needs, refl, refl)
-
-mul-kn : tie.Need-mul-kn Inv-loop μ-loop
-mul-kn c = search needs
-
-element-copy-out-kn : tie.Need-element-copy-out-kn Inv-loop μ-loop
-element-copy-out-kn c = search needs
-
-words-requires-2 : tie.Need-words-requires-2 Inv-loop μ-loop
-words-requires-2 c κs = search needs
-
-inv-round-requires : tie.Need-inv-round-requires Inv-loop μ-loop
-inv-round-requires c κs = search needs
-
-inv-round-requires-2 : tie.Need-inv-round-requires-2 Inv-loop μ-loop
-inv-round-requires-2 c κs = search needs
-
-sub-n : tie.Need-sub-n Inv-loop μ-loop
-sub-n c = search needs
-
-loop-less : tie.Need-loop-less Inv-loop μ-loop
-loop-less c = search needs
 
 loop-again : tie.Need-loop-again Inv-loop μ-loop
 loop-again c =
@@ -63,18 +29,6 @@ loop-again c =
       unrounds-less (a .keys .now) (a .inverse .now) keys _ _ _ (l .n) h (l .inv .0) (c .before .inv-round .ensures .1) k (c .before .inv-round .ensures .0) ∙ l .inv .1,
       unrounds-less (a .keys .now) (a .inverse .now) keys _ _ _ (l .n) h (l .inv .0) (c .inv-round2 .ensures .1) k (c .inv-round2 .ensures .0) ∙ l .inv .2,
     )
-
-element-copy-out-last : tie.Need-element-copy-out-last Inv-loop μ-loop
-element-copy-out-last c = search needs
-
-words-requires-3 : tie.Need-words-requires-3 Inv-loop μ-loop
-words-requires-3 c κs = search needs
-
-inv-last-round-requires : tie.Need-inv-last-round-requires Inv-loop μ-loop
-inv-last-round-requires c κs = search needs
-
-inv-last-round-requires-2 : tie.Need-inv-last-round-requires-2 Inv-loop μ-loop
-inv-last-round-requires-2 c κs = search needs
 
 returns : tie.Need-returns Inv-loop μ-loop
 returns c =
@@ -91,21 +45,21 @@ decrypt-pair-spec =
     (tie.spec
     Inv-loop
     μ-loop
-    element-copy-out-first
-    words-requires
-    add-requires
-    add-requires-2
+    (λ c. search needs)
+    (λ c κs. search needs)
+    (λ c κs. search needs)
+    (λ c κs. search needs)
     loop-holds
-    mul-kn
-    element-copy-out-kn
-    words-requires-2
-    inv-round-requires
-    inv-round-requires-2
-    sub-n
-    loop-less
+    (λ c. search needs)
+    (λ c. search needs)
+    (λ c κs. search needs)
+    (λ c κs. search needs)
+    (λ c κs. search needs)
+    (λ c. search needs)
+    (λ c. search needs)
     loop-again
-    element-copy-out-last
-    words-requires-3
-    inv-last-round-requires
-    inv-last-round-requires-2
+    (λ c. search needs)
+    (λ c κs. search needs)
+    (λ c κs. search needs)
+    (λ c κs. search needs)
     returns)

@@ -2,22 +2,11 @@
 -- Assumes nothing.
 use Rattle.field.specs.Xor.{xor}
 use Rattle.aes.proofs.Steps.{unsub-block, unshift-block}
-use Rattle.aes.proofs.Words.{Words, bytesOf-block, columns-added, unshifted-columns}
+use Rattle.aes.proofs.Words.{Words, bytesOf-block, columns-added}
+use Rattle.aes.proofs.Lookups.{unshifted-columns}
 use borrow.Author.Needs.{needs}
 use Rattle.aes.proofs.rounds.inv_last_round.Statement.{statement}
 use Rattle.aes.proofs.rounds.inv_last_round.Tie as tie
-
-look-bytes-requires : tie.Need-look-bytes-requires
-look-bytes-requires c κs = search needs
-
-look-bytes-requires-2 : tie.Need-look-bytes-requires-2
-look-bytes-requires-2 c κs = search needs
-
-look-bytes-requires-3 : tie.Need-look-bytes-requires-3
-look-bytes-requires-3 c κs = search needs
-
-look-bytes-requires-4 : tie.Need-look-bytes-requires-4
-look-bytes-requires-4 c κs = search needs
 
 returns : tie.Need-returns
 unfolding xor
@@ -42,8 +31,8 @@ pub inv-last-round-spec : {M : Type 1} → statement M
 inv-last-round-spec =
     tie.close
     (tie.spec
-    look-bytes-requires
-    look-bytes-requires-2
-    look-bytes-requires-3
-    look-bytes-requires-4
+    (λ c κs. search needs)
+    (λ c κs. search needs)
+    (λ c κs. search needs)
+    (λ c κs. search needs)
     returns)

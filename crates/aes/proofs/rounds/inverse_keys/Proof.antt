@@ -2,7 +2,7 @@
 -- Assumes nothing.
 use native.Mathlib.Omega.{arith}
 use native.Mathlib.Nat.{not-suc-le-zero}
-use mathlib.Core.Path.{_≡_, refl, _∙_}
+use mathlib.Core.Path.{_≡_, refl}
 use Prim.Native.Nat.{_≤_, _<_, _-_}
 use lib.ListN.{length, length-set}
 use Rattle.aes.specs.Words.{InverseKeys}
@@ -19,27 +19,6 @@ abbrev μ-loop : tie.MeasureT-loop
 
 loop-holds : tie.Need-loop-holds Inv-loop μ-loop
 loop-holds c = (search needs, refl, λ i h. absurd (not-suc-le-zero h))
-
-mul-k : tie.Need-mul-k Inv-loop μ-loop
-mul-k c = search needs
-
-element-copy-out-k : tie.Need-element-copy-out-k Inv-loop μ-loop
-element-copy-out-k c = search needs
-
-unmix-key-requires : tie.Need-unmix-key-requires Inv-loop μ-loop
-unmix-key-requires c κs = search needs
-
-mul-inverse : tie.Need-mul-inverse Inv-loop μ-loop
-mul-inverse c = search needs
-
-array-set-from-inverse : tie.Need-array-set-from-inverse Inv-loop μ-loop
-array-set-from-inverse c = search needs
-
-add-n : tie.Need-add-n Inv-loop μ-loop
-add-n c = search needs
-
-loop-less : tie.Need-loop-less Inv-loop μ-loop
-loop-less c = search needs
 
 loop-again : tie.Need-loop-again Inv-loop μ-loop
 loop-again c =
@@ -59,12 +38,12 @@ inverse-keys-spec =
     Inv-loop
     μ-loop
     loop-holds
-    mul-k
-    element-copy-out-k
-    unmix-key-requires
-    mul-inverse
-    array-set-from-inverse
-    add-n
-    loop-less
+    (λ c. search needs)
+    (λ c. search needs)
+    (λ c κs. search needs)
+    (λ c. search needs)
+    (λ c. search needs)
+    (λ c. search needs)
+    (λ c. search needs)
     loop-again
     returns)

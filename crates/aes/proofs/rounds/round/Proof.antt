@@ -2,22 +2,11 @@
 -- Assumes nothing.
 use Rattle.field.specs.Xor.{xor}
 use Rattle.aes.proofs.Steps.{mix-block, shift-block, sub-block}
-use Rattle.aes.proofs.Words.{Words, bytesOf-block, columns-added, mixed-columns}
+use Rattle.aes.proofs.Words.{Words, bytesOf-block, columns-added}
+use Rattle.aes.proofs.Lookups.{mixed-columns}
 use borrow.Author.Needs.{needs}
 use Rattle.aes.proofs.rounds.round.Statement.{statement}
 use Rattle.aes.proofs.rounds.round.Tie as tie
-
-look-requires : tie.Need-look-requires
-look-requires c κs = search needs
-
-look-requires-2 : tie.Need-look-requires-2
-look-requires-2 c κs = search needs
-
-look-requires-3 : tie.Need-look-requires-3
-look-requires-3 c κs = search needs
-
-look-requires-4 : tie.Need-look-requires-4
-look-requires-4 c κs = search needs
 
 returns : tie.Need-returns
 unfolding xor
@@ -40,4 +29,4 @@ returns c =
 
 pub round-spec : {M : Type 1} → statement M
 round-spec =
-    tie.close (tie.spec look-requires look-requires-2 look-requires-3 look-requires-4 returns)
+    tie.close (tie.spec (λ c κs. search needs) (λ c κs. search needs) (λ c κs. search needs) (λ c κs. search needs) returns)

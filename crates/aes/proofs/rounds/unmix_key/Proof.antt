@@ -4,28 +4,11 @@ use mathlib.Core.Path.{_∙_, ap, subst}
 use Rattle.aes.specs.State.{Block, invMixColumns}
 use Rattle.aes.specs.Words.{bytesOf}
 use Rattle.aes.proofs.Steps.{unmix-block}
-use Rattle.aes.proofs.Words.{bytesOf-block, columns-bytes, key-columns}
+use Rattle.aes.proofs.Words.{bytesOf-block, columns-bytes}
+use Rattle.aes.proofs.Lookups.{key-columns}
 use borrow.Author.Needs.{needs}
 use Rattle.aes.proofs.rounds.unmix_key.Statement.{statement}
 use Rattle.aes.proofs.rounds.unmix_key.Tie as tie
-
-words-requires : tie.Need-words-requires
-words-requires c κs = search needs
-
-unmix-word-requires : tie.Need-unmix-word-requires
-unmix-word-requires c κs = search needs
-
-unmix-word-requires-2 : tie.Need-unmix-word-requires-2
-unmix-word-requires-2 c κs = search needs
-
-unmix-word-requires-3 : tie.Need-unmix-word-requires-3
-unmix-word-requires-3 c κs = search needs
-
-unmix-word-requires-4 : tie.Need-unmix-word-requires-4
-unmix-word-requires-4 c κs = search needs
-
-bytes-of-requires : tie.Need-bytes-of-requires
-bytes-of-requires c κs = search needs
 
 returns : tie.Need-returns
 returns c =
@@ -46,10 +29,10 @@ pub unmix-key-spec : {M : Type 1} → statement M
 unmix-key-spec =
     tie.close
     (tie.spec
-    words-requires
-    unmix-word-requires
-    unmix-word-requires-2
-    unmix-word-requires-3
-    unmix-word-requires-4
-    bytes-of-requires
+    (λ c κs. search needs)
+    (λ c κs. search needs)
+    (λ c κs. search needs)
+    (λ c κs. search needs)
+    (λ c κs. search needs)
+    (λ c κs. search needs)
     returns)
