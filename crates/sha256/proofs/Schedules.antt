@@ -13,7 +13,7 @@ use lib.Seq.{take-suc-set, take-set-le, getD-take, take-take}
 use Rattle.laws.specs.Bytes.{be32}
 use Rattle.sha256.specs.declared.rounds.Vars.{Vars}
 use Rattle.laws.proofs.Order.{lt-or-ge}
-use Rattle.sha256.specs.Compression.{words, mixed, nextWord, schedule, putWord, putFour, roundAt, fourRounds, rounds, added, compress}
+use Rattle.sha256.specs.Compression.{words, mixed, nextWord, longer, schedule, putWord, putFour, roundAt, fourRounds, rounds, added, compress}
 
 -- one word more of the block
 pub words-more : (m w : List ℕ) (at n r : ℕ) → n < length w → take n w ≡ words m at n → r ≡ be32 m (at + 4 * n)
@@ -34,7 +34,7 @@ next-word-take w n =
 
 -- one word more of the schedule
 put-more : (m w : List ℕ) (n : ℕ) → 16 + n < length w → take (16 + n) w ≡ schedule m n → take (16 + (n + 1)) (putWord w n) ≡ schedule m (n + 1)
-unfolding schedule putWord
+unfolding schedule longer putWord
 put-more m w n h p =
     let at : 16 + (n + 1) ≡ suc (16 + n) = omega arith in
     rw (at, add-one) (take-suc-set w (16 + n) (nextWord w n) h ∙ cc (next-word-take w n))

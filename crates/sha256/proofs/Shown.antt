@@ -1,19 +1,21 @@
 -- The worked examples, by computing. Assumes nothing.
 use mathlib.Core.Path.{refl}
-use Rattle.sha256.specs.Digests.{padding}
-use Rattle.sha256.specs.Constants.{K256}
-use Rattle.sha256.specs.Examples.{Examples}
+use Rattle.sha256.specs.Words.{plus, complement, SHR, ROTR, Ch, Maj, Σ0, Σ1, σ0, σ1}
+use Rattle.sha256.specs.Constants.{K256, H0}
+use Rattle.sha256.specs.Compression.{words, mixed, nextWord, longer, schedule, T1, T2, turned, roundAt, rounds, added, compress, blocks, hashed}
+use Rattle.sha256.specs.Digests.{padding, bytesOf, digest}
+use Rattle.sha256.specs.Macs.{filled, keyBlock, masked, hmac}
+use Rattle.sha256.specs.Examples.{Examples, abc, twoBlocks, jefe, nothing}
 
 pub examples : Examples
-unfolding padding K256
+unfolding plus complement SHR ROTR Ch Maj Σ0 Σ1 σ0 σ1 K256 H0 words mixed nextWord longer schedule T1 T2 turned roundAt rounds added compress blocks hashed padding bytesOf digest filled keyBlock masked hmac abc twoBlocks jefe nothing
 examples =
     record {
-      abc = refl;
-      abc-block = refl;
-      empty-block = refl;
+      abc-padding = refl;
       last-of-one = refl;
       first-of-two = refl;
-      two-blocks = refl;
       million = refl;
-      constants = refl;
+      abc-digest = refl;
+      two-blocks-digest = refl;
+      jefe-hmac = refl;
     }

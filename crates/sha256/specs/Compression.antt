@@ -21,10 +21,14 @@ mixed w2 w7 w15 w16 = plus (plus (plus (σ1 w2) w7) (σ0 w15)) w16
 unfoldable pub nextWord : List ℕ → ℕ → ℕ
 nextWord w n = mixed (getD w (14 + n) 0) (getD w (9 + n) 0) (getD w (1 + n) 0) (getD w n 0)
 
+-- W_(16+n) behind the words before it.
+unfoldable pub longer : List ℕ → ℕ → List ℕ
+longer w n = w ++ (nextWord w n ∷ [])
+
 -- W: the words of the block, and n more.
 unfoldable pub schedule : List ℕ → ℕ → List ℕ
 schedule m zero = m
-schedule m (suc n) = schedule m n ++ (nextWord (schedule m n) n ∷ [])
+schedule m (suc n) = longer (schedule m n) n
 
 -- A schedule that has room, with W_(16+n) put in its place.
 unfoldable pub putWord : List ℕ → ℕ → List ℕ

@@ -1,20 +1,49 @@
--- Worked examples of the definitions, under one claim. The padding and the key block compute; words under bit operations do not, so the
--- digests themselves are shown by the program `sha256_vectors`, whose library is proved to give what the definitions say.
-use Prim.Native.Nat.{_+_, _*_}
+-- Worked examples of the definitions, by computing: the messages FIPS 180-4's authors work out, the second case of RFC 4231, and where the
+-- padding needs a block more.
+use Prim.Native.Nat.{ℕ, _+_, _*_}
 use mathlib.Core.Path.{_≡_}
-use mathlib.Core.List.{[], _∷_, _++_}
+use mathlib.Core.List.{List, [], _∷_, _++_}
 use lib.ListN.{length, replicate}
-use Rattle.sha256.specs.Digests.{padding}
-use Rattle.sha256.specs.Constants.{K256}
+use Rattle.sha256.specs.Digests.{padding, digest}
+use Rattle.sha256.specs.Macs.{hmac}
 
--- FIPS 180-4 §5.1.1's example: 'abc', of 24 bits, is followed by a bit 1, 423 zero bits, and 24 in 64 bits: one block. A message of 55 bytes
--- is the longest that fits one block, one of 56 the shortest that takes two. There are sixty-four constants.
+-- 'abc', of one block.
+unfoldable pub abc : List ℕ
+abc = 0x61 ∷ 0x62 ∷ 0x63 ∷ []
+
+-- 'abcdbcdecdefdefgefghfghighijhijkijkljklmklmnlmnomnopnopq', of two.
+unfoldable pub twoBlocks : List ℕ
+twoBlocks =
+    0x61 ∷ 0x62 ∷ 0x63 ∷ 0x64 ∷ 0x62 ∷ 0x63 ∷ 0x64 ∷ 0x65 ∷ 0x63 ∷ 0x64 ∷ 0x65 ∷ 0x66 ∷ 0x64 ∷ 0x65 ∷ 0x66 ∷ 0x67
+    ∷ 0x65 ∷ 0x66 ∷ 0x67 ∷ 0x68 ∷ 0x66 ∷ 0x67 ∷ 0x68 ∷ 0x69 ∷ 0x67 ∷ 0x68 ∷ 0x69 ∷ 0x6a ∷ 0x68 ∷ 0x69 ∷ 0x6a ∷ 0x6b
+    ∷ 0x69 ∷ 0x6a ∷ 0x6b ∷ 0x6c ∷ 0x6a ∷ 0x6b ∷ 0x6c ∷ 0x6d ∷ 0x6b ∷ 0x6c ∷ 0x6d ∷ 0x6e ∷ 0x6c ∷ 0x6d ∷ 0x6e ∷ 0x6f
+    ∷ 0x6d ∷ 0x6e ∷ 0x6f ∷ 0x70 ∷ 0x6e ∷ 0x6f ∷ 0x70 ∷ 0x71 ∷ []
+
+-- RFC 4231 §4.3: the key 'Jefe' and the text 'what do ya want for nothing?'.
+unfoldable pub jefe : List ℕ
+jefe = 0x4a ∷ 0x65 ∷ 0x66 ∷ 0x65 ∷ []
+
+unfoldable pub nothing : List ℕ
+nothing =
+    0x77 ∷ 0x68 ∷ 0x61 ∷ 0x74 ∷ 0x20 ∷ 0x64 ∷ 0x6f ∷ 0x20 ∷ 0x79 ∷ 0x61 ∷ 0x20 ∷ 0x77 ∷ 0x61 ∷ 0x6e ∷ 0x74 ∷ 0x20
+    ∷ 0x66 ∷ 0x6f ∷ 0x72 ∷ 0x20 ∷ 0x6e ∷ 0x6f ∷ 0x74 ∷ 0x68 ∷ 0x69 ∷ 0x6e ∷ 0x67 ∷ 0x3f ∷ []
+
+-- 'abc', of 24 bits, is followed by a bit 1, 423 zero bits, and 24 in 64 bits: one block. A message of 55 bytes is the longest that fits one
+-- block, one of 56 the shortest that takes two.
 pub record Examples : Type 0 where
-  pub abc : padding 3 ≡ 0x80 ∷ (replicate 52 0 ++ (0 ∷ 0 ∷ 0 ∷ 0 ∷ 0 ∷ 0 ∷ 0 ∷ 24 ∷ []))
-  pub abc-block : 3 + length (padding 3) ≡ 64
-  pub empty-block : 0 + length (padding 0) ≡ 64
+  pub abc-padding : padding 3 ≡ 0x80 ∷ (replicate 52 0 ++ (0 ∷ 0 ∷ 0 ∷ 0 ∷ 0 ∷ 0 ∷ 0 ∷ 24 ∷ []))
   pub last-of-one : 55 + length (padding 55) ≡ 64
   pub first-of-two : 56 + length (padding 56) ≡ 128
-  pub two-blocks : 64 + length (padding 64) ≡ 128
   pub million : 1000000 + length (padding 1000000) ≡ 64 * 15626
-  pub constants : length K256 ≡ 64
+  pub abc-digest :
+      digest abc
+      ≡ 0xba ∷ 0x78 ∷ 0x16 ∷ 0xbf ∷ 0x8f ∷ 0x01 ∷ 0xcf ∷ 0xea ∷ 0x41 ∷ 0x41 ∷ 0x40 ∷ 0xde ∷ 0x5d ∷ 0xae ∷ 0x22 ∷ 0x23
+      ∷ 0xb0 ∷ 0x03 ∷ 0x61 ∷ 0xa3 ∷ 0x96 ∷ 0x17 ∷ 0x7a ∷ 0x9c ∷ 0xb4 ∷ 0x10 ∷ 0xff ∷ 0x61 ∷ 0xf2 ∷ 0x00 ∷ 0x15 ∷ 0xad ∷ []
+  pub two-blocks-digest :
+      digest twoBlocks
+      ≡ 0x24 ∷ 0x8d ∷ 0x6a ∷ 0x61 ∷ 0xd2 ∷ 0x06 ∷ 0x38 ∷ 0xb8 ∷ 0xe5 ∷ 0xc0 ∷ 0x26 ∷ 0x93 ∷ 0x0c ∷ 0x3e ∷ 0x60 ∷ 0x39
+      ∷ 0xa3 ∷ 0x3c ∷ 0xe4 ∷ 0x59 ∷ 0x64 ∷ 0xff ∷ 0x21 ∷ 0x67 ∷ 0xf6 ∷ 0xec ∷ 0xed ∷ 0xd4 ∷ 0x19 ∷ 0xdb ∷ 0x06 ∷ 0xc1 ∷ []
+  pub jefe-hmac :
+      hmac jefe nothing
+      ≡ 0x5b ∷ 0xdc ∷ 0xc1 ∷ 0x46 ∷ 0xbf ∷ 0x60 ∷ 0x75 ∷ 0x4e ∷ 0x6a ∷ 0x04 ∷ 0x24 ∷ 0x26 ∷ 0x08 ∷ 0x95 ∷ 0x75 ∷ 0xc7
+      ∷ 0x5a ∷ 0x00 ∷ 0x3f ∷ 0x08 ∷ 0x9d ∷ 0x27 ∷ 0x39 ∷ 0x83 ∷ 0x9d ∷ 0xec ∷ 0x58 ∷ 0xb9 ∷ 0x64 ∷ 0xec ∷ 0x38 ∷ 0x43 ∷ []
