@@ -1,5 +1,5 @@
 // Messages of each kind and size class: written, and read back.
-use crate::bytes_of::holds_at;
+use crate::buffers::holds_at;
 use message::reading::MessageRead;
 use wire::header::CONNECT;
 use wire::header::DISCOVERY;
@@ -8,25 +8,27 @@ use wire::header::SESSION;
 use wire::header::is_sealed;
 use wire::payload::Request;
 use wire::writer::Written;
+ghost use Prim.Native.Nat.{_≤_};
 
 // The fields of a message of a type: flag 8 or 1 beside those that say whether it is sealed.
 pub fn header_of(kind: u8, sealed: bool) -> Header {
-    let pieces: u16 = if kind == SESSION { 5 } else { 1 };
     Header {
         kind: kind,
         flags: if sealed { 14 } else { 1 },
         sequence: 0x01020304,
         request: 0x1112131415161718,
-        index: pieces - 1,
-        count: pieces,
+        index: if kind == SESSION { 4 } else { 0 },
+        count: if kind == SESSION { 5 } else { 1 },
         session: 0x2122232425262728,
         channel: 0x3132333435363738,
     }
 }
 
 // The bytes of the entries of a chain, by its number: none, one, eight.
-pub fn entries_of(chain: u8) -> usize {
-    match chain {
+pub fn entries_of(chain: u32) -> usize
+    ensures { λ r. ⌜ r ≤ 28 ⌝ }
+{
+    match chain % 3 {
         0 => 0,
         1 => 5,
         _ => 28,
@@ -36,12 +38,12 @@ pub fn entries_of(chain: u8) -> usize {
 // Writes a message with a chain of no entry, of one, or of eight.
 pub fn write_with(
     header: Header,
-    chain: u8,
+    chain: u32,
     payload: &[u8],
     keys: &[u8],
     out: &mut [u8],
 ) -> Written {
-    match chain {
+    match chain % 3 {
         0 => message::writing::write(header, b"\x00\x00", payload, keys, out),
         1 => message::writing::write(header, b"\x01\x03abc\x00\x00", payload, keys, out),
         _ => message::writing::write(
@@ -66,7 +68,7 @@ fn same_fields(a: Header, b: Header) -> bool {
 }
 
 // Whether the message in the first bytes of a buffer is read as these fields and this payload.
-pub fn reads_back(
+fn reads_back(
     h: Header,
     given: usize,
     payload: &[u8],
@@ -98,7 +100,7 @@ pub fn reads_back(
 // Writes a message, which then should have so many bytes, and reads it back.
 fn trip(
     h: Header,
-    chain: u8,
+    chain: u32,
     length: usize,
     payload: &[u8],
     keys: &[u8],
@@ -128,7 +130,9 @@ pub fn size_of(i: u32) -> usize {
 }
 
 // The sealed part of each of them.
-pub fn sealed_of(i: u32) -> usize {
+pub fn sealed_of(i: u32) -> usize
+    ensures { λ r. ⌜ (16 ≤ r) × (r ≤ 16400) ⌝ }
+{
     match i % 10 {
         0 | 1 | 2 | 3 => 16,
         4 | 5 | 6 => 32,
@@ -137,25 +141,31 @@ pub fn sealed_of(i: u32) -> usize {
     }
 }
 
+// The bytes of a Session message of a size, with a chain of a number of entries.
+pub fn session_length(i: u32, chain: u32) -> usize
+    ensures { λ r. ⌜ (90 ≤ r) × (r ≤ 16502) ⌝ }
+{
+    74 + entries_of(chain) + sealed_of(i)
+}
+
 // A Session message of a size, with a chain of a number of entries.
 pub fn session_holds(
     i: u32,
     keys: &[u8],
-    payload: &[u8],
+    noise: &[u8],
     message: &mut [u8],
     working: &mut [u8],
 ) -> bool {
     let size = size_of(i);
-    let chain = (i / 10 % 3) as u8;
-    if payload.len() < size {
+    let chain = i / 10;
+    if noise.len() < size {
         return false;
     }
-    let length = 74 + entries_of(chain) + sealed_of(i);
     trip(
         header_of(SESSION, true),
         chain,
-        length,
-        &payload[0..size],
+        session_length(i, chain),
+        &noise[0..size],
         keys,
         message,
         working,
@@ -178,7 +188,7 @@ fn request() -> Request {
 }
 
 // The payload of a Presence Request, or a Connect payload of each type; its bytes.
-pub fn put_payload(i: u8, out: &mut [u8]) -> usize {
+fn put_payload(i: u32, out: &mut [u8]) -> usize {
     match i {
         0 => bytes_in(wire::writer::write_presence_request(out)),
         1 => bytes_in(wire::writer::write_connection_request(2, request(), out)),
@@ -197,31 +207,32 @@ pub fn put_payload(i: u8, out: &mut [u8]) -> usize {
     }
 }
 
-// What such a message has in all, without its chain's entries.
-fn length_of(i: u8) -> usize {
+// What such a message has in all, with a chain of a number of entries.
+fn length_of(i: u32, chain: u32) -> usize {
+    let entries = entries_of(chain);
     match i {
-        0 => 43,
-        1 | 2 => 128,
-        3 => 46,
-        4 | 5 => 106,
-        _ => 90,
+        0 => 43 + entries,
+        1 | 2 => 128 + entries,
+        3 => 46 + entries,
+        4 | 5 => 106 + entries,
+        _ => 90 + entries,
     }
 }
 
 // A Presence Request or a Connect message of each type, with a chain of a number of entries.
 pub fn connect_holds(i: u32, keys: &[u8], message: &mut [u8], working: &mut [u8]) -> bool {
     let mut payload = [0u8; 100];
-    let kind = (i % 8) as u8;
-    let chain = (i / 8 % 3) as u8;
+    let kind = i % 8;
+    let chain = i / 8;
     let size = put_payload(kind, &mut payload);
     if 100 < size {
         return false;
     }
-    let h = header_of(if kind == 0 { DISCOVERY } else { CONNECT }, 3 < kind);
+    let header = header_of(if kind == 0 { DISCOVERY } else { CONNECT }, 3 < kind);
     trip(
-        h,
+        header,
         chain,
-        length_of(kind) + entries_of(chain),
+        length_of(kind, chain),
         &payload[0..size],
         keys,
         message,
