@@ -60,7 +60,7 @@ or-assoc : (a b c : Bool) → ((a || b) || c) ≡ (a || (b || c))
 or-assoc true b c = refl
 or-assoc false b c = refl
 
-mark-has : (S : List Bool) (i j : ℕ) → i < length S → has (mark S i) j ≡ (has S j || eqb j i)
+pub mark-has : (S : List Bool) (i j : ℕ) → i < length S → has (mark S i) j ≡ (has S j || eqb j i)
 mark-has S i j l = go (ℕ-discrete j i)
   where
     go : Dec (j ≡ i) → has (mark S i) j ≡ (has S j || eqb j i)
@@ -195,7 +195,8 @@ module _ (s : Start) (f : Fair s) (m : Machine (s .size)) where
     w : Lawful s S
     w = set-lawful s f es (under r)
 
-    says-here : m .says (final m began xs) x ≡ m .answer (answerAt s S i)
+    -- What is answered to piece i, by the set of what has come.
+    pub says-here : m .says (final m began xs) x ≡ m .answer (answerAt s (setOf es) i)
     says-here = ap (λ (c : m .C). m .says c x) (ends-at r) ∙ says-at S w i l x h
 
     next-here : m .next (final m began xs) x ≡ seated (mark S i)

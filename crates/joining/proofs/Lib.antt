@@ -7,3 +7,4 @@ pub mod Coming
 pub mod Arriving
 pub mod Courses
 pub mod Still
+pub mod Counting

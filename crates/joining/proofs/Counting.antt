@@ -1,0 +1,101 @@
+-- The heard count over any course: it is the number of different pieces that have come. Assumes nothing.
+use Prim.Native.Nat.{ℕ, zero, suc, _+_, _≤_, _<_}
+use mathlib.Core.Path.{_≡_, refl, sym, ap, _∙_}
+use mathlib.Core.List.{List, [], _∷_}
+use mathlib.Core.Bool.{Bool, true, false, _||_, true≢false}
+use native.Mathlib.Omega.{arith}
+use lib.Dec.{eqb}
+use lib.ListN.{length}
+use lib.Seq.{getD-set-other}
+use borrow.Author.Tests.{eq-eqb, ne-eqb}
+use Rattle.joining.specs.declared.Arrival.the-variants.{Refused, Taken, Repeat, Complete}
+use Rattle.joining.specs.Heard.{most, bit, tally, come, has, mark}
+use Rattle.joining.proofs.Heards.{come-next, come-mark, come-full, full-come, tally-mark}
+use Rattle.joining.proofs.Coming.{Start, Fair, Lawful, pieceOf, bytesOf}
+use Rattle.joining.proofs.Arriving.{mark-known, mark-lawful}
+use Rattle.joining.proofs.Courses.{Event, piece, between, came, setOf, set-has, set-lawful, LastMissing, mark-has, Machine, final, Course, under, began, says-here}
+
+-- How many of the pieces 0 to n - 1 have come, each counted once however often it came.
+abbrev pub howMany : ℕ → List Event → ℕ
+howMany zero es = 0
+howMany (suc n) es = howMany n es + bit (came n es)
+
+-- A set that has what has come has as many.
+come-came : (S : List Bool) (es : List Event) (n : ℕ) → n ≤ length S → ((j : ℕ) → has S j ≡ came j es) → come n S ≡ howMany n es
+come-came S es zero l e = refl
+come-came S es (suc n) l e =
+    let b : bit (has S n) ≡ bit (came n es) = ap bit (e n) in
+    omega (arith, come-next S n (omega arith), come-came S es n (omega arith) e)
+
+-- Nothing stands in a set behind its first n indexes: they are all that is counted.
+tally-come : (n : ℕ) (S : List Bool) → ((j : ℕ) → n ≤ j → has S j ≡ false) → tally S ≡ come n S
+tally-come zero [] e = refl
+tally-come (suc n) [] e = refl
+tally-come zero (b ∷ bs) e =
+    let z : bit b ≡ 0 = ap bit (e 0 (omega arith)) in
+    omega (arith, tally-come zero bs (λ j l. e (suc j) (omega arith)))
+tally-come (suc n) (b ∷ bs) e = omega (arith, tally-come n bs (λ j l. e (suc j) (omega arith)))
+
+or-swap : (a b : Bool) → (a || b) ≡ (b || a)
+or-swap true true = refl
+or-swap true false = refl
+or-swap false true = refl
+or-swap false false = refl
+
+module _ (s : Start) (f : Fair s) (m : Machine (s .size)) {xs : List (m .X)} {es : List Event} (r : Course s m (began s f m) xs es) (i : ℕ)
+    (l : i < s .count) where
+  abbrev S : List Bool
+  S = setOf es
+
+  w : Lawful s S
+  w = set-lawful s f es (under r)
+
+  room : i < length S
+  room = omega (arith, w .long, f .cut .most)
+
+  has-came : (j : ℕ) → has S j ≡ came j es
+  has-came j = set-has s f es (under r) j
+
+  -- With piece i.
+  come-here : come (s .count) (mark S i) ≡ howMany (s .count) (piece i ∷ es)
+  come-here =
+      come-came (mark S i) (piece i ∷ es) (s .count) (omega (arith, mark-lawful s f S w i l .long, f .cut .most))
+      (λ j. mark-has S i j room ∙ or-swap (has S j) (eqb j i) ∙ ap (λ (b : Bool). eqb j i || b) (has-came j))
+
+  tally-here : tally (mark S i) ≡ howMany (s .count) (piece i ∷ es)
+  tally-here = tally-come (s .count) (mark S i) (mark-lawful s f S w i l .below) ∙ come-here
+
+  -- A piece is missing: the count is not full.
+  not-all : (j : ℕ) → j < s .count → came j es ≡ false → come (s .count) S ≡ s .count → ⊥
+  not-all j k c e = true≢false (sym (come-full (s .count) S e j k) ∙ has-came j ∙ c)
+
+  -- When the last missing one comes, all have come.
+  pub all-told : LastMissing (s .count) i es → s .count ≡ howMany (s .count) (piece i ∷ es)
+  all-told d =
+      sym (full-come (s .count) (mark S i) (omega (arith, mark-lawful s f S w i l .long, f .cut .most)) (λ j k. heard j (eqb j i) refl k)) ∙ come-here
+    where
+      heard : (j : ℕ) (t : Bool) → eqb j i ≡ t → j < s .count → has (mark S i) j ≡ true
+      heard j true e k = mark-has S i j room ∙ rw e (or-swap (has S j) true)
+      heard j false e k = mark-has S i j room ∙ rw e (or-swap (has S j) false ∙ has-came j ∙ d .1 j k (λ z. true≢false (sym (eq-eqb j i z) ∙ e)))
+
+  module _ (x : m .X) (h : m .Brings (pieceOf s i) (bytesOf s i) x) where
+    -- A piece that has come, while one is missing.
+    pub told-again : came i es ≡ true → (j : ℕ) → j < s .count → came j es ≡ false
+        → m .says (final m (began s f m) xs) x ≡ m .answer (Repeat (howMany (s .count) (piece i ∷ es)))
+    told-again a j k c =
+        let e : tally S ≡ howMany (s .count) (piece i ∷ es) = ap tally (sym (mark-known S i (has-came i ∙ a))) ∙ tally-here in
+        says-here s f m r i l x h
+        ∙ ap (m .answer) (rw (ne-eqb (come (s .count) S) (s .count) (not-all j k c), has-came i, a, e))
+
+    -- A piece that had not, while another is missing.
+    pub told-taken : came i es ≡ false → (j : ℕ) → j < s .count → (j ≡ i → ⊥) → came j es ≡ false
+        → m .says (final m (began s f m) xs) x ≡ m .answer (Taken (howMany (s .count) (piece i ∷ es)))
+    told-taken a j k n c =
+        let u : has S i ≡ false = has-came i ∙ a in
+        let e : tally S + 1 ≡ howMany (s .count) (piece i ∷ es) = sym (tally-mark S i room u) ∙ tally-here in
+        let o : come (s .count) S + 1 ≡ s .count → ⊥ =
+        λ z. true≢false
+        (sym (come-full (s .count) (mark S i) (come-mark (s .count) S i l room u ∙ z) j k) ∙ getD-set-other S i j true false n ∙ has-came j ∙ c) in
+        says-here s f m r i l x h
+        ∙ ap (m .answer)
+        (rw (ne-eqb (come (s .count) S) (s .count) (not-all j k c), u, ne-eqb (come (s .count) S + 1) (s .count) o, e))
