@@ -4,3 +4,4 @@ pub mod WrittenSizes
 pub mod Written
 pub mod WrittenLengths
 pub mod WrittenBack
+pub mod HandedBack

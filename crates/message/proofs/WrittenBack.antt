@@ -145,7 +145,8 @@ module _ (h : Header) (chain payload keys : List ℕ) (room space : ℕ) (good :
         ∙ sym (append-assoc (headerBytes h (lengthOf h chain payload)) chain (part ++ tag))
         ∙ sym (in-parts keys before payload) ∙ sym sealed-is
 
-    sealed-header : readHeader (messageBytes h chain payload keys) ≡ head.Read h start (length part)
+    pub sealed-header : readHeader (messageBytes h chain payload keys)
+        ≡ head.Read h (40 + length chain) (length (cbcEncrypt (expandKey (encryptionKey keys)) (vector keys (beforePayload h chain payload)) (plainText payload)))
     sealed-header =
         let b = sealedSize-blocks (length payload) in
         ap readHeader (sym sealed-message)
@@ -183,7 +184,8 @@ module _ (h : Header) (chain payload keys : List ℕ) (room space : ℕ) (good :
     pub payload-sealed : payloadOf (opened (messageBytes h chain payload keys) keys (40 + length chain)) ≡ payload
     payload-sealed = rw opened-written (payload-plainText payload small)
 
-    opens : sealedSize (length payload) ≤ room → openRefusal keys (messageBytes h chain payload keys) start room ≡ 0
+    -- Nothing of 10 to 13 applies.
+    pub opens : sealedSize (length payload) ≤ room → openRefusal keys (messageBytes h chain payload keys) (40 + length chain) room ≡ 0
     opens fits = rw (sealed-is, ← start-is) (opens-back keys before payload (a .keyed sealed) long within of-keys before-bytes of-payload room fits)
 
     pub read-sealed : sealedSize (length payload) ≤ room → readMessage (messageBytes h chain payload keys) keys room ≡ Read h true 4 (length payload)
