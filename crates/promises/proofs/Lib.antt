@@ -1,8 +1,15 @@
 pub mod NumberedExamples
 pub mod RefusalTables
+pub mod StepTable
+pub mod Working
+pub mod ReadBack
+pub mod ReadAgain
 pub mod ReportsJoined
+pub mod Writes
+pub mod Ways
+pub mod Keeping
+pub mod Known
 pub mod Repeats
 pub mod Determined
 pub mod Witness
-pub mod StepTable
-pub mod Working
+pub mod Enrols

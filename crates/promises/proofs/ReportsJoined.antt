@@ -14,13 +14,15 @@ use Rattle.joining.specs.Cut.{badSize, pieceCount, cutRefusal, cutCount, cutPie
 use Rattle.joining.proofs.Cuts.{passed, Cuttable, cuttable}
 use Rattle.joining.proofs.Coming as coming
 use Rattle.joining.proofs.Courses as joining
+use Rattle.joining.proofs.Counting.{all-told, told-again, told-taken}
 use Rattle.joining.proofs.Courses.{Event, piece, between, came, LastMissing, Machine, final, ends-at, only-the-set, handed-out, as-sent, at-no-other, late-copy}
 use Rattle.hub.specs.declared.Connection.{Connection}
 use Rattle.hub.specs.declared.Answer.{Answer}
 use Rattle.hub.specs.declared.Answer.the-variants.{Refused, Reply, Again, Failure, Taken, Repeat, Complete}
 use Rattle.hub.specs.Answers.{isQuiet, isComplete}
 use Rattle.hub.proofs.Layer.{Call, Place, Brings, hub}
-use Rattle.promises.specs.Reports.{after, answer, afterAll, Sending, began, fragments, Fair, pieceOf, Opens, Course, done, brings, rests, OnlyWhatCame, HandedOut, AtTheLastMissing, AtNoOther, LaterCopies, NotBetween}
+use Rattle.promises.specs.Reports.{after, answer, afterAll, Sending, began, fragments, Fair, fragment, headerFor, Sent, Course, done, brings, rests, OnlyWhatCame, HandedOut, AtTheLastMissing, AtNoOther, Told, HeardCount, LaterCopies, NotBetween}
+use Rattle.promises.proofs.ReadBack.{reads-back}
 
 -- What the cutter does not refuse at piece 0 it refuses at no piece under the count.
 module _ (F L : ℕ) (e : cutRefusal F L 0 ≡ 0) where
@@ -64,24 +66,27 @@ module _ (s : Sending) (f : Fair s) where
   abbrev pub machine : Machine (s .connection .size)
   machine = hub (s .connection) (f .ready) (sized (s .connection .size) (length (s .report)) (f .cut))
 
-  opens-brings : (i : ℕ) → i < fragments s → (x : Call) → Opens s i x → Brings (s .connection) (coming.pieceOf start i) (coming.bytesOf start i) x
-  opens-brings i l x o =
+  -- A fragment that was sent is one that joining is brought.
+  sent-brings : (i : ℕ) → i < fragments s → (x : Call) → Sent s i x → Brings (s .connection) (coming.pieceOf start i) (coming.bytesOf start i) x
+  sent-brings i l x o =
+      let h = headerFor s i (o .request) (o .flags) in
+      let r = reads-back h (o .chain) (fragment s i) (s .keys) (x .message) (o .written) (x .working) (λ e. o .room) in
       record {
         verdict = o .verdict;
-        header = o .header;
-        sealed = o .sealed;
-        from = o .from;
-        size = o .size;
-        reads = rw (o .keys) (o .reads);
-        kind = o .kind;
-        session = o .session;
-        piece = o .piece ∙ rw (each-count (s .connection .size) (length (s .report)) (f .cut) i l);
-        payload = rw (o .keys) (o .payload ∙ rw (each-cut (s .connection .size) (length (s .report)) (f .cut) i l));
+        header = h;
+        sealed = r .sealed;
+        from = r .from;
+        size = r .size;
+        reads = rw (o .keys) (r .reads);
+        kind = refl;
+        session = refl;
+        piece = rw (each-count (s .connection .size) (length (s .report)) (f .cut) i l);
+        payload = rw (o .keys) (r .handed ∙ rw (each-cut (s .connection .size) (length (s .report)) (f .cut) i l));
       }
 
   course : {p : Place} {xs : List Call} {es : List Event} → Course s p xs es → joining.Course start machine p xs es
   course done = joining.end
-  course (brings {x = x} {i = i} l o r) = joining.brings l (opens-brings i l x o) (course r)
+  course (brings {x = x} {i = i} l o r) = joining.brings l (sent-brings i l x o) (course r)
   course (rests q r) = joining.rests q (course r)
 
   finally : (p : Place) (xs : List Call) → final machine p xs ≡ afterAll p xs
@@ -95,7 +100,7 @@ module _ (s : Sending) (f : Fair s) where
   module _ (xs : List Call) (es : List Event) (i : ℕ) (x : Call) where
     pub at-the-last-missing : AtTheLastMissing s xs es i x
     at-the-last-missing r l o d =
-        let b = opens-brings i l x o in
+        let b = sent-brings i l x o in
         let z = finally (began s) xs in
         let a = as-sent start start-fair machine (course r) i l x b d in
         let n = sym (ap (λ (p : Place). after p x) z) ∙ a .1 in
@@ -108,12 +113,22 @@ module _ (s : Sending) (f : Fair s) where
 
     pub at-no-other-call : AtNoOther s xs es i x
     at-no-other-call r l o d =
-        at-no-other start start-fair machine (course r) i l x (opens-brings i l x o)
+        at-no-other start start-fair machine (course r) i l x (sent-brings i l x o)
         (ap (λ (p : Place). isComplete (answer p x)) (finally (began s) xs) ∙ d)
+
+    pub heard-count : HeardCount s xs es i x
+    heard-count r l o =
+        let b = sent-brings i l x o in
+        let z = sym (ap (λ (p : Place). answer p x) (finally (began s) xs)) in
+        record {
+          taken = λ j k n c a. z ∙ told-taken start start-fair machine (course r) i l x b a j k n c;
+          repeated = λ j k c a. z ∙ told-again start start-fair machine (course r) i l x b a j k c;
+          complete = λ d. all-told start start-fair machine (course r) i l d;
+        }
 
     pub later-copies : LaterCopies s xs es i x
     later-copies r l o d =
-        sym (ap (λ (p : Place). answer p x) (finally (began s) xs)) ∙ late-copy start start-fair machine (course r) i l x (opens-brings i l x o) d
+        sym (ap (λ (p : Place). answer p x) (finally (began s) xs)) ∙ late-copy start start-fair machine (course r) i l x (sent-brings i l x o) d
 
 pub not-between : NotBetween
 not-between (Refused n) e = refl

@@ -1,14 +1,39 @@
--- The premises of demand 3 can be met: a Ready connection of fragment size 4, and a report of ten bytes on its way to it. Assumes nothing.
-use Prim.Native.Nat.{ℕ}
-use mathlib.Core.Path.{refl}
-use mathlib.Core.List.{List}
+-- The premises of demand 3 can be met: a Ready connection of fragment size 4, and a report of ten bytes that comes in four calls, its three
+-- fragments in another order and one of them twice. Assumes nothing.
+use Prim.Native.Nat.{ℕ, zero, suc, _≤_, _<_}
+use mathlib.Core.Path.{_≡_, refl}
+use mathlib.Core.List.{List, [], _∷_}
+use mathlib.Core.Bool.{Bool, true, false, _&&_}
 use native.Mathlib.Omega.{arith}
-use lib.ListN.{replicate}
+use lib.ListN.{length, replicate}
+use lib.Dec.{ltb}
+use borrow.Author.Tests.{ltb-true}
+use Rattle.laws.proofs.Bools.{and-true}
 use Rattle.wire.specs.Fields.{mostPieces}
+use Rattle.wire.specs.Chain.{entryOf, chain, mostEntries, readChain, badChain}
+use Rattle.seal.specs.Padding.{padding, sealedSize}
+use Rattle.seal.proofs.ByteLists.{AllBytes, nil-bytes, cons-bytes}
 use Rattle.joining.specs.Join.{expecting}
 use Rattle.joining.specs.Cut.{cutRefusal}
+use Rattle.joining.proofs.Courses.{came, LastMissing}
 use Rattle.hub.specs.declared.Connection.{Connection}
-use Rattle.promises.specs.Reports.{Sending, Fair}
+use Rattle.promises.specs.Refusals.{AreBytes}
+use Rattle.promises.specs.Reports.{Sending, began, fragments, fragment, Fair, Course, HandedOut}
+use Rattle.promises.specs.Met.{Typed, Choice, Good, callFor, calls, brought}
+use Rattle.promises.proofs.ReportsJoined.{at-the-last-missing}
+use Rattle.promises.proofs.Writes.{can-be-sent, any-order}
+
+-- A list whose elements are tested to be bytes.
+abbrev below : List ℕ → Bool
+below [] = true
+below (x ∷ m) = ltb x 256 && below m
+
+tested : (m : List ℕ) → below m ≡ true → AllBytes m
+tested [] e = nil-bytes
+tested (x ∷ m) e = let a = and-true (ltb x 256) (below m) e in cons-bytes (ltb-true x 256 (a .0)) (tested m (a .1))
+
+pub are-bytes : (m : List ℕ) → below m ≡ true → AreBytes m
+are-bytes m e = tested m e .at
 
 abbrev ready : Connection
 ready =
@@ -29,3 +54,59 @@ tenBytes = record { connection = ready; buffer = replicate 16 0; keys = replicat
 pub ten-bytes-fair : Fair tenBytes
 unfolding cutRefusal mostPieces
 ten-bytes-fair = record { ready = refl; unheard = refl; number = omega arith; cut = refl; room = omega arith }
+
+pub ten-bytes-typed : Typed tenBytes
+ten-bytes-typed =
+    record {
+      session = omega arith;
+      channel = omega arith;
+      report = are-bytes (replicate 10 1) refl;
+      keys = are-bytes (replicate 64 0) refl;
+      whole = refl;
+    }
+
+abbrev pub choice : Choice
+choice = record { request = 9; acknowledge = true; wake = false; chain = 0 ∷ 0 ∷ []; working = replicate 16 255; verdict = 1 }
+
+-- A fragment's sealed part has sixteen bytes.
+sixteen : (i : ℕ) → i < 3 → sealedSize (length (fragment tenBytes i)) ≤ 16
+unfolding sealedSize padding cutRefusal mostPieces
+sixteen zero l = omega arith
+sixteen (suc zero) l = omega arith
+sixteen (suc (suc zero)) l = omega arith
+sixteen (suc (suc (suc i))) l = absurd (omega arith)
+
+pub choice-good : Good tenBytes choice
+unfolding badChain readChain mostEntries chain entryOf
+choice-good =
+    record {
+      request = omega arith;
+      of-chain = are-bytes (0 ∷ 0 ∷ []) refl;
+      chained = refl;
+      room = λ i l. sixteen i l;
+      verdict = omega arith;
+    }
+
+-- Fragments 2, 0 and 2 have come.
+abbrev pub before : List (ℕ × Choice)
+before = (2, choice) ∷ (0, choice) ∷ (2, choice) ∷ []
+
+pub ten-bytes-course : Course tenBytes (began tenBytes) (calls tenBytes before) (brought before)
+ten-bytes-course =
+    any-order tenBytes ten-bytes-fair ten-bytes-typed before
+    ((omega arith, choice-good), ((omega arith, choice-good), ((omega arith, choice-good), tt))) (began tenBytes)
+
+last-missing : LastMissing (fragments tenBytes) 1 (brought before)
+last-missing = (refl, others)
+  where
+    others : (j : ℕ) → j < 3 → (j ≡ 1 → ⊥) → came j (brought before) ≡ true
+    others zero l n = refl
+    others (suc zero) l n = absurd (n refl)
+    others (suc (suc zero)) l n = refl
+    others (suc (suc (suc j))) l n = absurd (omega arith)
+
+-- Fragment 1 brings the report.
+pub ten-bytes-handed-out : HandedOut tenBytes (calls tenBytes before) (brought before) 1 (callFor tenBytes 1 choice)
+ten-bytes-handed-out =
+    at-the-last-missing tenBytes ten-bytes-fair (calls tenBytes before) (brought before) 1 (callFor tenBytes 1 choice) ten-bytes-course (omega arith)
+    (can-be-sent tenBytes ten-bytes-fair ten-bytes-typed 1 (omega arith) choice choice-good) last-missing

@@ -20,7 +20,7 @@ use Rattle.message.specs.Reading.{opened, workingAfter}
 use Rattle.joining.specs.Cut.{badSize}
 use Rattle.hub.specs.declared.Connection.{Connection}
 use Rattle.hub.specs.Step.{unready, workingStepped}
-use Rattle.promises.specs.Refusals.{AreBytes, sealed, start, headerTable, untouchedTable, WorkingBuffer}
+use Rattle.promises.specs.Refusals.{AreBytes, sealed, start, headerTable, untouchedTable, WorkingRule, WorkingBuffer}
 use Rattle.promises.proofs.RefusalTables.{header-first, part-there}
 
 -- Rows of 10 to 13, as one table and as two in turn.
@@ -104,9 +104,9 @@ module _ (c : Connection) (m keys working report : List ℕ) (v : ℕ) (bytes : 
       by true p = (eqb-true (refusalOf m) 0 p, rw p at e)
       by false p = absurd (eqb-false (refusalOf m) 0 p (rw p at e))
 
-  pub working-buffer : WorkingBuffer c m keys working report v
+  rule : WorkingRule c m keys working report v
   unfolding workingStepped
-  working-buffer =
+  rule =
       record {
         refused = λ n z l. ends (ltb 1 v) (badSize (c .size)) n z (leads-first n (untouchedTable c m keys working report v) l);
         plain = λ s. plainly (unready c v) s;
@@ -114,3 +114,6 @@ module _ (c : Connection) (m keys working report : List ℕ) (v : ℕ) (bytes : 
             let k = none-applies (sym rows-first ∙ quiet-first (headerTable m keys ++ opening) (q .1 .1)) in
             rw (q .0, q .1 .0) (after-sealed (k .0) s ∙ into-some (first opening) (k .1) (opened m keys (start m keys)));
       }
+
+pub working-buffer : (c : Connection) (m keys working report : List ℕ) (v : ℕ) → WorkingBuffer c m keys working report v
+working-buffer c m keys working report v bytes = rule c m keys working report v bytes

@@ -3,34 +3,35 @@
 use Prim.Native.Nat.{ℕ, _≤_}
 use mathlib.Core.Path.{_≡_}
 use mathlib.Core.List.{List, [], _∷_}
-use mathlib.Core.Bool.{Bool}
+use mathlib.Core.Bool.{true}
 use lib.ListN.{length}
-use Rattle.wire.specs.declared.header.Header.{Header}
-use Rattle.message.specs.Reading.{readMessage, workingAfter}
-use Rattle.message.specs.Handed.{payload}
-use Rattle.message.specs.declared.reading.MessageRead.the-variants.{Read}
+use Rattle.seal.specs.Opening.{sealedPart}
 use Rattle.hub.specs.declared.Answer.the-variants.{Reply, Again, Failure}
 use Rattle.hub.proofs.Layer.{Call, Place}
+use Rattle.promises.specs.Refusals.{sealed, start}
 use Rattle.promises.specs.Reports.{after, answer, afterAll}
 
--- The reader reads a call's message, with the call's keys and working buffer, as this header and this payload; the verdict is 0 or 1.
-pub record ReadAs (h : Header) (bytes : List ℕ) (x : Call) : Type 0 where
-  pub verdict : x .verdict ≤ 1
-  pub sealed : Bool
-  pub from : ℕ
-  pub size : ℕ
-  pub reads : readMessage (x .message) (x .keys) (length (x .working)) ≡ Read h sealed from size
-  pub payload : payload (x .message) (workingAfter (x .message) (x .keys) (x .working)) sealed from size ≡ bytes
-
--- "until a verdict of 0": no step of the course named Failure.
+-- "until a verdict of 0": no step of the course named Failure,
 abbrev pub NoFailure : Place → List Call → Type 0
 NoFailure p [] = Unit {0}
 NoFailure p (x ∷ xs) = (answer p x ≡ Failure → ⊥) × NoFailure (after p x) xs
 
+-- as none does that is given another verdict.
+abbrev pub OnlyByZero : Type 0
+OnlyByZero = (p : Place) (x : Call) → answer p x ≡ Failure → x .verdict ≡ 0
+
+-- The call y sends the message of x again: the same bytes and keys, a verdict of 0 or 1, and a working buffer of any contents that is not
+-- shorter than the sealed part, if there is one.
+pub record SentAgain (x y : Call) : Type 0 where
+  pub message : y .message ≡ x .message
+  pub keys : y .keys ≡ x .keys
+  pub verdict : y .verdict ≤ 1
+  pub room : sealed (x .message) (x .keys) ≡ true → length (sealedPart (x .message) (start (x .message) (x .keys))) ≤ length (y .working)
+
 -- A step answered with a reply; after any course since, the same message gets Again with the same reply, and nothing changes.
 abbrev pub RepeatedStep : Type 0
 RepeatedStep =
-    (p : Place) (h : Header) (bytes : List ℕ) (x : Call) (t : ℕ) → ReadAs h bytes x → answer p x ≡ Reply t
+    (p : Place) (x : Call) (t : ℕ) → answer p x ≡ Reply t
     → (xs : List Call) → NoFailure (after p x) xs
-    → (y : Call) → ReadAs h bytes y
+    → (y : Call) → SentAgain x y
     → (answer (afterAll (after p x) xs) y ≡ Again t) × (after (afterAll (after p x) xs) y ≡ afterAll (after p x) xs)

@@ -176,12 +176,16 @@ module _ (c : Connection) (m keys working report : List ℕ) (verdict : ℕ) whe
 
   -- "The working buffer is untouched by refusals 1 to 13, 24 and 25, and by plain messages. After a sealed message got past 13 its first bytes
   -- hold the opened sealed part, the rest is unchanged."
-  pub record WorkingBuffer : Type 0 where
+  pub record WorkingRule : Type 0 where
     pub refused : (n : ℕ) → (n ≡ 0 → ⊥) → leads n untouchedTable → workingStepped c m keys working verdict ≡ working
     pub plain : sealed m keys ≡ false → workingStepped c m keys working verdict ≡ working
     pub past : quiet untouchedTable → sealed m keys ≡ true
         → workingStepped c m keys working verdict
         ≡ opened m keys (start m keys) ++ drop (length (opened m keys (start m keys))) working
+
+  -- It holds of every message, which is a list of bytes.
+  abbrev pub WorkingBuffer : Type 0
+  WorkingBuffer = AreBytes m → WorkingRule
 
 -- The cutter: "it refuses with 24, then with 7 if the report is longer than 64 × F or i is not under the count".
 abbrev pub cutTable : ℕ → ℕ → ℕ → List (ℕ × Bool)

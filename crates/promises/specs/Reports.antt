@@ -6,21 +6,20 @@ use mathlib.Core.List.{List, [], _∷_}
 use mathlib.Core.Bool.{Bool, true, false}
 use lib.ListN.{length, take}
 use Rattle.wire.specs.declared.header.Header.{Header}
-use Rattle.message.specs.Reading.{readMessage, workingAfter}
-use Rattle.message.specs.Handed.{payload}
-use Rattle.message.specs.declared.reading.MessageRead.the-variants.{Read}
-use Rattle.joining.specs.declared.Piece.{Piece}
-use Rattle.joining.specs.Heard.{most, tally, none}
+use Rattle.seal.specs.Padding.{sealedSize}
+use Rattle.joining.specs.Heard.{most, none}
 use Rattle.joining.specs.Cut.{pieceCount, cutRefusal, cutCount, cutPiece}
 use Rattle.joining.specs.Join.{expecting}
-use Rattle.joining.proofs.Courses.{Event, piece, between, came, setOf, LastMissing}
+use Rattle.joining.proofs.Courses.{Event, piece, between, came, LastMissing}
+use Rattle.joining.proofs.Counting.{howMany}
 use Rattle.hub.specs.declared.Connection.{Connection}
 use Rattle.hub.specs.declared.Answer.{Answer}
-use Rattle.hub.specs.declared.Answer.the-variants.{Refused, Complete}
-use Rattle.hub.specs.Answers.{valuesOf, isQuiet, isComplete}
-use Rattle.hub.specs.Hear.{pieceIn, withProgress}
+use Rattle.hub.specs.declared.Answer.the-variants.{Refused, Taken, Repeat, Complete}
+use Rattle.hub.specs.Answers.{isQuiet, isComplete}
+use Rattle.hub.specs.Hear.{withProgress}
 use Rattle.hub.specs.Step.{step, reportStepped}
 use Rattle.hub.proofs.Layer.{Call, Place}
+use Rattle.promises.specs.Written.{Wrote}
 
 -- What one call of the step leaves: the next connection and the report buffer.
 abbrev pub after : Place → Call → Place
@@ -64,36 +63,41 @@ pub record Fair (s : Sending) : Type 0 where
   pub cut : cutRefusal (s .connection .size) (length (s .report)) 0 ≡ 0
   pub room : length (s .report) ≤ length (s .buffer)
 
--- What the header of fragment i says of it: the expected number, the channel, the cutter's count, and i.
-abbrev pub pieceOf : Sending → ℕ → Piece
-pieceOf s i =
+-- Fragment i: the cutter's piece.
+abbrev pub fragment : Sending → ℕ → List ℕ
+fragment s i = cutPiece (s .connection .size) (s .report) i
+
+-- Its header: a Session message with the connection's expected number and SessionID, the report's channel, the cutter's count, and i. RequestID
+-- and flags are as the sender likes.
+abbrev pub headerFor : Sending → ℕ → (request flags : ℕ) → Header
+headerFor s i request flags =
     record {
+      kind = 4;
+      flags = flags;
       sequence = s .connection .progress .expected;
-      channel = s .channel;
-      count = cutCount (s .connection .size) (length (s .report)) i;
+      request = request;
       index = i;
+      count = cutCount (s .connection .size) (length (s .report)) i;
+      session = s .connection .session;
+      channel = s .channel;
     }
 
--- A call whose message opens, with the keys that every step is given, to fragment i of the report: a Session message of the connection's
--- session, its payload the cutter's piece. RequestID, acknowledge and wake flags and chain are any; the working buffer is long enough, what
--- stands in it is any; the verdict is 0 or 1.
-pub record Opens (s : Sending) (i : ℕ) (x : Call) : Type 0 where
+-- A call whose message is fragment i of the report, "cut and sealed by the rules with the keys every step is given": what the writer writes of
+-- it, with "any RequestID, acknowledge and wake flags and chain" (it writes a Session message only sealed, and takes no other flag);
+-- "any contents of a working buffer that is long enough, any verdicts 0 or 1".
+pub record Sent (s : Sending) (i : ℕ) (x : Call) : Type 0 where
+  pub request : ℕ
+  pub flags : ℕ
+  pub chain : List ℕ
+  pub written : Wrote (headerFor s i request flags) chain (fragment s i) (s .keys) (x .message)
   pub keys : x .keys ≡ s .keys
+  pub room : sealedSize (length (fragment s i)) ≤ length (x .working)
   pub verdict : x .verdict ≤ 1
-  pub header : Header
-  pub sealed : Bool
-  pub from : ℕ
-  pub size : ℕ
-  pub reads : readMessage (x .message) (s .keys) (length (x .working)) ≡ Read header sealed from size
-  pub kind : header .kind ≡ 4
-  pub session : header .session ≡ s .connection .session
-  pub piece : pieceIn header ≡ pieceOf s i
-  pub payload : payload (x .message) (workingAfter (x .message) (s .keys) (x .working)) sealed from size ≡ cutPiece (s .connection .size) (s .report) i
 
 -- "any course of messages, each one of the report's fragments or one whose step answers Refused or Again". The list of events says which.
 pub data Course (s : Sending) : Place → List Call → List Event → Type 0 where
   done : {p : Place} → Course s p [] []
-  brings : {p : Place} {x : Call} {xs : List Call} {i : ℕ} {es : List Event} → i < fragments s → Opens s i x → Course s (after p x) xs es
+  brings : {p : Place} {x : Call} {xs : List Call} {i : ℕ} {es : List Event} → i < fragments s → Sent s i x → Course s (after p x) xs es
       → Course s p (x ∷ xs) (piece i ∷ es)
   rests : {p : Place} {x : Call} {xs : List Call} {es : List Event} → isQuiet (answer p x) ≡ true → Course s (after p x) xs es
       → Course s p (x ∷ xs) (between ∷ es)
@@ -118,18 +122,29 @@ module _ (s : Sending) (xs : List Call) (es : List Event) (i : ℕ) (x : Call) w
 
   abbrev pub AtTheLastMissing : Type 0
   AtTheLastMissing =
-      Course s (began s) xs es → i < fragments s → Opens s i x → LastMissing (fragments s) i es → HandedOut
+      Course s (began s) xs es → i < fragments s → Sent s i x → LastMissing (fragments s) i es → HandedOut
 
   -- "at no other": where a fragment is answered Complete, it was the last missing one;
   abbrev pub AtNoOther : Type 0
   AtNoOther =
-      Course s (began s) xs es → i < fragments s → Opens s i x → isComplete (answer (afterAll (began s) xs) x) ≡ true
+      Course s (began s) xs es → i < fragments s → Sent s i x → isComplete (answer (afterAll (began s) xs) x) ≡ true
       → LastMissing (fragments s) i es
+
+  -- "Answers: Taken, Repeat, Complete …; each also tells how many different pieces of this message have come", this one with them.
+  pub record Told : Type 0 where
+    pub taken : (j : ℕ) → j < fragments s → (j ≡ i → ⊥) → came j es ≡ false → came i es ≡ false
+        → answer (afterAll (began s) xs) x ≡ Taken (howMany (fragments s) (piece i ∷ es))
+    pub repeated : (j : ℕ) → j < fragments s → came j es ≡ false → came i es ≡ true
+        → answer (afterAll (began s) xs) x ≡ Repeat (howMany (fragments s) (piece i ∷ es))
+    pub complete : LastMissing (fragments s) i es → fragments s ≡ howMany (fragments s) (piece i ∷ es)
+
+  abbrev pub HeardCount : Type 0
+  HeardCount = Course s (began s) xs es → i < fragments s → Sent s i x → Told
 
   -- "later copies get 17".
   abbrev pub LaterCopies : Type 0
   LaterCopies =
-      Course s (began s) xs es → i < fragments s → Opens s i x → ((j : ℕ) → j < fragments s → came j es ≡ true)
+      Course s (began s) xs es → i < fragments s → Sent s i x → ((j : ℕ) → j < fragments s → came j es ≡ true)
       → answer (afterAll (began s) xs) x ≡ Refused 17
 
 -- and what is Refused or Again hands nothing out.

@@ -1,0 +1,146 @@
+-- The premises of `RepeatedStep` can be met: three messages, as the writer writes them, enrol a gateway. Assumes nothing.
+use Prim.Native.Nat.{ℕ, _≤_, _<_}
+use mathlib.Core.Path.{_≡_, refl, sym, ap, _∙_}
+use mathlib.Core.List.{List, [], _∷_, _++_}
+use mathlib.Core.Bool.{Bool, true, false, not, _&&_, and-false}
+use native.Mathlib.Omega.{arith}
+use lib.ListN.{length, replicate}
+use Rattle.wire.specs.Fields.{badKind, badFlags, badPiece, mostPieces, isSealed}
+use Rattle.wire.specs.Chain.{entryOf, chain, mostEntries, readChain, badChain}
+use Rattle.wire.specs.Payload.{starts, exchanges, isConnectionRequest, isDeviceAuthentication, isDoneRequest, isShaped, badPayload, readRequest}
+use Rattle.wire.specs.declared.header.Header.{Header}
+use Rattle.sha256.specs.Digests.{digest}
+use Rattle.seal.specs.Padding.{padding, sealedSize}
+use Rattle.message.specs.Writing.{finishedLength, lengthOf, writeRefusal, messageBytes}
+use Rattle.message.proofs.WrittenBack.{InWidth}
+use Rattle.joining.specs.Cut.{badSize}
+use Rattle.hub.specs.declared.Connection.{Connection}
+use Rattle.hub.specs.declared.Stepped.{Stepped}
+use Rattle.hub.specs.declared.Answer.the-variants.{Reply}
+use Rattle.hub.specs.Opening.{blank}
+use Rattle.hub.specs.Host.{host, stepped, requested, judged}
+use Rattle.hub.specs.Hear.{certificate, connect, isForeign, joins, heard, reportHeard}
+use Rattle.hub.proofs.Layer.{Call, Place}
+use Rattle.promises.specs.Refusals.{AreBytes}
+use Rattle.promises.specs.Written.{Wrote}
+use Rattle.promises.specs.Reports.{after, answer}
+use Rattle.promises.specs.Met.{opening, Enrolled, CanEnrol}
+use Rattle.promises.proofs.ReadBack.{steps-by-state}
+use Rattle.promises.proofs.Writes.{wrote}
+use Rattle.promises.proofs.Witness.{are-bytes}
+
+abbrev header : ℕ → Header
+header flags = record { kind = 2; flags = flags; sequence = 0; request = 0; index = 0; count = 1; session = 7; channel = 0 }
+
+widths : (flags : ℕ) → flags < 65536 → InWidth (header flags)
+widths flags l =
+    record {
+      kind = omega arith;
+      flags = l;
+      sequence = omega arith;
+      request = omega arith;
+      index = omega arith;
+      count = omega arith;
+      session = omega arith;
+      channel = omega arith;
+    }
+
+-- The end of the chain.
+abbrev end : List ℕ
+end = 0 ∷ 0 ∷ []
+
+-- A Connection Request, a Device Authentication Request with a certificate of one byte, and an Authentication Done Request.
+abbrev requestBytes : List ℕ
+requestBytes =
+    0 ∷ 0 ∷ 0 ∷ 0 ∷ 0 ∷ 32
+    ∷ (replicate 8 1 ++ (0 ∷ 0 ∷ 64 ∷ 0 ∷ 0 ∷ 32 ∷ (replicate 32 2 ++ (0 ∷ 32 ∷ replicate 32 3))))
+
+abbrev deviceBytes : List ℕ
+deviceBytes = 0 ∷ 0 ∷ 2 ∷ 0 ∷ 1 ∷ 5 ∷ 0 ∷ 0 ∷ []
+
+abbrev finishBytes : List ℕ
+finishBytes = 0 ∷ 0 ∷ 6 ∷ []
+
+module _ (keys report : List ℕ) (of-keys : AreBytes keys) (whole : length keys ≡ 64) where
+  abbrev callWith : ℕ → List ℕ → Call
+  callWith flags bytes = record { message = messageBytes (header flags) end bytes keys; keys = keys; working = replicate 96 0; verdict = 1 }
+
+  abbrev at : Connection → Place
+  at c = record { connection = c; report = report }
+
+  -- A Connect message leaves the report buffer alone.
+  unjoined : (c : Connection) (flags : ℕ) (bytes : List ℕ) → reportHeard c (header flags) bytes report ≡ report
+  unfolding reportHeard
+  unjoined c flags bytes = rw (and-false (not (isForeign c (header flags))))
+
+  -- What is heard is what the step does.
+  enrols : (c d : Connection) (flags : ℕ) (bytes : List ℕ) (t : ℕ) → badSize (c .size) ≡ false
+      → Wrote (header flags) end bytes keys (messageBytes (header flags) end bytes keys) → sealedSize (length bytes) ≤ 96
+      → heard c (header flags) bytes report 1 ≡ stepped d (Reply t)
+      → (answer (at c) (callWith flags bytes) ≡ Reply t) × (after (at c) (callWith flags bytes) ≡ at d)
+  enrols c d flags bytes t z w l e =
+      let s = steps-by-state c (header flags) end bytes keys (messageBytes (header flags) end bytes keys) w (replicate 96 0) report 1 (λ o. l) (omega arith) z in
+      let p = s .0 ∙ e in
+      let q = s .1 ∙ unjoined c flags bytes in
+      (ap (λ (s : Stepped). s .answer) p, λ i. record { connection = p i .connection; report = q i })
+
+  request-allowed : writeRefusal (header 0) end requestBytes (length keys) (lengthOf (header 0) end requestBytes) ≡ 0
+  unfolding writeRefusal badKind badFlags isSealed badPiece mostPieces badChain readChain mostEntries chain entryOf badPayload isShaped isConnectionRequest starts exchanges finishedLength
+  request-allowed = refl
+
+  device-allowed : writeRefusal (header 6) end deviceBytes (length keys) (lengthOf (header 6) end deviceBytes) ≡ 0
+  unfolding writeRefusal badKind badFlags isSealed badPiece mostPieces badChain readChain mostEntries chain entryOf badPayload isShaped isDeviceAuthentication starts finishedLength sealedSize padding
+  device-allowed = rw whole
+
+  finish-allowed : writeRefusal (header 6) end finishBytes (length keys) (lengthOf (header 6) end finishBytes) ≡ 0
+  unfolding writeRefusal badKind badFlags isSealed badPiece mostPieces badChain readChain mostEntries chain entryOf badPayload isShaped isDeviceAuthentication isDoneRequest starts finishedLength sealedSize padding
+  finish-allowed = rw whole
+
+  module _ (F : ℕ) (sized : badSize F ≡ false) where
+    abbrev waiting : Connection
+    waiting = requested (blank F) 7 (readRequest requestBytes)
+
+    abbrev passed : Connection
+    passed = judged waiting (digest (certificate deviceBytes)) 2
+
+    abbrev ready : Connection
+    ready = judged passed (passed .digest) 3
+
+    requests : heard (blank F) (header 0) requestBytes report 1 ≡ stepped waiting (Reply 1)
+    unfolding heard connect host
+    requests = refl
+
+    authenticates : heard waiting (header 6) deviceBytes report 1 ≡ stepped passed (Reply 3)
+    unfolding heard connect host
+    authenticates = refl
+
+    finishes : heard passed (header 6) finishBytes report 1 ≡ stepped ready (Reply 7)
+    unfolding heard connect host
+    finishes = refl
+
+    fits : (sealedSize 86 ≤ 96) × (sealedSize 8 ≤ 96) × (sealedSize 3 ≤ 96)
+    unfolding sealedSize padding
+    fits = (omega arith, omega arith, omega arith)
+
+    pub enrolled : Enrolled F keys report
+    enrolled =
+        let a = wrote (header 0) end requestBytes keys (widths 0 (omega arith)) (are-bytes end refl) (are-bytes requestBytes refl) of-keys request-allowed in
+        let b = wrote (header 6) end deviceBytes keys (widths 6 (omega arith)) (are-bytes end refl) (are-bytes deviceBytes refl) of-keys device-allowed in
+        let d = wrote (header 6) end finishBytes keys (widths 6 (omega arith)) (are-bytes end refl) (are-bytes finishBytes refl) of-keys finish-allowed in
+        let x = callWith 0 requestBytes in
+        let y = callWith 6 deviceBytes in
+        let z = callWith 6 finishBytes in
+        let p = enrols (blank F) waiting 0 requestBytes 1 sized a (fits .0) requests in
+        let q = enrols waiting passed 6 deviceBytes 3 sized b (fits .1) authenticates in
+        let r = enrols passed ready 6 finishBytes 7 sized d (fits .2) finishes in
+        record {
+          request = x;
+          device = y;
+          finish = z;
+          first = p .0;
+          second = ap (λ (s : Place). answer s y) (p .1) ∙ q .0;
+          third = ap (λ (s : Place). answer (after s y) z) (p .1) ∙ ap (λ (s : Place). answer s z) (q .1) ∙ r .0;
+        }
+
+pub can-enrol : CanEnrol
+can-enrol F keys report sized of-keys whole = enrolled keys report of-keys whole F sized

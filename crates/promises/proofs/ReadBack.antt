@@ -1,0 +1,86 @@
+-- Demand 2's messages: what the writer's answer and output say gives message's theorems their premises. Assumes nothing.
+use Prim.Native.Nat.{ℕ, _+_, _≤_}
+use mathlib.Core.Path.{_≡_, refl, sym, ap, _∙_}
+use mathlib.Core.List.{List, _++_}
+use mathlib.Core.Bool.{Bool, true, false, cond, _||_}
+use native.Mathlib.Omega.{arith}
+use lib.ListN.{length, take, drop}
+use lib.Seq.{take-at}
+use lib.Dec.{ltb, eqb}
+use borrow.Author.Tests.{eqb-true, le-ltb}
+use Rattle.wire.specs.Fields.{isSealed}
+use Rattle.wire.specs.declared.header.Header.{Header}
+use Rattle.wire.specs.declared.writer.Written.the-variants.{Refused, Bytes}
+use Rattle.seal.proofs.ByteLists.{AllBytes}
+use Rattle.message.specs.Writing.{lengthOf, writeRefusal, messageBytes, writeAnswer, writtenInto}
+use Rattle.message.proofs.WrittenLengths.{length-messageBytes}
+use Rattle.message.proofs.WrittenBack.{read-plain, read-sealed}
+use Rattle.message.proofs.HandedBack.{handed-plain, handed-sealed}
+use Rattle.joining.specs.Cut.{badSize}
+use Rattle.hub.specs.declared.Connection.{Connection}
+use Rattle.hub.specs.Hear.{heard, reportHeard}
+use Rattle.hub.specs.Step.{step, reportStepped}
+use Rattle.promises.specs.Refusals.{AreBytes}
+use Rattle.promises.specs.Written.{Wrote, ReadAs, LongEnough, ReadsBack, StepsByState}
+
+pub all-bytes : {m : List ℕ} → AreBytes m → AllBytes m
+all-bytes w = record { at = w }
+
+module _ (h : Header) (chain bytes keys message : List ℕ) (w : Wrote h chain bytes keys message) where
+  -- Nothing was refused, and the length is the message's.
+  passed : (writeRefusal h chain bytes (length keys) (length (w .output)) ≡ 0) × (lengthOf h chain bytes ≡ w .size)
+  unfolding writeAnswer
+  passed = by (eqb (writeRefusal h chain bytes (length keys) (length (w .output))) 0) refl
+    where
+      by : (t : Bool) → eqb (writeRefusal h chain bytes (length keys) (length (w .output))) 0 ≡ t
+          → (writeRefusal h chain bytes (length keys) (length (w .output)) ≡ 0) × (lengthOf h chain bytes ≡ w .size)
+      by true e = let k = rw e at (w .answered) in let z : lengthOf h chain bytes ≡ w .size = cc in (eqb-true _ 0 e, z)
+      by false e = let k = rw e at (w .answered) in let z : _≡_ {A = ℕ} 0 1 = cc in absurd (omega arith)
+
+  pub is-message : message ≡ messageBytes h chain bytes keys
+  unfolding writtenInto
+  is-message =
+      w .bytes
+      ∙ rw (passed .0)
+      (take-at (messageBytes h chain bytes keys) (drop (lengthOf h chain bytes) (w .output)) (w .size)
+      (length-messageBytes h chain bytes keys ∙ passed .1))
+
+  module _ (working : List ℕ) (room : LongEnough h bytes working) where
+    by-seal : (t : Bool) → isSealed (h .flags) ≡ t → ReadAs h bytes (messageBytes h chain bytes keys) keys working
+    by-seal true s =
+        let a = all-bytes (w .of-keys) in
+        let b = all-bytes (w .of-chain) in
+        let c = all-bytes (w .of-payload) in
+        record {
+          sealed = true;
+          from = 4;
+          size = length bytes;
+          reads = read-sealed h chain bytes keys (length working) (length (w .output)) (passed .0) s a b c (w .widths) (room s);
+          handed = handed-sealed h chain bytes keys working (length (w .output)) (passed .0) s a b c (w .widths) (room s);
+        }
+    by-seal false s =
+        record {
+          sealed = false;
+          from = 40 + length chain;
+          size = length bytes;
+          reads = read-plain h chain bytes keys (length working) (length (w .output)) (passed .0) s;
+          handed = handed-plain h chain bytes keys working (length (w .output)) (passed .0) s;
+        }
+
+    read-written : ReadAs h bytes message keys working
+    read-written = rw is-message (by-seal (isSealed (h .flags)) refl)
+
+pub reads-back : ReadsBack
+reads-back h chain payload keys message w working room = read-written h chain payload keys message w working room
+
+-- A step whose message is read hears it.
+pub step-hears : (c : Connection) (h : Header) (bytes m keys working report : List ℕ) (v : ℕ) → badSize (c .size) ≡ false → v ≤ 1
+    → ReadAs h bytes m keys working
+    → (step c m keys working report v ≡ heard c h bytes report v) × (reportStepped c m keys working report v ≡ reportHeard c h bytes report)
+unfolding step reportStepped
+step-hears c h bytes m keys working report v z l r =
+    (rw (le-ltb 1 v l, z, r .reads, r .handed), rw (le-ltb 1 v l, z, r .reads, r .handed))
+
+pub steps-by-state : StepsByState
+steps-by-state c h chain payload keys message w working report v room l z =
+    step-hears c h payload message keys working report v z l (reads-back h chain payload keys message w working room)

@@ -1,0 +1,175 @@
+-- What the writer does not refuse it writes; and every fragment of a report is of that kind. Assumes nothing.
+use Prim.Native.Nat.{ℕ, _+_, _*_, _≤_, _<_}
+use mathlib.Core.Path.{_≡_, refl, sym, ap, _∙_}
+use mathlib.Core.List.{List, [], _∷_, _++_}
+use mathlib.Core.Bool.{Bool, true, false, cond, not, _&&_, _||_, and-false}
+use native.Mathlib.Omega.{arith}
+use lib.ListN.{length, take, drop, replicate, length-replicate}
+use lib.Seq.{take-at}
+use lib.Dec.{ltb, leb, eqb}
+use borrow.Author.Tests.{eq-eqb, ne-eqb, le-ltb, lt-leb}
+use Rattle.laws.specs.Rows.{first}
+use Rattle.laws.proofs.Firsts.{quiet-first}
+use Rattle.wire.specs.Fields.{badKind, badFlags, badPiece, isSealed, mostPieces}
+use Rattle.wire.specs.Chain.{badChain}
+use Rattle.wire.specs.Payload.{badPayload}
+use Rattle.wire.specs.declared.header.Header.{Header}
+use Rattle.wire.specs.declared.writer.Written.the-variants.{Refused, Bytes}
+use Rattle.seal.proofs.ByteLists.{AllBytes, take-bytes, drop-bytes}
+use Rattle.message.specs.Writing.{lengthOf, writeRows, writeRefusal, messageBytes, writeAnswer, writtenInto}
+use Rattle.message.proofs.WrittenBack.{InWidth}
+use Rattle.message.proofs.WrittenLengths.{length-messageBytes}
+use Rattle.joining.specs.Heard.{most, bit}
+use Rattle.joining.specs.Report.{part}
+use Rattle.joining.specs.Cut.{pieceCount, cutRefusal, cutCount, cutPiece}
+use Rattle.joining.proofs.Cuts.{Cuttable, cuttable, not-over}
+use Rattle.joining.proofs.Courses.{Event}
+use Rattle.hub.proofs.Layer.{Call, Place}
+use Rattle.promises.specs.Refusals.{AreBytes}
+use Rattle.promises.specs.Written.{Wrote}
+use Rattle.promises.specs.Reports.{after, Sending, fragments, fragment, headerFor, Fair, Sent, Course, done, brings}
+use Rattle.promises.specs.Met.{Typed, Choice, Good, flagsOf, callFor, CanBeSent, calls, brought, AllGood, AnyOrder}
+use Rattle.promises.proofs.ReadBack.{all-bytes}
+use Rattle.promises.proofs.ReportsJoined.{each-cut, each-count}
+
+-- A call of the writer with an output that is just long enough.
+module _ (h : Header) (chain bytes keys : List ℕ) (widths : InWidth h) (of-chain : AreBytes chain) (of-bytes : AreBytes bytes) (of-keys : AreBytes keys)
+    (good : writeRefusal h chain bytes (length keys) (lengthOf h chain bytes) ≡ 0) where
+  abbrev output : List ℕ
+  output = replicate (lengthOf h chain bytes) 0
+
+  passed : writeRefusal h chain bytes (length keys) (length output) ≡ 0
+  passed = rw (length-replicate {A = ℕ} (lengthOf h chain bytes) 0) good
+
+  answered : writeAnswer h chain bytes (length keys) (length output) ≡ Bytes (lengthOf h chain bytes)
+  unfolding writeAnswer
+  answered = rw passed
+
+  written : messageBytes h chain bytes keys ≡ take (lengthOf h chain bytes) (writtenInto h chain bytes keys output)
+  unfolding writtenInto
+  written =
+      rw passed
+      (sym (take-at (messageBytes h chain bytes keys) (drop (lengthOf h chain bytes) output) (lengthOf h chain bytes) (length-messageBytes h chain bytes keys)))
+
+  pub wrote : Wrote h chain bytes keys (messageBytes h chain bytes keys)
+  wrote =
+      record {
+        widths = widths;
+        of-chain = of-chain;
+        of-payload = of-bytes;
+        of-keys = of-keys;
+        output = output;
+        size = lengthOf h chain bytes;
+        answered = answered;
+        bytes = written;
+      }
+
+-- Acknowledge and wake are free; 2 and 4 are there.
+module _ (a w : Bool) where
+  flags-free : (badFlags 4 (6 + bit a + 8 * bit w) ≡ false) × (6 + bit a + 8 * bit w ≤ 15)
+  unfolding badFlags isSealed
+  flags-free = by a w
+    where
+      by : (a w : Bool) → (badFlags 4 (6 + bit a + 8 * bit w) ≡ false) × (6 + bit a + 8 * bit w ≤ 15)
+      by true true = (refl, omega arith)
+      by true false = (refl, omega arith)
+      by false true = (refl, omega arith)
+      by false false = (refl, omega arith)
+
+module _ (s : Sending) (f : Fair s) (t : Typed s) (i : ℕ) (l : i < fragments s) where
+  abbrev F : ℕ
+  F = s .connection .size
+
+  k : Cuttable F (length (s .report)) 0
+  k = cuttable F (length (s .report)) 0 (f .cut)
+
+  is-part : fragment s i ≡ part (s .report) (F * i) F
+  is-part = rw (each-cut F (length (s .report)) (f .cut) i l)
+
+  short : length (fragment s i) ≤ 16384
+  short = rw is-part (omega (arith, not-over (s .report) (k .cut) i l, k .small))
+
+  of-fragment : AreBytes (fragment s i)
+  of-fragment = rw is-part (take-bytes F (drop (F * i) (s .report)) (drop-bytes (F * i) (s .report) (all-bytes (t .report))) .at)
+
+  counted : cutCount F (length (s .report)) i ≡ fragments s
+  counted = each-count F (length (s .report)) (f .cut) i l
+
+  few : fragments s ≤ 64
+  unfolding mostPieces
+  few = k .cut .most
+
+  placed : badPiece 4 i (cutCount F (length (s .report)) i) ≡ false
+  unfolding badPiece
+  placed =
+      rw (
+        counted,
+        ne-eqb (fragments s) 0 (λ z. omega arith),
+        le-ltb mostPieces (fragments s) (k .cut .most),
+        lt-leb (fragments s) i l,
+      )
+
+  module _ (d : Choice) (g : Good s d) where
+    abbrev h : Header
+    h = headerFor s i (d .request) (flagsOf d)
+
+    widths : InWidth h
+    widths =
+        let c = counted in
+        let n = few in
+        let u = flags-free (d .acknowledge) (d .wake) .1 in
+        record {
+          kind = omega arith;
+          flags = omega arith;
+          sequence = omega (arith, f .number);
+          request = g .request;
+          index = omega arith;
+          count = omega arith;
+          session = t .session;
+          channel = t .channel;
+        }
+
+    allowed : writeRefusal h (d .chain) (fragment s i) (length (s .keys)) (lengthOf h (d .chain) (fragment s i)) ≡ 0
+    unfolding writeRefusal badKind badPayload
+    allowed =
+        quiet-first (writeRows h (d .chain) (fragment s i) (length (s .keys)) (lengthOf h (d .chain) (fragment s i))) (
+          refl,
+          (
+            flags-free (d .acknowledge) (d .wake) .0,
+            (
+              placed,
+              (
+                g .chained,
+                (
+                  rw (eq-eqb (length (s .keys)) 64 (t .whole)) (and-false (isSealed (flagsOf d))),
+                  (
+                    refl,
+                    (
+                      le-ltb 16384 (length (fragment s i)) short,
+                      (le-ltb (lengthOf h (d .chain) (fragment s i)) (lengthOf h (d .chain) (fragment s i)) (omega arith), tt),
+                    ),
+                  ),
+                ),
+              ),
+            ),
+          ),
+        )
+
+    pub sent : Sent s i (callFor s i d)
+    sent =
+        record {
+          request = d .request;
+          flags = flagsOf d;
+          chain = d .chain;
+          written = wrote h (d .chain) (fragment s i) (s .keys) widths (g .of-chain) of-fragment (t .keys) allowed;
+          keys = refl;
+          room = g .room i l;
+          verdict = g .verdict;
+        }
+
+pub can-be-sent : (s : Sending) → CanBeSent s
+can-be-sent s f t i l d g = sent s f t i l d g
+
+pub any-order : (s : Sending) → AnyOrder s
+any-order s f t [] g p = done
+any-order s f t (d ∷ ds) g p = brings (g .0 .0) (sent s f t (d .0) (g .0 .0) (d .1) (g .0 .1)) (any-order s f t ds (g .1) (after p (callFor s (d .0) (d .1))))

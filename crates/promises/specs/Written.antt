@@ -1,0 +1,61 @@
+-- Demand 2, its messages: what is written reads back as the same fields and payload, and a step on it does what document 01 says of these in
+-- the connection's state.
+use Prim.Native.Nat.{ℕ, _≤_}
+use mathlib.Core.Path.{_≡_}
+use mathlib.Core.List.{List}
+use mathlib.Core.Bool.{Bool, true, false}
+use lib.ListN.{length, take}
+use Rattle.wire.specs.Fields.{isSealed}
+use Rattle.wire.specs.declared.header.Header.{Header}
+use Rattle.wire.specs.declared.writer.Written.the-variants.{Bytes}
+use Rattle.seal.specs.Padding.{sealedSize}
+use Rattle.message.specs.Reading.{readMessage, workingAfter}
+use Rattle.message.specs.Handed.{payload}
+use Rattle.message.specs.Writing.{writeAnswer, writtenInto}
+use Rattle.message.specs.declared.reading.MessageRead.the-variants.{Read}
+use Rattle.message.proofs.WrittenBack.{InWidth}
+use Rattle.joining.specs.Cut.{badSize}
+use Rattle.hub.specs.declared.Connection.{Connection}
+use Rattle.hub.specs.Hear.{heard, reportHeard}
+use Rattle.hub.specs.Step.{step, reportStepped}
+use Rattle.promises.specs.Refusals.{AreBytes}
+
+-- The writer, called with these fields, this chain, payload and keys, answered a length, and `message` is so many bytes of its output. (The
+-- fields have their widths and the lists are bytes: what the call's types say.)
+pub record Wrote (h : Header) (chain payload keys message : List ℕ) : Type 0 where
+  pub widths : InWidth h
+  pub of-chain : AreBytes chain
+  pub of-payload : AreBytes payload
+  pub of-keys : AreBytes keys
+  pub output : List ℕ
+  pub size : ℕ
+  pub answered : writeAnswer h chain payload (length keys) (length output) ≡ Bytes size
+  pub bytes : message ≡ take size (writtenInto h chain payload keys output)
+
+-- The reader, called with this message, these keys and this working buffer, answered these fields and where the payload lies, and there the
+-- choosing function finds these bytes.
+pub record ReadAs (h : Header) (bytes message keys working : List ℕ) : Type 0 where
+  pub sealed : Bool
+  pub from : ℕ
+  pub size : ℕ
+  pub reads : readMessage message keys (length working) ≡ Read h sealed from size
+  pub handed : payload message (workingAfter message keys working) sealed from size ≡ bytes
+
+-- A working buffer that is long enough: a sealed payload's sealed part fits it; a plain one needs none.
+abbrev pub LongEnough : Header → (payload working : List ℕ) → Type 0
+LongEnough h payload working = isSealed (h .flags) ≡ true → sealedSize (length payload) ≤ length working
+
+-- What is written reads back as the same fields and payload, with the same keys and any contents of a working buffer that is long enough.
+abbrev pub ReadsBack : Type 0
+ReadsBack =
+    (h : Header) (chain payload keys message : List ℕ) → Wrote h chain payload keys message
+    → (working : List ℕ) → LongEnough h payload working → ReadAs h payload message keys working
+
+-- Each step's answer, next connection and report buffer by the state: on a message that was written they are what `heard` and `reportHeard`
+-- (document 01's "Host states", row by row) give for its fields and payload.
+abbrev pub StepsByState : Type 0
+StepsByState =
+    (c : Connection) (h : Header) (chain payload keys message : List ℕ) → Wrote h chain payload keys message
+    → (working report : List ℕ) (verdict : ℕ) → LongEnough h payload working → verdict ≤ 1 → badSize (c .size) ≡ false
+    → (step c message keys working report verdict ≡ heard c h payload report verdict)
+    × (reportStepped c message keys working report verdict ≡ reportHeard c h payload report)
