@@ -12,15 +12,13 @@ use hub::Connection;
 use intake::least;
 use intake::refill;
 use libc::STDOUT_FILENO;
+use lines::listing::LINE;
 use lines::stream::Next;
 use lines::stream::ahead;
 use report::save;
 ghost use mathlib.Core.Path.{_≡_};
 ghost use Prim.Native.Nat.{_≤_};
 ghost use lib.ListN.{length};
-
-// The room that a line wants in the output.
-const LINE: usize = 64;
 
 // The most pieces of a report.
 const PIECES: usize = 64;
