@@ -8,6 +8,7 @@ use crate::refusal::Refusal;
 const LONGEST: usize = u16::MAX as usize;
 
 /// A connection with its keys, its verdict and both buffers.
+#[derive(Clone)]
 pub struct Player {
     connection: Connection,
     keys: [u8; 64],

@@ -22,12 +22,14 @@ pub const FRAGMENT_SIZE: u32 = 256;
 /// A file's name and its bytes.
 pub type File = (String, Vec<u8>);
 
-/// All sample files.
+/// All sample files. Five reports: some text, nothing, as much as 64 pieces hold, ten bytes, more
+/// text.
 pub fn make(seed: u64) -> Vec<File> {
     let mut prng = Prng::new(seed);
     let gateway = Gateway::new(&mut prng, 387, 64);
-    let reports = reports(&mut prng);
-    let capture = capture(&mut prng, &gateway, &reports);
+    let most = 64 * FRAGMENT_SIZE as usize;
+    let reports = [1_000, 0, most, 10, 5_000].map(|length| text(&mut prng, length)).to_vec();
+    let capture = capture(&mut prng, &gateway, FRAGMENT_SIZE, &reports);
     let mut files = vec![file("keys.bin", &gateway.keys[..])];
     files.push(file("capture.bin", &capture.bytes[..]));
     files.push(file("capture.txt", capture.lines()));
@@ -41,6 +43,15 @@ pub fn make(seed: u64) -> Vec<File> {
     }
     listings(&messages, &gateway, &mut files);
     files
+}
+
+/// A capture of the same kind that is short enough to be cut at every byte: the keys, and the bytes.
+pub fn short(seed: u64, fragment_size: u32) -> ([u8; 64], Vec<u8>) {
+    let mut prng = Prng::new(seed);
+    let gateway = Gateway::new(&mut prng, 40, 8);
+    let reports = [100, 0, 300, 10].map(|length| text(&mut prng, length));
+    let capture = capture(&mut prng, &gateway, fragment_size, &reports);
+    (gateway.keys, capture.bytes)
 }
 
 fn file(name: &str, bytes: impl Into<Vec<u8>>) -> File {
@@ -67,12 +78,6 @@ impl Script {
     }
 }
 
-/// Five reports: some text, nothing, as much as 64 pieces hold, ten bytes, more text.
-fn reports(prng: &mut Prng) -> Vec<Vec<u8>> {
-    let most = 64 * FRAGMENT_SIZE as usize;
-    [1_000, 0, most, 10, 5_000].map(|length| text(prng, length)).to_vec()
-}
-
 /// Readings of pumps, so that a recovered report can be read.
 fn text(prng: &mut Prng, length: usize) -> Vec<u8> {
     let mut text = String::new();
@@ -87,13 +92,14 @@ fn text(prng: &mut Prng, length: usize) -> Vec<u8> {
 }
 
 /// The capture: an enrolment whose replies get lost, then the reports.
-fn capture(prng: &mut Prng, gateway: &Gateway, reports: &[Vec<u8>]) -> Script {
+fn capture(prng: &mut Prng, gateway: &Gateway, size: u32, reports: &[Vec<u8>]) -> Script {
     let mut script = Script::default();
     enrolment(prng, gateway, &mut script);
     for (sequence, report) in reports.iter().enumerate() {
-        let pieces = gateway.pieces(sequence as u32, FRAGMENT_SIZE, report);
+        let pieces = gateway.pieces(sequence as u32, size, report);
         let order = order(prng, sequence, pieces.len());
-        Joining { gateway, pieces, report, came: BTreeSet::new() }.play(prng, &order, &mut script);
+        let came = BTreeSet::new();
+        Joining { gateway, size, pieces, report, came }.play(prng, &order, &mut script);
     }
     let (done, _) = &gateway.enrolment()[2];
     let mut cut = done.clone();
@@ -150,6 +156,7 @@ fn order(prng: &mut Prng, report: usize, pieces: usize) -> Vec<usize> {
 /// A report on its way, with the pieces that have come.
 struct Joining<'a> {
     gateway: &'a Gateway,
+    size: u32,
     pieces: Vec<Draft>,
     report: &'a [u8],
     came: BTreeSet<usize>,
@@ -255,7 +262,7 @@ impl Joining<'_> {
                 16
             }
             6 => {
-                draft.payload.resize(FRAGMENT_SIZE as usize + 1, 0);
+                draft.payload.resize(self.size as usize + 1, 0);
                 20
             }
             _ => {
