@@ -1,0 +1,3 @@
+// What the hub's library does not export by itself and ./bench times: chaining, and joining alone, on numbers and slices.
+pub mod chaining;
+pub mod joins;
