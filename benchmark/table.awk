@@ -100,8 +100,7 @@ function goals(    masked, both, i, many, name) {
         goal(name[i] ", 64 bytes, ÷ OpenSSL masked (goal 1.0)", ratio(name[i], 64, masked), 1)
     both = best["open", 16384, "ours"] + best["join", 16384, "memcpy"]
     limit("step, 16 KiB, time ÷ that of open and memcpy (goal at most 1.05)", best["step", 16384, "ours"] / both, 1.05)
-    for (i = 64; i <= 16384; i *= 16)
-        limit("joining a piece of " i " bytes, time ÷ C (goal at most 1.15)", 1 / ratio("join", i, "C"), 1.15)
+    limit("joining a piece of 16 KiB, time ÷ C (goal at most 1.15)", 1 / ratio("join", 16384, "C"), 1.15)
     limit("listing, time ÷ C (goal at most 1.5)", 1 / ratio("listing", 200000, "C"), 1.5)
 }
 
