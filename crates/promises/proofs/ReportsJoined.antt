@@ -21,7 +21,7 @@ use Rattle.hub.specs.declared.Answer.{Answer}
 use Rattle.hub.specs.declared.Answer.the-variants.{Refused, Reply, Again, Failure, Taken, Repeat, Complete}
 use Rattle.hub.specs.Answers.{isQuiet, isComplete}
 use Rattle.hub.proofs.Layer.{Call, Place, Brings, hub}
-use Rattle.promises.specs.Reports.{after, answer, afterAll, Sending, began, fragments, Fair, fragment, headerFor, Sent, Course, done, brings, rests, OnlyWhatCame, HandedOut, AtTheLastMissing, AtNoOther, Told, HeardCount, LaterCopies, NotBetween}
+use Rattle.promises.specs.Reports.{after, answer, afterAll, Sending, began, fragments, Fair, fragment, headerFor, Sent, Course, done, brings, rests, OnlyWhatCame, HandedOut, Brought, DemandThree, NotBetween}
 use Rattle.promises.proofs.ReadBack.{reads-back}
 
 -- What the cutter does not refuse at piece 0 it refuses at no piece under the count.
@@ -93,42 +93,43 @@ module _ (s : Sending) (f : Fair s) where
   finally p [] = refl
   finally p (x ∷ xs) = finally (after p x) xs
 
-  pub only-what-came : OnlyWhatCame s
+  only-what-came : OnlyWhatCame s
   only-what-came xs ys es ds r q e =
       sym (finally (began s) xs) ∙ only-the-set start start-fair machine (course r) (course q) e ∙ finally (began s) ys
 
-  module _ (xs : List Call) (es : List Event) (i : ℕ) (x : Call) where
-    pub at-the-last-missing : AtTheLastMissing s xs es i x
-    at-the-last-missing r l o d =
-        let b = sent-brings i l x o in
-        let z = finally (began s) xs in
+  module _ (xs : List Call) (es : List Event) (r : Course s (began s) xs es) (i : ℕ) (l : i < fragments s) (x : Call) (o : Sent s i x) where
+    b : Brings (s .connection) (coming.pieceOf start i) (coming.bytesOf start i) x
+    b = sent-brings i l x o
+
+    -- What the machine says is what the step answers.
+    answers : final machine (began s) xs ≡ afterAll (began s) xs
+    answers = finally (began s) xs
+
+    at-the-last-missing : LastMissing (fragments s) i es → HandedOut s xs es i x
+    at-the-last-missing d =
         let a = as-sent start start-fair machine (course r) i l x b d in
-        let n = sym (ap (λ (p : Place). after p x) z) ∙ a .1 in
+        let n = sym (ap (λ (p : Place). after p x) answers) ∙ a .1 in
         record {
-          answered = sym (ap (λ (p : Place). answer p x) z) ∙ handed-out start start-fair machine (course r) i l x b d;
+          answered = sym (ap (λ (p : Place). answer p x) answers) ∙ handed-out start start-fair machine (course r) i l x b d;
           whole = ap (λ (p : Place). take (length (s .report)) (p .report)) n ∙ a .2;
           long = ap (λ (p : Place). length (p .report)) n ∙ a .3;
           next = ap (λ (p : Place). p .connection) n;
         }
 
-    pub at-no-other-call : AtNoOther s xs es i x
-    at-no-other-call r l o d =
-        at-no-other start start-fair machine (course r) i l x (sent-brings i l x o)
-        (ap (λ (p : Place). isComplete (answer p x)) (finally (began s) xs) ∙ d)
-
-    pub heard-count : HeardCount s xs es i x
-    heard-count r l o =
-        let b = sent-brings i l x o in
-        let z = sym (ap (λ (p : Place). answer p x) (finally (began s) xs)) in
+    pub brought : Brought s xs es i x
+    brought =
+        let z = sym (ap (λ (p : Place). answer p x) answers) in
         record {
-          taken = λ j k n c a. z ∙ told-taken start start-fair machine (course r) i l x b a j k n c;
-          repeated = λ j k c a. z ∙ told-again start start-fair machine (course r) i l x b a j k c;
-          complete = λ d. all-told start start-fair machine (course r) i l d;
+          last = at-the-last-missing;
+          no-other = λ d. at-no-other start start-fair machine (course r) i l x b (ap isComplete (sym z) ∙ d);
+          taken = λ a j k n c. z ∙ told-taken start start-fair machine (course r) i l x b a j k n c;
+          repeated = λ a j k c. z ∙ told-again start start-fair machine (course r) i l x b a j k c;
+          counted = λ d. all-told start start-fair machine (course r) i l d;
+          late = λ d. z ∙ late-copy start start-fair machine (course r) i l x b d;
         }
 
-    pub later-copies : LaterCopies s xs es i x
-    later-copies r l o d =
-        sym (ap (λ (p : Place). answer p x) (finally (began s) xs)) ∙ late-copy start start-fair machine (course r) i l x (sent-brings i l x o) d
+pub demand-three : DemandThree
+demand-three s f = record { only = only-what-came s f; each = brought s f }
 
 pub not-between : NotBetween
 not-between (Refused n) e = refl

@@ -20,7 +20,7 @@ use Rattle.hub.specs.declared.Connection.{Connection}
 use Rattle.promises.specs.Refusals.{AreBytes}
 use Rattle.promises.specs.Reports.{Sending, began, fragments, fragment, Fair, Course, HandedOut}
 use Rattle.promises.specs.Met.{Typed, Choice, Good, callFor, calls, brought}
-use Rattle.promises.proofs.ReportsJoined.{at-the-last-missing}
+use Rattle.promises.proofs.ReportsJoined.{demand-three}
 use Rattle.promises.proofs.Writes.{can-be-sent, any-order}
 
 -- A list whose elements are tested to be bytes.
@@ -108,5 +108,5 @@ last-missing = (refl, others)
 -- Fragment 1 brings the report.
 pub ten-bytes-handed-out : HandedOut tenBytes (calls tenBytes before) (brought before) 1 (callFor tenBytes 1 choice)
 ten-bytes-handed-out =
-    at-the-last-missing tenBytes ten-bytes-fair (calls tenBytes before) (brought before) 1 (callFor tenBytes 1 choice) ten-bytes-course (omega arith)
-    (can-be-sent tenBytes ten-bytes-fair ten-bytes-typed 1 (omega arith) choice choice-good) last-missing
+    demand-three tenBytes ten-bytes-fair .each (calls tenBytes before) (brought before) ten-bytes-course 1 (omega arith) (callFor tenBytes 1 choice)
+    (can-be-sent tenBytes ten-bytes-fair ten-bytes-typed 1 (omega arith) choice choice-good) .last last-missing

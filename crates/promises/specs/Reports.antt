@@ -111,42 +111,40 @@ OnlyWhatCame s =
 
 -- After a course, a call brings fragment i.
 module _ (s : Sending) (xs : List Call) (es : List Event) (i : ℕ) (x : Call) where
-  -- "the report is handed out whole, exactly as sent, at the call that brings the last missing fragment": the answer is Complete with the
-  -- report's length and the number of fragments, the report buffer begins with the report and is as long as it was, and the connection
-  -- expects the next number, nothing of it heard, all else as it began.
+  -- "the report is handed out whole, exactly as sent": the answer is Complete with the report's length and the number of fragments, the report
+  -- buffer begins with the report and is as long as it was, and the connection expects the next number, nothing of it heard, all else as it
+  -- began.
   pub record HandedOut : Type 0 where
     pub answered : answer (afterAll (began s) xs) x ≡ Complete (length (s .report)) (fragments s)
     pub whole : take (length (s .report)) (after (afterAll (began s) xs) x .report) ≡ s .report
     pub long : length (after (afterAll (began s) xs) x .report) ≡ length (s .buffer)
     pub next : after (afterAll (began s) xs) x .connection ≡ withProgress (s .connection) (expecting (s .connection .progress .expected + 1))
 
-  abbrev pub AtTheLastMissing : Type 0
-  AtTheLastMissing =
-      Course s (began s) xs es → i < fragments s → Sent s i x → LastMissing (fragments s) i es → HandedOut
-
-  -- "at no other": where a fragment is answered Complete, it was the last missing one;
-  abbrev pub AtNoOther : Type 0
-  AtNoOther =
-      Course s (began s) xs es → i < fragments s → Sent s i x → isComplete (answer (afterAll (began s) xs) x) ≡ true
-      → LastMissing (fragments s) i es
-
-  -- "Answers: Taken, Repeat, Complete …; each also tells how many different pieces of this message have come", this one with them.
-  pub record Told : Type 0 where
-    pub taken : (j : ℕ) → j < fragments s → (j ≡ i → ⊥) → came j es ≡ false → came i es ≡ false
+  pub record Brought : Type 0 where
+    -- "at the call that brings the last missing fragment",
+    pub last : LastMissing (fragments s) i es → HandedOut
+    -- "at no other": what is answered Complete was the last missing one.
+    pub no-other : isComplete (answer (afterAll (began s) xs) x) ≡ true → LastMissing (fragments s) i es
+    -- Taken where it is new and another is missing, Repeat where it has come: "each also tells how many different pieces of this message have
+    -- come", this one with them;
+    pub taken : came i es ≡ false → (j : ℕ) → j < fragments s → (j ≡ i → ⊥) → came j es ≡ false
         → answer (afterAll (began s) xs) x ≡ Taken (howMany (fragments s) (piece i ∷ es))
-    pub repeated : (j : ℕ) → j < fragments s → came j es ≡ false → came i es ≡ true
+    pub repeated : came i es ≡ true → (j : ℕ) → j < fragments s → came j es ≡ false
         → answer (afterAll (began s) xs) x ≡ Repeat (howMany (fragments s) (piece i ∷ es))
-    pub complete : LastMissing (fragments s) i es → fragments s ≡ howMany (fragments s) (piece i ∷ es)
+    -- and Complete's number of fragments is that too.
+    pub counted : LastMissing (fragments s) i es → fragments s ≡ howMany (fragments s) (piece i ∷ es)
+    -- "later copies get 17".
+    pub late : ((j : ℕ) → j < fragments s → came j es ≡ true) → answer (afterAll (began s) xs) x ≡ Refused 17
 
-  abbrev pub HeardCount : Type 0
-  HeardCount = Course s (began s) xs es → i < fragments s → Sent s i x → Told
+-- Demand 3: a report, the keys, a connection with its fragment size, SessionID and expected number; any course of calls; and the call after it.
+pub record Delivered (s : Sending) : Type 0 where
+  pub only : OnlyWhatCame s
+  pub each : (xs : List Call) (es : List Event) → Course s (began s) xs es → (i : ℕ) → i < fragments s → (x : Call) → Sent s i x
+      → Brought s xs es i x
 
-  -- "later copies get 17".
-  abbrev pub LaterCopies : Type 0
-  LaterCopies =
-      Course s (began s) xs es → i < fragments s → Sent s i x → ((j : ℕ) → j < fragments s → came j es ≡ true)
-      → answer (afterAll (began s) xs) x ≡ Refused 17
+abbrev pub DemandThree : Type 0
+DemandThree = (s : Sending) → Fair s → Delivered s
 
--- and what is Refused or Again hands nothing out.
+-- What is Refused or Again hands nothing out.
 abbrev pub NotBetween : Type 0
 NotBetween = (a : Answer) → isQuiet a ≡ true → isComplete a ≡ false
