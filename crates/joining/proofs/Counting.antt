@@ -21,14 +21,14 @@ howMany zero es = 0
 howMany (suc n) es = howMany n es + bit (came n es)
 
 -- A set that has what has come has as many.
-come-came : (S : List Bool) (es : List Event) (n : ℕ) → n ≤ length S → ((j : ℕ) → has S j ≡ came j es) → come n S ≡ howMany n es
+pub come-came : (S : List Bool) (es : List Event) (n : ℕ) → n ≤ length S → ((j : ℕ) → has S j ≡ came j es) → come n S ≡ howMany n es
 come-came S es zero l e = refl
 come-came S es (suc n) l e =
     let b : bit (has S n) ≡ bit (came n es) = ap bit (e n) in
     omega (arith, come-next S n (omega arith), come-came S es n (omega arith) e)
 
 -- Nothing stands in a set behind its first n indexes: they are all that is counted.
-tally-come : (n : ℕ) (S : List Bool) → ((j : ℕ) → n ≤ j → has S j ≡ false) → tally S ≡ come n S
+pub tally-come : (n : ℕ) (S : List Bool) → ((j : ℕ) → n ≤ j → has S j ≡ false) → tally S ≡ come n S
 tally-come zero [] e = refl
 tally-come (suc n) [] e = refl
 tally-come zero (b ∷ bs) e =
@@ -36,7 +36,7 @@ tally-come zero (b ∷ bs) e =
     omega (arith, tally-come zero bs (λ j l. e (suc j) (omega arith)))
 tally-come (suc n) (b ∷ bs) e = omega (arith, tally-come n bs (λ j l. e (suc j) (omega arith)))
 
-or-swap : (a b : Bool) → (a || b) ≡ (b || a)
+pub or-swap : (a b : Bool) → (a || b) ≡ (b || a)
 or-swap true true = refl
 or-swap true false = refl
 or-swap false true = refl

@@ -8,3 +8,4 @@ pub mod Arriving
 pub mod Courses
 pub mod Still
 pub mod Counting
+pub mod Accepting
