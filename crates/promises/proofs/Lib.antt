@@ -10,6 +10,7 @@ pub mod Ways
 pub mod Keeping
 pub mod Known
 pub mod Repeats
+pub mod Counted
 pub mod Determined
 pub mod Witness
 pub mod Enrols

@@ -114,6 +114,18 @@ module _ (m keys w : List ℕ) (h : Header) (s : Bool) (from size : ℕ) (e : re
     unfolding payload
     plain-payload v = ap (handedBy m v) (sym plainly)
 
+-- The fields that the reader answers stand in their places.
+abbrev fieldsOf : Header → MessageRead → Header
+fieldsOf other (Refused n) = other
+fieldsOf other (Read h s from size) = h
+
+pub read-header : (m keys w : List ℕ) (h : Header) (s : Bool) (from size : ℕ) → readMessage m keys (length w) ≡ Read h s from size → headerOf m ≡ h
+read-header m keys w h s from size e = by (isSealed (be16 m 6)) refl
+  where
+    by : (t : Bool) → isSealed (be16 m 6) ≡ t → headerOf m ≡ h
+    by true f = ap (fieldsOf h) (inside m keys w h s from size e f .1)
+    by false f = ap (fieldsOf h) (plainly m keys w h s from size e f)
+
 pub read-again : (h : Header) (bytes m keys w v : List ℕ) → ReadAs h bytes m keys w
     → (sealed m keys ≡ true → length (sealedPart m (start m keys)) ≤ length v) → ReadAs h bytes m keys v
 read-again h bytes m keys w v r room = by (isSealed (be16 m 6)) refl

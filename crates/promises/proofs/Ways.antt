@@ -43,12 +43,22 @@ module _ (c : Connection) (G : Stepped → Type 0) (refused : (n : ℕ) → G (r
       by true e = refused 16
       by false e = row (eqb (h .kind) 2) _ _ (λ t. k e t) (row (joins c h) _ _ (λ t. j) (refused 15))
 
-  read-has : (m w report : List ℕ) (v : ℕ) (r : MessageRead) → ((h : Header) (p : List ℕ) → G (heard c h p report v)) → G (afterRead c m w report v r)
-  read-has m w report v (read.Refused n) all = refused n
-  read-has m w report v (read.Read h sealed from size) all = all h (payload m w sealed from size)
+  read-has : (m keys w report : List ℕ) (v : ℕ) (r : MessageRead) → readMessage m keys (length w) ≡ r
+      → ((h : Header) (s : Bool) (from size : ℕ) → readMessage m keys (length w) ≡ read.Read h s from size
+      → G (heard c h (payload m (workingAfter m keys w) s from size) report v))
+      → G (afterRead c m (workingAfter m keys w) report v r)
+  read-has m keys w report v (read.Refused n) e all = refused n
+  read-has m keys w report v (read.Read h s from size) e all = all h s from size e
+
+  -- It is enough that what was read has it.
+  pub step-read : (m keys w report : List ℕ) (v : ℕ)
+      → ((h : Header) (s : Bool) (from size : ℕ) → readMessage m keys (length w) ≡ read.Read h s from size
+      → G (heard c h (payload m (workingAfter m keys w) s from size) report v))
+      → G (step c m keys w report v)
+  unfolding step
+  step-read m keys w report v all =
+      row (ltb 1 v) _ _ (λ t. refused 25)
+      (row (badSize (c .size)) _ _ (λ t. refused 24) (read-has m keys w report v (readMessage m keys (length w)) refl all))
 
   pub step-has : (m keys w report : List ℕ) (v : ℕ) → ((h : Header) (p : List ℕ) → G (heard c h p report v)) → G (step c m keys w report v)
-  unfolding step
-  step-has m keys w report v all =
-      row (ltb 1 v) _ _ (λ t. refused 25)
-      (row (badSize (c .size)) _ _ (λ t. refused 24) (read-has m (workingAfter m keys w) report v (readMessage m keys (length w)) all))
+  step-has m keys w report v all = step-read m keys w report v (λ h s from size e. all h (payload m (workingAfter m keys w) s from size))
