@@ -6,6 +6,7 @@ use mathlib.Core.Bool.{Bool, true, false}
 use native.Mathlib.Omega.{arith}
 use mir.Val.{boolByte}
 use lib.ListN.{length, getD, set, take}
+use lib.Seq.{set-getD}
 use Rattle.joining.specs.Heard.{bit, tally, come, has, mark, none}
 
 pub bit-le : (b : Bool) → bit b ≤ 1
@@ -18,15 +19,29 @@ bit-byte true = (refl, omega arith)
 bit-byte false = (refl, omega arith)
 
 -- One index more, in order.
+pub come-suc : (h : List Bool) (i : ℕ) → come (suc i) h ≡ come i h + bit (has h i)
+come-suc [] zero = refl
+come-suc [] (suc i) = refl
+come-suc (b ∷ bs) zero = omega arith
+come-suc (b ∷ bs) (suc i) = omega (arith, come-suc bs i)
+
 pub come-next : (h : List Bool) (i : ℕ) → i < length h → come (suc i) h ≡ come i h + bit (has h i)
-come-next [] i l = absurd (omega arith)
-come-next (b ∷ bs) zero l = omega arith
-come-next (b ∷ bs) (suc i) l = omega (arith, come-next bs i (omega arith))
+come-next h i l = come-suc h i
 
 pub come-le : (n : ℕ) (h : List Bool) → come n h ≤ n
 come-le zero h = zero-le
 come-le (suc n) [] = zero-le
 come-le (suc n) (b ∷ bs) = omega (arith, bit-le b, come-le n bs)
+
+-- Those under n are some of all.
+pub come-tally : (n : ℕ) (h : List Bool) → come n h ≤ tally h
+come-tally zero h = zero-le
+come-tally (suc n) [] = zero-le
+come-tally (suc n) (b ∷ bs) = omega (arith, come-tally n bs)
+
+-- To mark what is heard changes nothing.
+pub mark-known : (h : List Bool) (i : ℕ) → has h i ≡ true → mark h i ≡ h
+mark-known h i e = ap (λ (b : Bool). set h i b) (sym e) ∙ set-getD h i false
 
 -- A new index adds one.
 pub tally-mark : (h : List Bool) (i : ℕ) → i < length h → has h i ≡ false → tally (mark h i) ≡ tally h + 1

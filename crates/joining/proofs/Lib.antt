@@ -1,9 +1,12 @@
 pub mod Heards
+pub mod Marks
 pub mod Places
 pub mod Cuts
 pub mod Refusals
 pub mod Ways
 pub mod Coming
+pub mod Buffers
+pub mod Passing
 pub mod Arriving
 pub mod Courses
 pub mod Still

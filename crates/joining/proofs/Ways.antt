@@ -1,9 +1,8 @@
 -- The ways through `advance` and `join`, over plain values. Assumes nothing.
-use Prim.Native.Nat.{ℕ, _+_, _-_, _*_, _≤_, _<_}
+use Prim.Native.Nat.{ℕ, _+_, _-_, _*_}
 use mathlib.Core.Path.{_≡_, refl, sym, _∙_}
 use mathlib.Core.List.{List}
 use mathlib.Core.Bool.{Bool, true, false}
-use native.Mathlib.Omega.{arith}
 use lib.Dec.{eqb}
 use lib.ListN.{length}
 use borrow.Author.Tests.{eq-eqb, ne-eqb}
@@ -11,28 +10,26 @@ use Rattle.joining.specs.declared.Progress.{Progress}
 use Rattle.joining.specs.declared.Piece.{Piece}
 use Rattle.joining.specs.declared.Joined.{Joined}
 use Rattle.joining.specs.declared.Arrival.the-variants.{Refused, Taken, Repeat, Complete}
-use Rattle.joining.specs.Heard.{most, tally, come, has, mark}
+use Rattle.joining.specs.Heard.{tally, come, has, mark}
 use Rattle.joining.specs.Report.{put}
-use Rattle.joining.specs.Join.{Fitting, lastOf, expecting, completes, taken, joinRefusal, join, reportAfter}
-use Rattle.joining.proofs.Heards.{tally-mark, come-mark}
+use Rattle.joining.specs.Join.{lastOf, expecting, taken, joinRefusal, join, reportAfter}
+use Rattle.joining.proofs.Heards.{mark-known}
 
-module _ (F : ℕ) (h : Progress) (p : Piece) (size : ℕ) (f : Fitting F h p size) (new : has (h .heard) (p .index) ≡ false) (long : length (h .heard) ≡ most)
-    (a n l : ℕ) (all : a ≡ tally (h .heard)) (counted : n ≡ come (p .count) (h .heard)) (ends : l ≡ lastOf h p size) where
-  marked : come (p .count) (mark (h .heard) (p .index)) ≡ n + 1
-  marked = rw counted (come-mark (p .count) (h .heard) (p .index) (f .under) (omega (arith, f .under, f .few)) new)
-
-  pub way-complete : n + 1 ≡ p .count → (q : Progress) → q ≡ expecting (h .expected + 1)
+-- A new piece: m is the set with its index, t the test that all are in it, l the last length.
+module _ (F : ℕ) (h : Progress) (p : Piece) (size : ℕ) (m : List Bool) (t : Bool) (l : ℕ) (marked : m ≡ mark (h .heard) (p .index))
+    (all : t ≡ eqb (come (p .count) m) (p .count)) (ends : l ≡ lastOf h p size) where
+  pub way-complete : t ≡ true → (q : Progress) → q ≡ expecting (h .expected + 1)
       → _≡_ {A = Joined} (record { progress = q; answer = Complete (F * (p .count - 1) + l) (p .count) }) (taken F h p size)
-  way-complete m q e = rw (marked, eq-eqb (n + 1) (p .count) m, e, ends)
+  way-complete e q d = rw (← marked, ← all, e, d, ends)
 
-  pub way-taken : (n + 1 ≡ p .count → ⊥)
+  pub way-taken : t ≡ false → (a : ℕ) → a ≡ tally m
       → _≡_ {A = Joined}
       (record {
-        progress = record { expected = h .expected; heard = mark (h .heard) (p .index); count = p .count; channel = p .channel; last = l };
-        answer = Taken (a + 1);
+        progress = record { expected = h .expected; heard = m; count = p .count; channel = p .channel; last = l };
+        answer = Taken a;
       })
       (taken F h p size)
-  way-taken m = rw (marked, ne-eqb (n + 1) (p .count) m, ends, tally-mark (h .heard) (p .index) (omega (arith, f .under, f .few)) new, all)
+  way-taken e a d = rw (← marked, ← all, e, d, ends)
 
 module _ (F : ℕ) (h : Progress) (p : Piece) (bytes report : List ℕ) (r : ℕ) (given : r ≡ joinRefusal F h p bytes report) where
   -- The answer, what is remembered and the report buffer are those of the definitions.
@@ -44,10 +41,11 @@ module _ (F : ℕ) (h : Progress) (p : Piece) (bytes report : List ℕ) (r : ℕ
   way-refused m = (rw (← given, ne-eqb r 0 m), rw (← given, ne-eqb r 0 m))
 
   module _ (none : r ≡ 0) where
-    pub way-repeat : has (h .heard) (p .index) ≡ true → (n : ℕ) → n ≡ tally (h .heard)
+    pub way-repeat : has (h .heard) (p .index) ≡ true → (n : ℕ) → n ≡ tally (mark (h .heard) (p .index))
         → Joins (record { progress = h; answer = Repeat n }) report
     unfolding join reportAfter
-    way-repeat k n e = (rw (← given, eq-eqb r 0 none, k, e), rw (← given, eq-eqb r 0 none, k))
+    way-repeat k n e =
+        (rw (← given, eq-eqb r 0 none, k, e, mark-known (h .heard) (p .index) k), rw (← given, eq-eqb r 0 none, k))
 
     pub way-new : has (h .heard) (p .index) ≡ false → (j : Joined) → j ≡ taken F h p (length bytes) → (b : List ℕ) → b ≡ put report (F * p .index) bytes
         → Joins j b

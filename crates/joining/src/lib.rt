@@ -4,11 +4,12 @@ pub mod cut;
 mod heard;
 
 ghost use mathlib.Core.Path.{_≡_};
-ghost use mathlib.Core.Bool.{cond, false};
+ghost use mathlib.Core.Bool.{cond};
+ghost use lib.Dec.{eqb};
 ghost use Prim.Native.Nat.{ℕ, _<_, _≤_, _+_, _*_};
 ghost use lib.ListN.{length};
 ghost use Rattle.laws.specs.Rows.{first};
-ghost use Rattle.joining.specs.Heard.{has, most};
+ghost use Rattle.joining.specs.Heard.{come, mark, most, tally};
 ghost use Rattle.joining.specs.Join.{badIndex, unlike, misfit, conflict, join, reportAfter, expecting, turnRows, joinRefusal, taken, isLast, Fitting};
 ghost use Rattle.joining.specs.Report.{put};
 use heard::PIECES;
@@ -60,15 +61,17 @@ fn bad_index(count: usize, index: usize) -> bool
     (PIECES < count) | (count <= index)
 }
 
+// The heard set is lent beside what else is remembered: read in place it is not copied at each call.
+
 // 21 applies: count or channel is unlike that of the first piece taken.
-fn unlike(held: Progress, piece: Piece) -> bool
+fn unlike(held: Progress, heard: &[bool; PIECES], piece: Piece) -> bool
+    requires { ⌜ (now heard ≡ held .heard) × (length (now heard) ≡ most) ⌝ }
     ensures { λ r. ⌜ r ≡ unlike held piece ⌝ }
 {
     if (held.count == piece.count) & (held.channel == piece.channel) {
         return false;
     }
-    let heard = held.heard;
-    heard::count_all(heard) != 0
+    heard::count_heard(heard, PIECES) != 0
 }
 
 // 20 applies: the piece's size is not that of its place.
@@ -94,13 +97,19 @@ fn due(size: usize, last: u16, piece: Piece) -> usize
 }
 
 // 23 applies: the index is heard, and the bytes or their number are not those that were taken.
-fn conflict(size: usize, held: Progress, piece: Piece, payload: &[u8], report: &[u8]) -> bool
-    requires { ⌜ (piece .index < piece .count) × (piece .count ≤ most) × (size * piece .index + length (now payload) ≤ length (now report)) ⌝ }
+fn conflict(
+    size: usize,
+    held: Progress,
+    heard: &[bool; PIECES],
+    piece: Piece,
+    payload: &[u8],
+    report: &[u8],
+) -> bool
+    requires { ⌜ (now heard ≡ held .heard) × (piece .index < piece .count) × (piece .count ≤ most) × (size * piece .index + length (now payload) ≤ length (now report)) ⌝ }
     ensures { λ r. ⌜ r ≡ conflict size held piece (now (payload .entry)) (now (report .entry)) ⌝ }
 {
     let index = piece.index;
-    let is_heard = held.heard[index];
-    if !is_heard {
+    if !heard[index] {
         return false;
     }
     if payload.len() != due(size, held.last, piece) {
@@ -134,14 +143,22 @@ fn turn(size: usize, expected: u32, piece: Piece) -> u8
 }
 
 // The first refusal that applies, 0 where none does.
-fn refusal(size: usize, held: Progress, piece: Piece, payload: &[u8], report: &[u8]) -> u8
+fn refusal(
+    size: usize,
+    held: Progress,
+    heard: &[bool; PIECES],
+    piece: Piece,
+    payload: &[u8],
+    report: &[u8],
+) -> u8
+    requires { ⌜ (now heard ≡ held .heard) × (length (now heard) ≡ most) ⌝ }
     ensures { λ r. ⌜ r ≡ joinRefusal size held piece (now (payload .entry)) (now (report .entry)) ⌝ }
 {
     let early = turn(size, held.expected, piece);
     if early != 0 {
         return early;
     }
-    if unlike(held, piece) {
+    if unlike(held, heard, piece) {
         return refusals::UNLIKE_FIRST_PIECE;
     }
     if misfit(size, piece, payload.len()) {
@@ -150,7 +167,7 @@ fn refusal(size: usize, held: Progress, piece: Piece, payload: &[u8], report: &[
     if report.len() < size * piece.index + payload.len() {
         return refusals::NO_ROOM;
     }
-    if conflict(size, held, piece, payload, report) {
+    if conflict(size, held, heard, piece, payload, report) {
         return refusals::UNLIKE_REPEAT;
     }
     0
@@ -175,18 +192,32 @@ fn last_of(last: u16, piece: Piece, given: usize) -> u16
     last
 }
 
-// A new piece of so many bytes is counted: with it its message is complete or not.
-fn advance(size: usize, held: Progress, piece: Piece, given: usize) -> Joined
-    requires { ⌜ (has (held .heard) (piece .index) ≡ false) × Fitting size held piece given ⌝ }
+// Every index under the count is in this set of so many. Where these are fewer, the set need not be looked at.
+fn completes(heard: [bool; PIECES], all: usize, count: usize) -> bool
+    requires { ⌜ (all ≡ tally heard) × (count ≤ most) ⌝ }
+    ensures { λ r. ⌜ r ≡ eqb (come count heard) count ⌝ }
+{
+    if all < count {
+        return false;
+    }
+    heard::count_heard(&heard, count) == count
+}
+
+// A new piece of so many bytes is counted, `heard` being the set with it, of so many: with it its message is complete or not.
+fn advance(
+    size: usize,
+    held: Progress,
+    piece: Piece,
+    given: usize,
+    heard: [bool; PIECES],
+    all: usize,
+) -> Joined
+    requires { ⌜ (heard ≡ mark (held .heard) (piece .index)) × (all ≡ tally heard) × Fitting size held piece given ⌝ }
     ensures { λ r. ⌜ r ≡ taken size held piece given ⌝ }
 {
-    let index = piece.index;
     let count = piece.count;
-    let mut heard = held.heard;
-    let all = heard::count_all(heard) + 1;
-    let come = heard::count_heard(heard, count) + 1;
     let last = last_of(held.last, piece, given);
-    if come == count {
+    if completes(heard, all, count) {
         let length = size * (count - 1) + last as usize;
         return Joined {
             progress: Progress::expecting(held.expected + 1),
@@ -196,7 +227,6 @@ fn advance(size: usize, held: Progress, piece: Piece, given: usize) -> Joined
             },
         };
     }
-    heard[index] = true;
     Joined {
         progress: Progress {
             expected: held.expected,
@@ -228,7 +258,8 @@ impl Progress {
         ensures { λ r. ⌜ r ≡ join size self piece (now (payload .entry)) (now (report .entry)) ⌝ }
         ensures { λ _. ⌜ now (report .exit) ≡ reportAfter size self piece (now (payload .entry)) (now (report .entry)) ⌝ }
     {
-        let refused = refusal(size, self, piece, payload, report);
+        let heard = self.heard;
+        let refused = refusal(size, self, &heard, piece, payload, report);
         if refused != 0 {
             return Joined {
                 progress: self,
@@ -236,14 +267,16 @@ impl Progress {
             };
         }
         let index = piece.index;
-        let heard = self.heard;
+        let marked = heard::mark(heard, index);
+        let next = marked.heard;
+        let all = marked.all as usize;
         if heard[index] {
             return Joined {
                 progress: self,
-                answer: Arrival::Repeat(heard::count_all(heard)),
+                answer: Arrival::Repeat(all),
             };
         }
         store(report, size * index, payload);
-        advance(size, self, piece, payload.len())
+        advance(size, self, piece, payload.len(), next, all)
     }
 }

@@ -1,5 +1,7 @@
 -- A piece that was heard must be as long as the one taken and have its bytes.
+use mathlib.Core.Path.{_≡_, sym, ap}
 use mathlib.Core.Bool.{Bool}
+use mathlib.Core.List.{List}
 use native.Mathlib.Nat.{add-sub-cancel-left}
 use borrow.Author.Tests.{eq-eqb, ne-eqb, not-true, not-false}
 use borrow.Author.Needs.{needs}
@@ -8,16 +10,19 @@ use Rattle.wire.specs.Fields.{mostPieces}
 use Rattle.joining.proofs.conflict.Statement.{statement}
 use Rattle.joining.proofs.conflict.Tie as tie
 
--- The index is heard.
+-- The index is heard, in what was lent and in what is remembered.
 abbrev heard : tie.Start → Bool
-heard c = has (c .args .t2 .heard) (c .args .piece .index)
+heard c = has (c .args .heard .now) (c .args .piece .index)
 
-element-copy-out-is-heard : tie.Need-element-copy-out-is-heard
+known : (c : tie.Start) → has (c .args .held .heard) (c .args .piece .index) ≡ heard c
+known c = ap (λ (l : List Bool). has l (c .args .piece .index)) (sym (c .pre .0))
+
+element-copy-out-if1 : tie.Need-element-copy-out-if1
 unfolding mostPieces
-element-copy-out-is-heard c = search needs
+element-copy-out-if1 c = search needs
 
 returns : tie.Need-returns
-returns c = rw (not-true (heard (c .before .before .before .before)) (c .if1 .taken))
+returns c = let s = c .before .before .before .before in rw (known s, not-true (heard s) (c .if1 .taken))
 
 due-requires : tie.Need-due-requires
 due-requires c κs = search needs
@@ -25,7 +30,8 @@ due-requires c κs = search needs
 returns-2 : tie.Need-returns-2
 returns-2 c =
     let i = c .before .before in
-    rw (not-false (heard (i .before .before .before .before)) (i .if1 .left), ← (c .before .due .ensures), ne-eqb _ _ (c .if2 .taken))
+    let s = i .before .before .before .before in
+    rw (known s, not-false (heard s) (i .if1 .left), ← (c .before .due .ensures), ne-eqb _ _ (c .if2 .taken))
 
 mul-start : tie.Need-mul-start
 mul-start c = search needs
@@ -49,13 +55,14 @@ returns-3 : tie.Need-returns-3
 returns-3 c =
     let l = c .before .before in
     let i = l .before .before in
-    rw (not-false (heard (i .before .before .before .before)) (i .if1 .left), ← (l .before .due .ensures), eq-eqb _ _ (l .if2 .left), c .alike .ensures, add-sub-cancel-left)
+    let s = i .before .before .before .before in
+    rw (known s, not-false (heard s) (i .if1 .left), ← (l .before .due .ensures), eq-eqb _ _ (l .if2 .left), c .alike .ensures, add-sub-cancel-left)
 
 pub conflict-spec : {M : Type 1} → statement M
 conflict-spec =
     tie.close
     (tie.spec
-    element-copy-out-is-heard
+    element-copy-out-if1
     returns
     due-requires
     returns-2

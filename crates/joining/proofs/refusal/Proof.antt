@@ -77,7 +77,7 @@ returns-4 c =
 conflict-requires : tie.Need-conflict-requires
 conflict-requires c κs =
     let k = known (c .before .before .before .before .before .before) in
-    (k .under, k .few, c .if4 .left)
+    (entry (c .before .before .before .before .before .before) .pre .0, k .under, k .few, c .if4 .left)
 
 returns-5 : tie.Need-returns-5
 returns-5 c =

@@ -1,10 +1,13 @@
 -- The heard set is looked at only where count or channel differs: else there is nothing to tell.
-use mathlib.Core.Path.{_≡_, refl, sym}
+use mathlib.Core.Path.{_≡_, refl, sym, ap, _∙_}
+use native.Mathlib.Omega.{arith}
+use lib.Seq.{take-all}
+use Rattle.wire.specs.Fields.{mostPieces}
 use mathlib.Core.Bool.{Bool, true, false, not, _&&_, _||_, and-false}
 use lib.Dec.{eqb}
 use borrow.Author.Needs.{needs}
 use Rattle.laws.proofs.Bools.{and-true}
-use Rattle.joining.specs.Heard.{tally}
+use Rattle.joining.specs.Heard.{most, tally}
 use Rattle.joining.proofs.unlike.Statement.{statement}
 use Rattle.joining.proofs.unlike.Tie as tie
 
@@ -31,13 +34,17 @@ returns c =
     let s = c .before .before .before .before .before in
     alike (any s) (like-count s) (like-channel s) (c .if1 .taken)
 
-count-all-requires : tie.Need-count-all-requires
-count-all-requires c κs = search needs
+count-heard-requires : tie.Need-count-heard-requires
+unfolding mostPieces
+count-heard-requires c κs = search needs
 
 returns-2 : tie.Need-returns-2
+unfolding mostPieces
 returns-2 c =
-    let s = c .before .before .before .before .before .before .before in
-    rw (c .count-all .ensures .0) (differs (any s) (like-count s) (like-channel s) (c .before .before .if1 .left))
+    let s = c .before .before .before .before .before .before in
+    let e : c .count-heard .result ≡ tally (s .args .held .heard) =
+    c .count-heard .ensures ∙ ap tally (take-all most (s .args .heard .now) (omega (arith, s .pre .1)) ∙ s .pre .0) in
+    rw e (differs (any s) (like-count s) (like-channel s) (c .before .if1 .left))
 
 pub unlike-spec : {M : Type 1} → statement M
-unlike-spec = tie.close (tie.spec returns count-all-requires returns-2)
+unlike-spec = tie.close (tie.spec returns count-heard-requires returns-2)

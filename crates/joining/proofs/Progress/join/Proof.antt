@@ -1,9 +1,10 @@
 -- A refusal, a Repeat or a new piece: each is one way of the definitions.
 use Prim.Native.Nat.{_+_, _*_, _≤_}
-use mathlib.Core.Path.{sym, _∙_}
+use mathlib.Core.Path.{refl, sym, ap, _∙_}
 use native.Mathlib.Omega.{arith}
 use lib.ListN.{length}
 use borrow.Author.Needs.{needs}
+use Rattle.joining.specs.Heard.{tally}
 use Rattle.joining.specs.Join.{Fitting}
 use Rattle.wire.specs.Fields.{mostPieces}
 use Rattle.joining.proofs.Refusals.{fitting}
@@ -12,7 +13,7 @@ use Rattle.joining.proofs.Progress.join.Statement.{statement}
 use Rattle.joining.proofs.Progress.join.Tie as tie
 
 abbrev entry : tie.Else1 → tie.Start
-entry c = c .before .before .before .before .before
+entry c = c .before .before .before .before .before .before .before
 
 -- What no row refuses fits.
 known : (c : tie.Else1) → let s = entry c .args in
@@ -22,41 +23,49 @@ known c =
     fitting (s .size) (s .self) (s .piece) (s .payload .now) (s .report .now) (sym (c .before .refusal .ensures) ∙ c .if1 .left)
 
 refusal-requires : tie.Need-refusal-requires
-refusal-requires c κs = search needs
+unfolding mostPieces
+refusal-requires c κs = (refl, search needs)
 
 same-length : tie.Need-same-length
 same-length c = search needs
 
 returns : tie.Need-returns
 returns c =
-    let s = c .before .before .before .before .before .args in
+    let s = c .before .before .before .before .before .before .before .args in
     way-refused (s .size) (s .self) (s .piece) (s .payload .now) (s .report .now) _ (c .before .refusal .ensures) (c .if1 .taken)
+
+mark-requires : tie.Need-mark-requires
+mark-requires c κs = let k = known c .0 in omega (arith, k .under, k .few)
+
+cast-all : tie.Need-cast-all
+cast-all c = search needs
 
 array-read-if2 : tie.Need-array-read-if2
 unfolding mostPieces
-array-read-if2 c = let k = known (c .before) in let u = k .0 .under in let f = k .0 .few in search needs
-
-count-all-requires : tie.Need-count-all-requires
-count-all-requires c κs = search needs
+array-read-if2 c = let k = known (c .before .before .before) in let u = k .0 .under in let f = k .0 .few in search needs
 
 same-length-2 : tie.Need-same-length-2
 same-length-2 c = search needs
 
 returns-2 : tie.Need-returns-2
 returns-2 c =
-    let r = c .before .before .before in
+    let m = c .before .before .before in
+    let r = m .before in
     let s = entry r .args in
     way-repeat (s .size) (s .self) (s .piece) (s .payload .now) (s .report .now) _ (r .before .refusal .ensures) (r .if1 .left)
-    (c .before .if2 .taken) _ (c .count-all .ensures .0)
+    (c .if2 .taken) _ (m .mark .ensures .1)
 
 mul-store : tie.Need-mul-store
-mul-store c = let k = known (c .before .before .before) in omega (arith, k .1)
+mul-store c = let k = known (c .before .before .before .before .before) in omega (arith, k .1)
 
 store-requires : tie.Need-store-requires
-store-requires c κs = known (c .before .before .before) .1
+store-requires c κs = known (c .before .before .before .before .before) .1
 
 advance-requires : tie.Need-advance-requires
-advance-requires c κs = let t = c .before .before .before .before in (t .if2 .left, known (t .before .before) .0)
+advance-requires c κs =
+    let m = c .before .before .before .before .before .before .before in
+    let e = m .mark .ensures in
+    (e .0, e .1 ∙ ap tally (sym (e .0)), known (m .before) .0)
 
 same-length-3 : tie.Need-same-length-3
 same-length-3 c = search needs
@@ -64,7 +73,7 @@ same-length-3 c = search needs
 returns-3 : tie.Need-returns-3
 returns-3 c =
     let t = c .before .before .before .before .before in
-    let r = t .before .before in
+    let r = t .before .before .before .before in
     let s = entry r .args in
     way-new (s .size) (s .self) (s .piece) (s .payload .now) (s .report .now) _ (r .before .refusal .ensures) (r .if1 .left)
     (t .if2 .left) _ (c .advance .ensures) _ (c .before .before .before .store .ensures)
@@ -76,8 +85,9 @@ join-spec =
     refusal-requires
     same-length
     returns
+    mark-requires
+    cast-all
     array-read-if2
-    count-all-requires
     same-length-2
     returns-2
     mul-store

@@ -1,39 +1,44 @@
--- All bytes passed are alike.
-use Prim.Native.Nat.{ℕ, _≤_, _<_, _-_}
-use mathlib.Core.Path.{_≡_, sym, ap}
+-- What is told so far is of the bytes passed.
+use Prim.Native.Nat.{ℕ, _+_, _≤_, _<_, _-_}
+use mathlib.Core.Bool.{Bool, _&&_}
+use mathlib.Core.Path.{_≡_, sym, ap, ap₂, _∙_}
 use mathlib.Core.List.{List}
 use native.Mathlib.Omega.{arith}
-use lib.ListN.{length, getD}
-use lib.Seq.{ext-getD}
+use native.Mathlib.Numerals.{add-one}
+use lib.Dec.{eqb}
+use lib.ListN.{length, getD, take}
+use lib.Seq.{take-all, take-suc, length-take-le}
 use borrow.Author.Needs.{needs}
-use borrow.Author.Count.{below-more}
-use Rattle.laws.proofs.Sames.{eq→same, ne→same}
+use Rattle.laws.specs.Same.{same}
+use Rattle.laws.proofs.Sames.{same-length, same-snoc}
 use Rattle.joining.proofs.compare.alike.Statement.{statement}
 use Rattle.joining.proofs.compare.alike.Tie as tie
 
+-- One byte more.
+more : (xs ys : List ℕ) (t : Bool) (i : ℕ) → i < length xs → i < length ys → t ≡ same (take i xs) (take i ys)
+    → (t && eqb (getD xs i 0) (getD ys i 0)) ≡ same (take (i + 1) xs) (take (i + 1) ys)
+more xs ys t i hx hy e =
+    let l : length (take i xs) ≡ length (take i ys) = length-take-le i xs (omega arith) ∙ sym (length-take-le i ys (omega arith)) in
+    ap (λ (b : Bool). b && eqb (getD xs i 0) (getD ys i 0)) e ∙ sym (same-snoc (take i xs) (take i ys) (getD xs i 0) (getD ys i 0) l)
+    ∙ rw add-one (ap₂ same (sym (take-suc xs i 0 hx)) (sym (take-suc ys i 0 hy)))
+
 abbrev Inv-loop : tie.InvT-loop
-Inv-loop a b i₀ i = (i ≤ length a) × (length a ≡ length b) × ((k : ℕ) → k < i → getD a k 0 ≡ getD b k 0)
+Inv-loop a b are₀ i₀ are i = (i ≤ length a) × (length a ≡ length b) × (are ≡ same (take i a) (take i b))
 
 abbrev μ-loop : tie.MeasureT-loop
-μ-loop a b i₀ i = length a - i
+μ-loop a b are₀ i₀ are i = length a - i
 
 returns : tie.Need-returns Inv-loop μ-loop
-returns c = let s = c .before .args in sym (ne→same (s .a .now) (s .b .now) (λ e. c .if1 .taken (ap length e)))
+returns c = let s = c .before .args in sym (same-length (s .a .now) (s .b .now) (c .if1 .taken))
 
 loop-holds : tie.Need-loop-holds Inv-loop μ-loop
 loop-holds c = search needs
 
-shared-slice-read-if2 : tie.Need-shared-slice-read-if2 Inv-loop μ-loop
-shared-slice-read-if2 c = search needs
+shared-slice-read-are : tie.Need-shared-slice-read-are Inv-loop μ-loop
+shared-slice-read-are c = search needs
 
-shared-slice-read-if2-2 : tie.Need-shared-slice-read-if2-2 Inv-loop μ-loop
-shared-slice-read-if2-2 c = search needs
-
-returns-2 : tie.Need-returns-2 Inv-loop μ-loop
-returns-2 c =
-    let t = c .before .before .before .before in
-    let s = t .before .before .args in
-    sym (ne→same (s .a .now) (s .b .now) (λ e. c .if2 .taken (ap (λ (l : List ℕ). getD l (t .loop .i) 0) e)))
+shared-slice-read-are-2 : tie.Need-shared-slice-read-are-2 Inv-loop μ-loop
+shared-slice-read-are-2 c = search needs
 
 add-i : tie.Need-add-i Inv-loop μ-loop
 add-i c = search needs
@@ -42,14 +47,18 @@ loop-less : tie.Need-loop-less Inv-loop μ-loop
 loop-less c = search needs
 
 loop-again : tie.Need-loop-again Inv-loop μ-loop
-loop-again c = (search needs, search needs, below-more _ _ (c .before .before .before .before .loop .inv .2) (c .if2 .left))
+loop-again c =
+    let s = c .before .before .before in
+    let a = s .before .before .args in
+    (search needs, search needs, more (a .a .now) (a .b .now) (s .loop .are) (s .loop .i) (omega arith) (omega arith) (s .loop .inv .2))
 
-returns-3 : tie.Need-returns-3 Inv-loop μ-loop
-returns-3 c =
-    let s = c .before .before .before .args in
-    sym (eq→same (s .a .now) (s .b .now) (ext-getD 0 (s .a .now) (s .b .now) (c .before .loop .inv .1) (λ k h. c .before .loop .inv .2 k (omega arith))))
+returns-2 : tie.Need-returns-2 Inv-loop μ-loop
+returns-2 c =
+    let s = c .before in
+    let a = s .before .before .args in
+    s .loop .inv .2 ∙ ap₂ same (take-all (s .loop .i) (a .a .now) (omega arith)) (take-all (s .loop .i) (a .b .now) (omega arith))
 
 pub alike-spec : {M : Type 1} → statement M
 alike-spec =
     tie.close
-    (tie.spec Inv-loop μ-loop returns loop-holds shared-slice-read-if2 shared-slice-read-if2-2 returns-2 add-i loop-less loop-again returns-3)
+    (tie.spec Inv-loop μ-loop returns loop-holds shared-slice-read-are shared-slice-read-are-2 add-i loop-less loop-again returns-2)

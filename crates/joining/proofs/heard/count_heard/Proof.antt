@@ -8,28 +8,29 @@ use lib.ListN.{getD}
 use borrow.Author.Needs.{needs}
 use Rattle.joining.specs.Heard.{come}
 use Rattle.wire.specs.Fields.{mostPieces}
-use Rattle.joining.proofs.Heards.{come-next, bit-byte}
+use Rattle.joining.proofs.Heards.{come-suc, bit-byte}
 use Rattle.joining.proofs.heard.count_heard.Statement.{statement}
 use Rattle.joining.proofs.heard.count_heard.Tie as tie
 
 abbrev Inv-loop : tie.InvT-loop
-Inv-loop count heard n₀ i₀ n i = (n ≡ come i heard) × (n ≤ i) × (i ≤ count)
+Inv-loop heard count n₀ i₀ n i = (n ≡ come i heard) × (n ≤ i) × (i ≤ count)
 
 abbrev μ-loop : tie.MeasureT-loop
-μ-loop count heard n₀ i₀ n i = count - i
+μ-loop heard count n₀ i₀ n i = count - i
 
 loop-holds : tie.Need-loop-holds Inv-loop μ-loop
 loop-holds c = search needs
 
-array-read-n : tie.Need-array-read-n Inv-loop μ-loop
+element-copy-out-n : tie.Need-element-copy-out-n Inv-loop μ-loop
 unfolding mostPieces
-array-read-n c = search needs
+element-copy-out-n c = search needs
 
 cast-n : tie.Need-cast-n Inv-loop μ-loop
 cast-n c = search needs
 
 add-n : tie.Need-add-n Inv-loop μ-loop
-add-n c = let s = c .before in omega (arith, bit-byte (getD (s .before .args .t1) (s .loop .i) false))
+unfolding mostPieces
+add-n c = let s = c .before .before in omega (arith, bit-byte (getD (s .before .args .heard .now) (s .loop .i) false))
 
 add-i : tie.Need-add-i Inv-loop μ-loop
 add-i c = omega arith
@@ -40,18 +41,22 @@ loop-less c = omega arith
 loop-again : tie.Need-loop-again Inv-loop μ-loop
 unfolding mostPieces
 loop-again c =
-    let s = c .before in
-    let h = s .before .args .t1 in
+    let s = c .before .before in
+    let h = s .before .args .heard .now in
     let i = s .loop .i in
     let b = bit-byte (getD h i false) in
-    (rw (add-one i) (omega (arith, come-next h i (omega arith))), omega arith, omega arith)
+    (rw (add-one i) (omega (arith, come-suc h i)), omega arith, omega arith)
+
+cast-result : tie.Need-cast-result Inv-loop μ-loop
+cast-result c = search needs
 
 returns : tie.Need-returns Inv-loop μ-loop
-unfolding mostPieces
 returns c =
     let s = c .before in
     let e : s .loop .i ≡ s .before .args .count = omega arith in
-    (s .loop .inv .0 ∙ ap (λ (k : ℕ). come k (s .before .args .t1)) e, search needs, omega arith)
+    s .loop .inv .0 ∙ ap (λ (k : ℕ). come k (s .before .args .heard .now)) e
 
 pub count-heard-spec : {M : Type 1} → statement M
-count-heard-spec = tie.close (tie.spec Inv-loop μ-loop loop-holds array-read-n cast-n add-n add-i loop-less loop-again returns)
+count-heard-spec =
+    tie.close
+    (tie.spec Inv-loop μ-loop loop-holds element-copy-out-n cast-n add-n add-i loop-less loop-again cast-result returns)

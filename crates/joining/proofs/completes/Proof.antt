@@ -1,0 +1,23 @@
+-- A set of fewer than `count` has not all indexes under it.
+use mathlib.Core.Path.{_≡_, sym}
+use native.Mathlib.Omega.{arith}
+use borrow.Author.Needs.{needs}
+use borrow.Author.Tests.{ne-eqb}
+use Rattle.joining.specs.Heard.{come}
+use Rattle.joining.proofs.Heards.{come-tally}
+use Rattle.joining.proofs.completes.Statement.{statement}
+use Rattle.joining.proofs.completes.Tie as tie
+
+returns : tie.Need-returns
+returns c =
+    let a = c .before .args in
+    sym (ne-eqb _ _ (λ (e : come (a .count) (a .t1) ≡ a .count). omega (arith, come-tally (a .count) (a .t1), c .before .pre .0)))
+
+count-heard-requires : tie.Need-count-heard-requires
+count-heard-requires c κs = search needs
+
+returns-2 : tie.Need-returns-2
+returns-2 c = rw (c .count-heard .ensures)
+
+pub completes-spec : {M : Type 1} → statement M
+completes-spec = tie.close (tie.spec returns count-heard-requires returns-2)
