@@ -1,10 +1,10 @@
 -- What has a digest, and which. Assumes nothing.
-use mathlib.Core.Path.{_≡_, _∙_, sym, ap, refl}
+use mathlib.Core.Path.{_≡_, _∙_, sym, ap}
 use mathlib.Core.Bool.{true, false, cond}
 use mathlib.Core.List.{List, _++_, append-assoc}
 use Prim.Native.Nat.{ℕ, _+_, _^_}
 use lib.Dec.{ltb}
-use lib.ListN.{length, replicate, length-append}
+use lib.ListN.{length, replicate}
 use Rattle.sha256.specs.declared.rounds.Vars.{Vars}
 use Rattle.sha256.specs.Constants.{H0}
 use Rattle.sha256.specs.Compression.{compress, hashed}

@@ -1,12 +1,11 @@
 -- A key filled up to a block, and masked. Assumes nothing.
 use mathlib.Core.Path.{_≡_, _∙_, sym, ap, ap₂, refl}
 use mathlib.Core.List.{List, [], _∷_, _++_}
-use Prim.Native.Nat.{ℕ, zero, suc, _+_, _-_, _<_, _≤_}
+use Prim.Native.Nat.{ℕ, zero, suc, _+_, _-_, _<_}
 use native.Mathlib.Nat.{sub-zero, zero-sub, suc-sub-suc}
 use native.Mathlib.Numerals.{add-one}
-use native.Mathlib.Omega.{arith}
 use lib.Bits.{bitXor}
-use lib.ListN.{getD, length, take, drop, set, replicate, length-append, length-replicate}
+use lib.ListN.{getD, length, take, drop, set, replicate}
 use lib.Seq.{take-length, take-suc, take-suc-set}
 use Rattle.sha256.specs.Macs.{filled, masked}
 
@@ -32,12 +31,3 @@ masked-more pad i key b hk hb e =
     rw add-one
     (take-suc-set b i (bitXor (getD key i 0) pad) hb ∙ ap (λ (l : List ℕ). l ++ (bitXor (getD key i 0) pad ∷ [])) e
     ∙ sym (masked-snoc pad (getD key i 0) (take i key)) ∙ ap (masked pad) (sym (take-suc key i 0 hk)))
-
-pub length-masked : (pad : ℕ) (xs : List ℕ) → length (masked pad xs) ≡ length xs
-unfolding masked
-length-masked pad [] = refl
-length-masked pad (x ∷ xs) = ap suc (length-masked pad xs)
-
-pub length-filled : (key : List ℕ) → length key ≤ 64 → length (filled key) ≡ 64
-unfolding filled
-length-filled key h = length-append key (replicate (64 - length key) 0) ∙ omega (arith, length-replicate {A = ℕ} (64 - length key) 0)

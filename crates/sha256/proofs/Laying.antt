@@ -1,5 +1,5 @@
 -- Parts laid over a block one after the other are their concatenation laid over it. Assumes nothing.
-use mathlib.Core.Path.{_≡_, _∙_, sym, ap, refl}
+use mathlib.Core.Path.{_≡_, _∙_, sym, ap}
 use mathlib.Core.Logic.{_⊎_, ⊎-elim}
 use mathlib.Core.Bool.{and-false}
 use mathlib.Core.List.{List, _++_}
@@ -9,7 +9,7 @@ use lib.ListN.{getD, length, set, replicate, length-append, List·getD-append, L
 use lib.Seq.{getD-append-add, getD-set-same, getD-set-other}
 use borrow.Author.Tests.{lt-ltb, le-ltb, le-leb, lt-leb}
 use Rattle.laws.proofs.Order.{lt-or-ge}
-use Rattle.sha256.specs.Parts.{within, laid, laidFrom}
+use Rattle.sha256.specs.Parts.{laid, laidFrom}
 
 module _ (block part : List ℕ) (ahead at lo hi j : ℕ) where
   laid-inside : lo ≤ at + j → at + j < hi → laidFrom block part ahead at lo hi j ≡ getD part (at + j - ahead) 0

@@ -1,5 +1,6 @@
 pub mod Bitwise
 pub mod Schedules
+pub mod Turns
 pub mod Stores
 pub mod Laying
 pub mod Hashing

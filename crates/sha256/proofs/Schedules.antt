@@ -9,11 +9,11 @@ use native.Mathlib.Numerals.{add-one}
 use borrow.Author.Tests.{lt-ltb, le-ltb}
 use lib.Dec.{ltb}
 use lib.ListN.{getD, length, take, set, length-set}
-use lib.Seq.{take-suc-set, take-set-le, getD-take, take-take}
+use lib.Seq.{take-suc-set, take-set-le, getD-take}
 use Rattle.laws.specs.Bytes.{be32}
 use Rattle.sha256.specs.declared.rounds.Vars.{Vars}
 use Rattle.laws.proofs.Order.{lt-or-ge}
-use Rattle.sha256.specs.Compression.{words, mixed, nextWord, longer, schedule, putWord, putFour, roundAt, fourRounds, rounds, added, compress}
+use Rattle.sha256.specs.Compression.{words, nextWord, longer, schedule, putWord, putFour, roundAt, fourRounds, rounds, added, compress}
 
 -- one word more of the block
 pub words-more : (m w : List ℕ) (at n r : ℕ) → n < length w → take n w ≡ words m at n → r ≡ be32 m (at + 4 * n)
@@ -97,7 +97,7 @@ rounds-take v a b k (suc t) h e =
     let g : getD a t 0 ≡ getD b t 0 = sym (getD-take k a t 0 (omega arith)) ∙ ap (λ (l : List ℕ). getD l t 0) e ∙ getD-take k b t 0 (omega arith) in
     cc (rounds-take v a b k t (omega arith) e)
 
--- one turn: four rounds, and the words behind them, which change none of those used
+-- one turn: four words put, which change none of those used before, and four rounds
 module _ (m w z : List ℕ) (t : ℕ) (l : length w ≡ 64) (e : z ≡ cond (ltb t 48) (putFour w t) w) where
   inside : t < 48 → z ≡ putFour w t
   inside h = e ∙ rw (lt-ltb t 48 h)
@@ -121,11 +121,11 @@ module _ (m w z : List ℕ) (t : ℕ) (l : length w ≡ 64) (e : z ≡ cond (ltb
       let a : min (t + 4) 48 ≡ min t 48 = omega arith in
       rw a (ap (take (16 + min t 48)) (past h) ∙ p)) (lt-or-ge t 48)
 
-  pub rounds-turn : (v x y : Vars) → x ≡ rounds v w t → y ≡ fourRounds x w t → y ≡ rounds v z (t + 4)
+  pub rounds-turn : (v x y : Vars) → x ≡ rounds v w t → y ≡ fourRounds x z t → y ≡ rounds v z (t + 4)
   rounds-turn v x y p q =
-      q ∙ rounds-four v x w t p
-      ∙ ⊎-elim (λ h. rounds-take v w z (16 + t) (t + 4) (omega arith) (sym (ap (take (16 + t)) (inside h) ∙ take-put-four w t)))
-      (λ h. ap (λ (y : List ℕ). rounds v y (t + 4)) (sym (past h))) (lt-or-ge t 48)
+      q ∙ rounds-four v x z t
+      (p ∙ ⊎-elim (λ h. rounds-take v w z (16 + t) t (omega arith) (sym (ap (take (16 + t)) (inside h) ∙ take-put-four w t)))
+      (λ h. ap (λ (y : List ℕ). rounds v y t) (sym (past h))) (lt-or-ge t 48))
 
 -- a block's compression, in the order in which the code computes it
 pub compress-by : (v x r : Vars) (m l w : List ℕ) (at : ℕ) → take 16 l ≡ words m at 16 → w ≡ schedule (take 16 l) 48 → x ≡ rounds v w 64

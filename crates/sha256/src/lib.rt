@@ -51,17 +51,26 @@ pub fn hmac_parts(key: &[u8], first: &[u8], second: &[u8], third: &[u8]) -> [u8;
     ensures { λ r. ⌜ r ≡ rfc.hmac (now (key .entry)) (now (first .entry) ++ (now (second .entry) ++ now (third .entry))) ⌝ }
 {
     let block = key_block(key);
-    let inner = masked(&block, IPAD);
-    let digest = digest_behind(&inner, first, second, third);
-    let outer = masked(&block, OPAD);
-    outer_digest(&outer, &digest)
+    let inner = inner_digest(&block, first, second, third);
+    outer_digest(&block, &inner)
 }
 
-fn outer_digest(outer: &[u8], inner: &[u8]) -> [u8; 32]
-    requires { ⌜ length (now outer) ≡ 64 ⌝ }
-    ensures { λ r. ⌜ r ≡ fips.digest (now (outer .entry) ++ now (inner .entry)) ⌝ }
+// H(K ⊕ ipad, text).
+fn inner_digest(block: &[u8; 64], first: &[u8], second: &[u8], third: &[u8]) -> [u8; 32]
+    requires { ⌜ length (now block) ≡ 64 ⌝ }
+    ensures { λ r. ⌜ r ≡ fips.digest (rfc.masked rfc.ipad (now (block .entry)) ++ (now (first .entry) ++ (now (second .entry) ++ now (third .entry)))) ⌝ }
 {
-    digest_behind(outer, &inner[0..0], &inner[0..0], inner)
+    let front = masked(block, IPAD);
+    digest_behind(&front, first, second, third)
+}
+
+// H(K ⊕ opad, inner).
+fn outer_digest(block: &[u8; 64], inner: &[u8]) -> [u8; 32]
+    requires { ⌜ length (now block) ≡ 64 ⌝ }
+    ensures { λ r. ⌜ r ≡ fips.digest (rfc.masked rfc.opad (now (block .entry)) ++ now (inner .entry)) ⌝ }
+{
+    let front = masked(block, OPAD);
+    digest_behind(&front, &inner[0..0], &inner[0..0], inner)
 }
 
 // Whether a tag is the one computed. It reads every byte and ors the differences, so that its time tells nothing of where they differ;

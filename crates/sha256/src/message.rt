@@ -2,7 +2,6 @@
 use crate::parts::hash;
 use crate::rounds::Vars;
 use crate::rounds::compress;
-use crate::rounds::constants;
 use crate::store::bytes_of;
 use crate::store::padding_of;
 use crate::store::zeros_of;
@@ -11,7 +10,7 @@ ghost use mathlib.Core.List.{_++_};
 ghost use Prim.Native.Nat.{_<_, _≤_, _+_, _^_};
 ghost use lib.Dec.{ltb};
 ghost use lib.ListN.{length};
-ghost use Rattle.sha256.specs.Constants.{K256, H0};
+ghost use Rattle.sha256.specs.Constants.{H0};
 ghost use Rattle.sha256.specs.Compression.{hashed};
 ghost use Rattle.sha256.specs.Digests.{padding, bytesOf, digest};
 
@@ -52,21 +51,14 @@ fn fits(done: usize, first: &[u8], second: &[u8], third: &[u8]) -> bool
 }
 
 // The digest of the parts, from the hash value after so many bytes before them.
-fn finish(
-    v: Vars,
-    done: usize,
-    first: &[u8],
-    second: &[u8],
-    third: &[u8],
-    k: &[u32; 64],
-) -> [u8; 32]
-    requires { ⌜ (done + (length (now first) + (length (now second) + length (now third))) < 2 ^ 61) × (now k ≡ K256) ⌝ }
+fn finish(v: Vars, done: usize, first: &[u8], second: &[u8], third: &[u8]) -> [u8; 32]
+    requires { ⌜ done + (length (now first) + (length (now second) + length (now third))) < 2 ^ 61 ⌝ }
     ensures { λ r. ⌜ r ≡ bytesOf (hashed v ((now (first .entry) ++ (now (second .entry) ++ now (third .entry))) ++ padding (done + (length (now (first .entry)) + (length (now (second .entry)) + length (now (third .entry))))))) ⌝ }
 {
     let total = done + (first.len() + (second.len() + third.len()));
     let tail = padding_of(total);
     let count = 9 + zeros_of(total);
-    bytes_of(hash(v, first, second, third, &tail[0..count], k))
+    bytes_of(hash(v, first, second, third, &tail[0..count]))
 }
 
 // The digest of the parts.
@@ -74,8 +66,7 @@ pub(crate) fn digest_from(first: &[u8], second: &[u8], third: &[u8]) -> [u8; 32]
     ensures { λ r. ⌜ r ≡ digest (now (first .entry) ++ (now (second .entry) ++ now (third .entry))) ⌝ }
 {
     if fits(0, first, second, third) {
-        let k = constants();
-        return finish(initial(), 0, first, second, third, &k);
+        return finish(initial(), 0, first, second, third);
     }
     [0u8; 32]
 }
@@ -86,9 +77,8 @@ pub(crate) fn digest_behind(block: &[u8], first: &[u8], second: &[u8], third: &[
     ensures { λ r. ⌜ r ≡ digest (now (block .entry) ++ (now (first .entry) ++ (now (second .entry) ++ now (third .entry)))) ⌝ }
 {
     if fits(64, first, second, third) {
-        let k = constants();
-        let v = compress(initial(), block, 0, &k);
-        return finish(v, 64, first, second, third, &k);
+        let v = compress(initial(), block, 0);
+        return finish(v, 64, first, second, third);
     }
     [0u8; 32]
 }

@@ -10,7 +10,6 @@ ghost use mathlib.Core.Path.{_≡_};
 ghost use mathlib.Core.List.{_++_};
 ghost use Prim.Native.Nat.{ℕ, _<_, _≤_, _+_, _*_, _^_};
 ghost use lib.ListN.{length, getD};
-ghost use Rattle.sha256.specs.Constants.{K256};
 ghost use Rattle.sha256.specs.Compression as fips;
 ghost use Rattle.sha256.specs.Parts.{laid, laidFrom};
 
@@ -86,45 +85,30 @@ fn assembled(first: &[u8], second: &[u8], third: &[u8], tail: &[u8], at: usize) 
     block
 }
 
-fn absorb(
-    v: Vars,
-    first: &[u8],
-    second: &[u8],
-    third: &[u8],
-    tail: &[u8],
-    at: usize,
-    k: &[u32; 64],
-) -> Vars
-    requires { ⌜ (at + 64 < 2 ^ 64) × (length (now first) + (length (now second) + (length (now third) + length (now tail))) < 2 ^ 64) × (now k ≡ K256) ⌝ }
+fn absorb(v: Vars, first: &[u8], second: &[u8], third: &[u8], tail: &[u8], at: usize) -> Vars
+    requires { ⌜ (at + 64 < 2 ^ 64) × (length (now first) + (length (now second) + (length (now third) + length (now tail))) < 2 ^ 64) ⌝ }
     ensures { λ r. ⌜ r ≡ fips.compress v (now (first .entry) ++ (now (second .entry) ++ (now (third .entry) ++ now (tail .entry)))) at ⌝ }
 {
     let ahead = first.len() + second.len();
     if ahead <= at {
         if at + 64 <= ahead + third.len() {
-            return compress(v, third, at - ahead, k);
+            return compress(v, third, at - ahead);
         }
     }
     let block = assembled(first, second, third, tail, at);
-    compress(v, &block, 0, k)
+    compress(v, &block, 0)
 }
 
 // The hash value after a message that is whole blocks.
-pub(crate) fn hash(
-    v: Vars,
-    first: &[u8],
-    second: &[u8],
-    third: &[u8],
-    tail: &[u8],
-    k: &[u32; 64],
-) -> Vars
-    requires { ⌜ (length (now first) + (length (now second) + (length (now third) + length (now tail))) < 2 ^ 62) × (now k ≡ K256) ⌝ }
+pub(crate) fn hash(v: Vars, first: &[u8], second: &[u8], third: &[u8], tail: &[u8]) -> Vars
+    requires { ⌜ length (now first) + (length (now second) + (length (now third) + length (now tail))) < 2 ^ 62 ⌝ }
     ensures { λ r. ⌜ r ≡ fips.hashed v (now (first .entry) ++ (now (second .entry) ++ (now (third .entry) ++ now (tail .entry)))) ⌝ }
 {
     let count = (first.len() + second.len() + third.len() + tail.len()) / 64;
     let mut x = v;
     let mut n: usize = 0;
     while n < count {
-        x = absorb(x, first, second, third, tail, 64 * n, k);
+        x = absorb(x, first, second, third, tail, 64 * n);
         n += 1;
     }
     x

@@ -10,7 +10,7 @@ ghost use mathlib.Core.Path.{_≡_};
 ghost use mathlib.Core.Bool.{cond};
 ghost use Prim.Native.Nat.{_<_, _≤_, _+_, _%_};
 ghost use lib.Dec.{ltb};
-ghost use lib.ListN.{length, take};
+ghost use lib.ListN.{getD, length, take};
 ghost use Rattle.laws.specs.Bytes.{be16, be32};
 ghost use Rattle.sha256.specs.Constants.{K256};
 ghost use Rattle.sha256.specs.Compression as fips;
@@ -27,79 +27,32 @@ pub(crate) struct Vars {
     pub(crate) h: u32,
 }
 
-// FIPS 180-4 §4.2.2.
-const K: [u32; 64] = [
-    0x428a2f98,
-    0x71374491,
-    0xb5c0fbcf,
-    0xe9b5dba5,
-    0x3956c25b,
-    0x59f111f1,
-    0x923f82a4,
-    0xab1c5ed5,
-    0xd807aa98,
-    0x12835b01,
-    0x243185be,
-    0x550c7dc3,
-    0x72be5d74,
-    0x80deb1fe,
-    0x9bdc06a7,
-    0xc19bf174,
-    0xe49b69c1,
-    0xefbe4786,
-    0x0fc19dc6,
-    0x240ca1cc,
-    0x2de92c6f,
-    0x4a7484aa,
-    0x5cb0a9dc,
-    0x76f988da,
-    0x983e5152,
-    0xa831c66d,
-    0xb00327c8,
-    0xbf597fc7,
-    0xc6e00bf3,
-    0xd5a79147,
-    0x06ca6351,
-    0x14292967,
-    0x27b70a85,
-    0x2e1b2138,
-    0x4d2c6dfc,
-    0x53380d13,
-    0x650a7354,
-    0x766a0abb,
-    0x81c2c92e,
-    0x92722c85,
-    0xa2bfe8a1,
-    0xa81a664b,
-    0xc24b8b70,
-    0xc76c51a3,
-    0xd192e819,
-    0xd6990624,
-    0xf40e3585,
-    0x106aa070,
-    0x19a4c116,
-    0x1e376c08,
-    0x2748774c,
-    0x34b0bcb5,
-    0x391c0cb3,
-    0x4ed8aa4a,
-    0x5b9cca4f,
-    0x682e6ff3,
-    0x748f82ee,
-    0x78a5636f,
-    0x84c87814,
-    0x8cc70208,
-    0x90befffa,
-    0xa4506ceb,
-    0xbef9a3f7,
-    0xc67178f2,
-];
+// The constants of four rounds.
+struct Four(u32, u32, u32, u32);
 
-// The sixty-four constants, to be lent to each compression.
-pub(crate) fn constants() -> [u32; 64]
-    ensures { λ r. ⌜ r ≡ K256 ⌝ }
+// FIPS 180-4 §4.2.2: K_t to K_(t+3). A constant array would be built on the stack; of this match the compiler makes tables beside the code.
+fn constants(t: usize) -> Four
+    requires { ⌜ (t % 4 ≡ 0) × (t + 4 ≤ 64) ⌝ }
+    ensures { λ r. ⌜ (r .0 ≡ getD K256 t 0) × (r .1 ≡ getD K256 (t + 1) 0) × (r .2 ≡ getD K256 (t + 2) 0) × (r .3 ≡ getD K256 (t + 3) 0) ⌝ }
 {
-    K
+    match t / 4 {
+        0 => Four(0x428a2f98, 0x71374491, 0xb5c0fbcf, 0xe9b5dba5),
+        1 => Four(0x3956c25b, 0x59f111f1, 0x923f82a4, 0xab1c5ed5),
+        2 => Four(0xd807aa98, 0x12835b01, 0x243185be, 0x550c7dc3),
+        3 => Four(0x72be5d74, 0x80deb1fe, 0x9bdc06a7, 0xc19bf174),
+        4 => Four(0xe49b69c1, 0xefbe4786, 0x0fc19dc6, 0x240ca1cc),
+        5 => Four(0x2de92c6f, 0x4a7484aa, 0x5cb0a9dc, 0x76f988da),
+        6 => Four(0x983e5152, 0xa831c66d, 0xb00327c8, 0xbf597fc7),
+        7 => Four(0xc6e00bf3, 0xd5a79147, 0x06ca6351, 0x14292967),
+        8 => Four(0x27b70a85, 0x2e1b2138, 0x4d2c6dfc, 0x53380d13),
+        9 => Four(0x650a7354, 0x766a0abb, 0x81c2c92e, 0x92722c85),
+        10 => Four(0xa2bfe8a1, 0xa81a664b, 0xc24b8b70, 0xc76c51a3),
+        11 => Four(0xd192e819, 0xd6990624, 0xf40e3585, 0x106aa070),
+        12 => Four(0x19a4c116, 0x1e376c08, 0x2748774c, 0x34b0bcb5),
+        13 => Four(0x391c0cb3, 0x4ed8aa4a, 0x5b9cca4f, 0x682e6ff3),
+        14 => Four(0x748f82ee, 0x78a5636f, 0x84c87814, 0x8cc70208),
+        _ => Four(0x90befffa, 0xa4506ceb, 0xbef9a3f7, 0xc67178f2),
+    }
 }
 
 fn wide(x: u8) -> u32
@@ -188,24 +141,25 @@ fn turned(v: Vars, k: u32, w: u32) -> Vars
     }
 }
 
-fn round_at(v: Vars, w: &[u32; 64], k: &[u32; 64], t: usize) -> Vars
-    requires { ⌜ (now k ≡ K256) × (t < 64) ⌝ }
+fn round_at(v: Vars, k: u32, w: &[u32; 64], t: usize) -> Vars
+    requires { ⌜ (k ≡ getD K256 t 0) × (t < 64) ⌝ }
     ensures { λ r. ⌜ r ≡ fips.roundAt v (now (w .entry)) t ⌝ }
 {
-    turned(v, k[t], w[t])
+    turned(v, k, w[t])
 }
 
-fn four_rounds(v: Vars, w: &[u32; 64], k: &[u32; 64], t: usize) -> Vars
-    requires { ⌜ (now k ≡ K256) × (t + 4 ≤ 64) ⌝ }
+fn four_rounds(v: Vars, w: &[u32; 64], t: usize) -> Vars
+    requires { ⌜ (t % 4 ≡ 0) × (t + 4 ≤ 64) ⌝ }
     ensures { λ r. ⌜ r ≡ fips.fourRounds v (now (w .entry)) t ⌝ }
 {
-    let x = round_at(v, w, k, t);
-    let y = round_at(x, w, k, t + 1);
-    let z = round_at(y, w, k, t + 2);
-    round_at(z, w, k, t + 3)
+    let k = constants(t);
+    let x = round_at(v, k.0, w, t);
+    let y = round_at(x, k.1, w, t + 1);
+    let z = round_at(y, k.2, w, t + 2);
+    round_at(z, k.3, w, t + 3)
 }
 
-// After the rounds from t on: the four words behind them, where there are any.
+// Before the rounds from t on: the four words from 16 + t on, where there are any.
 fn put_next(w: &mut [u32; 64], t: usize)
     requires { ⌜ (t % 4 ≡ 0) × (t + 4 ≤ 64) ⌝ }
     ensures { λ _. ⌜ now (w .exit) ≡ cond (ltb t 48) (fips.putFour (now (w .entry)) t) (now (w .entry)) ⌝ }
@@ -216,15 +170,15 @@ fn put_next(w: &mut [u32; 64], t: usize)
 }
 
 // The sixty-four rounds, from a schedule whose first sixteen words stand.
-fn rounds(v: Vars, w: &mut [u32; 64], k: &[u32; 64]) -> Vars
-    requires { ⌜ (now k ≡ K256) × (length (now w) ≡ 64) ⌝ }
+fn rounds(v: Vars, w: &mut [u32; 64]) -> Vars
+    requires { ⌜ length (now w) ≡ 64 ⌝ }
     ensures { λ r. ⌜ (r ≡ fips.rounds v (now (w .exit)) 64) × (now (w .exit) ≡ fips.schedule (take 16 (now (w .entry))) 48) ⌝ }
 {
     let mut x = v;
     let mut t: usize = 0;
     while t < 64 {
-        x = four_rounds(x, w, k, t);
         put_next(w, t);
+        x = four_rounds(x, w, t);
         t += 4;
     }
     x
@@ -246,10 +200,10 @@ fn added(x: Vars, y: Vars) -> Vars
 }
 
 // The hash value after the block at a place of the message.
-pub(crate) fn compress(v: Vars, m: &[u8], at: usize, k: &[u32; 64]) -> Vars
-    requires { ⌜ (at + 64 ≤ length (now m)) × (now k ≡ K256) ⌝ }
+pub(crate) fn compress(v: Vars, m: &[u8], at: usize) -> Vars
+    requires { ⌜ at + 64 ≤ length (now m) ⌝ }
     ensures { λ r. ⌜ r ≡ fips.compress v (now (m .entry)) at ⌝ }
 {
     let mut w = load(m, at);
-    added(v, rounds(v, &mut w, k))
+    added(v, rounds(v, &mut w))
 }

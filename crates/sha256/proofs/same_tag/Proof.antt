@@ -1,7 +1,6 @@
 -- Tags of different lengths are not the same. Assumes nothing.
 use mathlib.Core.Path.{sym}
 use native.Mathlib.Omega.{arith}
-use lib.ListN.{length}
 use borrow.Author.Needs.{needs}
 use Rattle.laws.proofs.Sames.{same-length}
 use Rattle.sha256.proofs.same_tag.Statement.{statement}

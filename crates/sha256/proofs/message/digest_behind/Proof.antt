@@ -1,5 +1,5 @@
 -- From the hash value after the block the message is hashed as if it stood behind it. Assumes nothing.
-use mathlib.Core.Path.{_≡_, _∙_, sym, ap}
+use mathlib.Core.Path.{_≡_, _∙_, sym}
 use mathlib.Core.List.{_++_}
 use Prim.Native.Nat.{_+_}
 use native.Mathlib.Omega.{arith}
@@ -13,9 +13,6 @@ use Rattle.sha256.proofs.message.digest_behind.Tie as tie
 fits-requires : tie.Need-fits-requires
 fits-requires c κs = search needs
 
-constants-requires : tie.Need-constants-requires
-constants-requires c κs = search needs
-
 initial-requires : tie.Need-initial-requires
 initial-requires c κs = search needs
 
@@ -23,16 +20,16 @@ compress-requires : tie.Need-compress-requires
 compress-requires c κs = search needs
 
 finish-requires : tie.Need-finish-requires
-finish-requires c κs = (ltb-true _ _ (sym (c .before .before .before .before .before .before .fits2 .ensures) ∙ c .before .before .before .before .before .if1 .taken), search needs)
+finish-requires c κs = ltb-true _ _ (sym (c .before .before .before .fits2 .ensures) ∙ c .before .before .if1 .taken)
 
 returns : tie.Need-returns
 returns c =
-    let a = c .before .before .before .before .before .before .before .before .before .before .before .before .args in
+    let a = c .before .before .before .before .before .before .before .before .before .args in
     let m = a .first .now ++ (a .second .now ++ a .third .now) in
     let n = (length (a .first .now) + (length (a .second .now) + length (a .third .now))) in
     let b = a .block .now in
     let e : 64 + n ≡ length (b ++ m) = simp length-append (omega arith) in
-    digest-behind b m _ n _ _ (omega arith) e (sym (c .before .before .before .before .before .before .before .fits2 .ensures) ∙ c .before .before .before .before .before .before .if1 .taken) (c .before .before .before .before .initial .ensures) (c .before .before .compress .ensures) (c .finish .ensures)
+    digest-behind b m _ n _ _ (omega arith) e (sym (c .before .before .before .before .fits2 .ensures) ∙ c .before .before .before .if1 .taken) (c .before .before .initial .ensures) (c .before .compress .ensures) (c .finish .ensures)
 
 returns-2 : tie.Need-returns-2
 returns-2 c =
@@ -48,7 +45,6 @@ digest-behind-spec =
     tie.close
     (tie.spec
     fits-requires
-    constants-requires
     initial-requires
     compress-requires
     finish-requires

@@ -16,23 +16,20 @@ use Rattle.sha256.proofs.message.digest_from.Tie as tie
 fits-requires : tie.Need-fits-requires
 fits-requires c κs = search needs
 
-constants-requires : tie.Need-constants-requires
-constants-requires c κs = search needs
-
 initial-requires : tie.Need-initial-requires
 initial-requires c κs = search needs
 
 finish-requires : tie.Need-finish-requires
-finish-requires c κs = (ltb-true _ _ (sym (c .before .before .before .before .fits2 .ensures) ∙ c .before .before .before .if1 .taken), search needs)
+finish-requires c κs = ltb-true _ _ (sym (c .before .before .fits2 .ensures) ∙ c .before .if1 .taken)
 
 returns : tie.Need-returns
 returns c =
-    let a = c .before .before .before .before .before .before .before .before .before .args in
+    let a = c .before .before .before .before .before .before .before .args in
     let m = a .first .now ++ (a .second .now ++ a .third .now) in
     let n = (length (a .first .now) + (length (a .second .now) + length (a .third .now))) in
     let e : 0 + n ≡ length m = simp length-append (omega arith) in
-    digest-by m _ (0 + n) e (sym (c .before .before .before .before .before .fits2 .ensures) ∙ c .before .before .before .before .if1 .taken)
-    (c .finish .ensures ∙ ap (λ (v : Vars). bytesOf (hashed v (m ++ padding (0 + n)))) (c .before .before .initial .ensures))
+    digest-by m _ (0 + n) e (sym (c .before .before .before .fits2 .ensures) ∙ c .before .before .if1 .taken)
+    (c .finish .ensures ∙ ap (λ (v : Vars). bytesOf (hashed v (m ++ padding (0 + n)))) (c .before .initial .ensures))
 
 returns-2 : tie.Need-returns-2
 returns-2 c =
@@ -45,4 +42,4 @@ returns-2 c =
 pub digest-from-spec : {M : Type 1} → statement M
 digest-from-spec =
     tie.close
-    (tie.spec fits-requires constants-requires initial-requires finish-requires returns returns-2)
+    (tie.spec fits-requires initial-requires finish-requires returns returns-2)

@@ -4,7 +4,7 @@ use Prim.Native.Nat.{ℕ, _+_, _-_}
 use native.Mathlib.Nat.{sub-zero}
 use lib.ListN.{length, take, drop}
 use borrow.Author.Needs.{needs}
-use Rattle.sha256.specs.Digests.{zeros, padding}
+use Rattle.sha256.specs.Digests.{padding}
 use Rattle.sha256.proofs.Digesting.{finish-by}
 use Rattle.sha256.proofs.message.finish.Statement.{statement}
 use Rattle.sha256.proofs.message.finish.Tie as tie

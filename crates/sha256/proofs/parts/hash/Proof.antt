@@ -11,10 +11,10 @@ use Rattle.sha256.proofs.parts.hash.Statement.{statement}
 use Rattle.sha256.proofs.parts.hash.Tie as tie
 
 abbrev Inv-loop : tie.InvT-loop
-Inv-loop first second third tail k count x₀ n₀ x n = (n ≤ count) × (x ≡ blocks x₀ (first ++ (second ++ (third ++ tail))) n)
+Inv-loop first second third tail count x₀ n₀ x n = (n ≤ count) × (x ≡ blocks x₀ (first ++ (second ++ (third ++ tail))) n)
 
 abbrev μ-loop : tie.MeasureT-loop
-μ-loop first second third tail k count x₀ n₀ x n = count - n
+μ-loop first second third tail count x₀ n₀ x n = count - n
 
 add-count : tie.Need-add-count Inv-loop μ-loop
 add-count c = search needs

@@ -1,12 +1,28 @@
--- The table is the definition's, entry for entry: the one place where the two are compared. Assumes nothing.
+-- The constants are the definition's, turn for turn: the one place where the two are compared. Assumes nothing.
 use mathlib.Core.Path.{refl}
 use Rattle.sha256.specs.Constants.{K256}
+use Rattle.sha256.proofs.Turns.{constants-turn, last-turn}
 use Rattle.sha256.proofs.rounds.constants.Statement.{statement}
 use Rattle.sha256.proofs.rounds.constants.Tie as tie
 
-returns : tie.Need-returns
-unfolding K256
-returns c = refl
-
 pub constants-spec : {M : Type 1} → statement M
-constants-spec = tie.close (tie.spec returns)
+unfolding K256
+constants-spec =
+    tie.close
+    (tie.spec
+    (λ c. constants-turn _ 0 _ _ _ _ (c .before .pre .0) (c .match .keys1) (refl, refl, refl, refl))
+    (λ c. constants-turn _ 1 _ _ _ _ (c .before .pre .0) (c .match .keys2) (refl, refl, refl, refl))
+    (λ c. constants-turn _ 2 _ _ _ _ (c .before .pre .0) (c .match .keys3) (refl, refl, refl, refl))
+    (λ c. constants-turn _ 3 _ _ _ _ (c .before .pre .0) (c .match .keys4) (refl, refl, refl, refl))
+    (λ c. constants-turn _ 4 _ _ _ _ (c .before .pre .0) (c .match .keys5) (refl, refl, refl, refl))
+    (λ c. constants-turn _ 5 _ _ _ _ (c .before .pre .0) (c .match .keys6) (refl, refl, refl, refl))
+    (λ c. constants-turn _ 6 _ _ _ _ (c .before .pre .0) (c .match .keys7) (refl, refl, refl, refl))
+    (λ c. constants-turn _ 7 _ _ _ _ (c .before .pre .0) (c .match .keys8) (refl, refl, refl, refl))
+    (λ c. constants-turn _ 8 _ _ _ _ (c .before .pre .0) (c .match .keys9) (refl, refl, refl, refl))
+    (λ c. constants-turn _ 9 _ _ _ _ (c .before .pre .0) (c .match .keys10) (refl, refl, refl, refl))
+    (λ c. constants-turn _ 10 _ _ _ _ (c .before .pre .0) (c .match .keys11) (refl, refl, refl, refl))
+    (λ c. constants-turn _ 11 _ _ _ _ (c .before .pre .0) (c .match .keys12) (refl, refl, refl, refl))
+    (λ c. constants-turn _ 12 _ _ _ _ (c .before .pre .0) (c .match .keys13) (refl, refl, refl, refl))
+    (λ c. constants-turn _ 13 _ _ _ _ (c .before .pre .0) (c .match .keys14) (refl, refl, refl, refl))
+    (λ c. constants-turn _ 14 _ _ _ _ (c .before .pre .0) (c .match .keys15) (refl, refl, refl, refl))
+    (λ c. constants-turn _ 15 _ _ _ _ (c .before .pre .0) (last-turn _ (c .before .pre .1) (c .match .rest)) (refl, refl, refl, refl)))

@@ -4,6 +4,9 @@ use Rattle.sha256.specs.Compression.{fourRounds}
 use Rattle.sha256.proofs.rounds.four_rounds.Statement.{statement}
 use Rattle.sha256.proofs.rounds.four_rounds.Tie as tie
 
+constants-requires : tie.Need-constants-requires
+constants-requires c κs = search needs
+
 round-at-requires : tie.Need-round-at-requires
 round-at-requires c κs = search needs
 
@@ -33,6 +36,7 @@ pub four-rounds-spec : {M : Type 1} → statement M
 four-rounds-spec =
     tie.close
     (tie.spec
+    constants-requires
     round-at-requires
     add-round-at
     round-at-requires-2

@@ -10,12 +10,6 @@ mul-turned c = search needs
 element-copy-out-turned : tie.Need-element-copy-out-turned
 element-copy-out-turned c = search needs
 
-mul-turned-2 : tie.Need-mul-turned-2
-mul-turned-2 c = search needs
-
-element-copy-out-turned-2 : tie.Need-element-copy-out-turned-2
-element-copy-out-turned-2 c = search needs
-
 turned-requires : tie.Need-turned-requires
 turned-requires c κs = search needs
 
@@ -29,7 +23,5 @@ round-at-spec =
     (tie.spec
     mul-turned
     element-copy-out-turned
-    mul-turned-2
-    element-copy-out-turned-2
     turned-requires
     returns)

@@ -11,20 +11,20 @@ use Rattle.sha256.proofs.rounds.rounds.Statement.{statement}
 use Rattle.sha256.proofs.rounds.rounds.Tie as tie
 
 abbrev Inv-loop : tie.InvT-loop
-Inv-loop w₀ k x₀ t₀ w x t = (t ≤ 64) × (t % 4 ≡ 0) × (length w ≡ 64) × (take (16 + min t 48) w ≡ schedule (take 16 w₀) (min t 48)) × (x ≡ rounds x₀ w t)
+Inv-loop w₀ x₀ t₀ w x t = (t ≤ 64) × (t % 4 ≡ 0) × (length w ≡ 64) × (take (16 + min t 48) w ≡ schedule (take 16 w₀) (min t 48)) × (x ≡ rounds x₀ w t)
 
 abbrev μ-loop : tie.MeasureT-loop
-μ-loop w₀ k x₀ t₀ w x t = 64 - t
+μ-loop w₀ x₀ t₀ w x t = 64 - t
 
 loop-holds : tie.Need-loop-holds Inv-loop μ-loop
 unfolding schedule rounds
 loop-holds c = search needs
 
-four-rounds-requires : tie.Need-four-rounds-requires Inv-loop μ-loop
-four-rounds-requires c κs = search needs
-
 put-next-requires : tie.Need-put-next-requires Inv-loop μ-loop
 put-next-requires c κs = search needs
+
+four-rounds-requires : tie.Need-four-rounds-requires Inv-loop μ-loop
+four-rounds-requires c κs = search needs
 
 add-t : tie.Need-add-t Inv-loop μ-loop
 add-t c = search needs
@@ -34,16 +34,15 @@ loop-less c = search needs
 
 loop-again : tie.Need-loop-again Inv-loop μ-loop
 loop-again c =
-    let i = c .before .before .before .before .before .loop .inv in
+    let l = c .before .before .before .before .before .loop in
     let m = take 16 (c .before .before .before .before .before .before .args .w .now) in
-    let w = c .before .before .before .before .before .loop .w in
-    let z = c .put-next .last .0 in
-    let t = c .before .before .before .before .before .loop .t in (
+    let z = c .before .before .put-next .last .0 in
+    let e = c .before .before .put-next .ensures in (
       search needs,
       search needs,
-      length-turn m w z t (i .2) (c .put-next .ensures),
-      schedule-turn m w z t (i .2) (c .put-next .ensures) (i .1) (i .3),
-      rounds-turn m w z t (i .2) (c .put-next .ensures) _ _ _ (i .4) (c .before .before .four-rounds .ensures),
+      length-turn m (l .w) z (l .t) (l .inv .2) e,
+      schedule-turn m (l .w) z (l .t) (l .inv .2) e (l .inv .1) (l .inv .3),
+      rounds-turn m (l .w) z (l .t) (l .inv .2) e _ _ _ (l .inv .4) (c .four-rounds .ensures),
     )
 
 returns : tie.Need-returns Inv-loop μ-loop
@@ -58,8 +57,8 @@ rounds-spec =
     Inv-loop
     μ-loop
     loop-holds
-    four-rounds-requires
     put-next-requires
+    four-rounds-requires
     add-t
     loop-less
     loop-again

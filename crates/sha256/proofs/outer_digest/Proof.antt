@@ -1,0 +1,22 @@
+-- The masked block stands in front of the inner digest, which is the third part behind two empty ones. Assumes nothing.
+use borrow.Author.Needs.{needs}
+use Rattle.sha256.proofs.outer_digest.Statement.{statement}
+use Rattle.sha256.proofs.outer_digest.Tie as tie
+
+returns : tie.Need-returns
+returns c = cc
+
+pub outer-digest-spec : {M : Type 1} → statement M
+outer-digest-spec =
+    tie.close
+    (tie.spec
+    (λ c κs. search needs)
+    (λ c. search needs)
+    (λ c. search needs)
+    (λ c. search needs)
+    (λ c. search needs)
+    (λ c. search needs)
+    (λ c. search needs)
+    (λ c. search needs)
+    (λ c κs. search needs)
+    returns)
