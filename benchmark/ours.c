@@ -35,14 +35,15 @@ static void hmac(const uint8_t key[32], const uint8_t *head, size_t head_n, cons
 static size_t our_seal(const struct peer *peer, const struct fields *f, const uint8_t *payload, size_t n, const uint8_t keys[KEYS], uint8_t *out)
 {
     static const uint8_t chain[CHAIN];
-    uint64_t fields[8] = {4, 6, f->sequence, 0, f->index, f->count, f->session, f->channel}, length[1] = {0};
+    const uint64_t fields[8] = {4, 6, f->sequence, 0, f->index, f->count, f->session, f->channel};
+    static uint64_t length[1];
     (void)peer;
     return hub_write(fields, 8, chain, CHAIN, payload, n, keys, KEYS, out, sealed_size(n), length, 1) == 0 ? length[0] : 0;
 }
 
 static long our_open(const struct peer *peer, const uint8_t *message, size_t n, const uint8_t keys[KEYS], uint8_t *working, size_t room, struct fields *f)
 {
-    uint64_t header[11];
+    static uint64_t header[11];
     (void)peer;
     if (hub_read(message, n, keys, KEYS, working, room, header, 11) != 0)
         return -1;
@@ -61,10 +62,9 @@ static void ready(size_t size, uint8_t state[151])
 
 static long our_step(const struct peer *peer, size_t size, const uint8_t *message, size_t n, const uint8_t keys[KEYS], uint8_t *working, size_t room, uint8_t *report, size_t report_room)
 {
-    static uint8_t first[151];
+    static uint8_t first[151], state[151];
     static size_t size_of_first;
-    uint8_t state[151];
-    uint64_t answer[3];
+    static uint64_t answer[3];
     (void)peer;
     if (size != size_of_first) {
         ready(size, first);
