@@ -1,0 +1,176 @@
+//! The hub's side of one gateway's connection, and cutting reports for a gateway's side.
+
+use std::fmt;
+
+use crate::{ffi, Keys, Refusal};
+
+/// The most pieces of a report: a report buffer of so many times F bytes is enough for every report.
+pub const MOST_PIECES: usize = 64;
+
+/// What a step that was not refused answers.
+#[derive(Clone, Copy, Debug, PartialEq, Eq)]
+pub enum Answer {
+    /// Send the Connect payload of this type: 1, 3, or 7 with Status 0.
+    Reply(u8),
+    /// The message came before and nothing has changed; send the same reply again.
+    Again(u8),
+    /// The certificate was not accepted: send Authentication Failure.
+    Failure,
+    /// A new piece is in the report buffer, others are missing.
+    Taken {
+        /// How many different pieces have come.
+        heard: usize,
+    },
+    /// A piece that had come, with the same bytes; nothing has changed.
+    Repeat {
+        /// How many different pieces have come.
+        heard: usize,
+    },
+    /// The last missing piece: the report is the first bytes of the report buffer.
+    Complete {
+        /// How many pieces the report came in.
+        heard: usize,
+        /// The report's length.
+        length: usize,
+    },
+}
+
+impl Answer {
+    fn of(words: [u64; 3]) -> Answer {
+        let [kind, value, length] = words;
+        let heard = value as usize;
+        match kind {
+            1 => Answer::Reply(value as u8),
+            2 => Answer::Again(value as u8),
+            3 => Answer::Failure,
+            4 => Answer::Taken { heard },
+            5 => Answer::Repeat { heard },
+            6 => Answer::Complete { heard, length: length as usize },
+            _ => unreachable!("a kind of hub.h"),
+        }
+    }
+}
+
+/// What the hub remembers of a gateway: a value of 151 bytes, in the layout of include/hub.h.
+#[derive(Clone, Copy, PartialEq, Eq)]
+pub struct Connection([u8; Connection::SIZE]);
+
+impl Connection {
+    /// Bytes of a connection.
+    pub const SIZE: usize = 151;
+
+    /// Opens a connection of fragment size F; outside 1 to 16,384 it is refused with 24.
+    pub fn open(fragment_size: u64) -> Result<Connection, Refusal> {
+        let mut state = [0; Connection::SIZE];
+        // SAFETY: pointer and length are those of an array.
+        Refusal::of(unsafe { ffi::hub_open(fragment_size, state.as_mut_ptr(), state.len()) })?;
+        Ok(Connection(state))
+    }
+
+    /// Takes one message that has come in. `accepted` says whether the certificate that it may show
+    /// is accepted. A refusal leaves connection and report buffer as they were.
+    pub fn step(
+        &mut self,
+        message: &[u8],
+        keys: &Keys,
+        working: &mut [u8],
+        report: &mut [u8],
+        accepted: bool,
+    ) -> Result<Answer, Refusal> {
+        let mut answer = [0; 3];
+        // SAFETY: pointers and lengths are those of slices; the mutable ones overlap no other.
+        Refusal::of(unsafe {
+            ffi::hub_step(
+                self.0.as_mut_ptr(),
+                self.0.len(),
+                message.as_ptr(),
+                message.len(),
+                keys.as_ptr(),
+                keys.len(),
+                working.as_mut_ptr(),
+                working.len(),
+                report.as_mut_ptr(),
+                report.len(),
+                accepted.into(),
+                answer.as_mut_ptr(),
+                answer.len(),
+            )
+        })?;
+        Ok(Answer::of(answer))
+    }
+
+    /// The bytes, to store them.
+    pub fn as_bytes(&self) -> &[u8; Connection::SIZE] {
+        &self.0
+    }
+
+    /// A connection that was stored. All bytes are one, though not all are what [`Connection::open`]
+    /// and [`Connection::step`] come to.
+    pub fn from_bytes(bytes: [u8; Connection::SIZE]) -> Connection {
+        Connection(bytes)
+    }
+
+    /// F.
+    pub fn fragment_size(&self) -> u64 {
+        self.number(0, 8)
+    }
+
+    /// 0 waiting for a request, 1 waiting for authentication, 2 passed, 3 Ready, 4 Failed.
+    pub fn state(&self) -> u8 {
+        self.0[8]
+    }
+
+    /// SessionID of the Connection Request.
+    pub fn session(&self) -> u64 {
+        self.number(9, 8)
+    }
+
+    /// The SequenceNumber of the report that is expected.
+    pub fn expected(&self) -> u32 {
+        self.number(121, 4) as u32
+    }
+
+    fn number(&self, place: usize, size: usize) -> u64 {
+        self.0[place..place + size].iter().fold(0, |number, byte| number << 8 | u64::from(*byte))
+    }
+}
+
+/// Leaves out what is secret or long.
+impl fmt::Debug for Connection {
+    fn fmt(&self, f: &mut fmt::Formatter<'_>) -> fmt::Result {
+        f.debug_struct("Connection")
+            .field("fragment_size", &self.fragment_size())
+            .field("state", &self.state())
+            .field("session", &self.session())
+            .field("expected", &self.expected())
+            .finish_non_exhaustive()
+    }
+}
+
+/// A piece of a report.
+#[derive(Clone, Copy, Debug, PartialEq, Eq)]
+pub struct Piece<'a> {
+    /// How many pieces the report makes: FragmentCount.
+    pub count: u16,
+    /// The piece's bytes.
+    pub bytes: &'a [u8],
+}
+
+/// Piece `index` of a report that is cut by F: refused with 24, then with 7 where the report is
+/// longer than 64 times F or has no such piece.
+pub fn cut(report: &[u8], fragment_size: u64, index: u64) -> Result<Piece<'_>, Refusal> {
+    let mut piece = [0; 3];
+    // SAFETY: pointers and lengths are those of slices; the two do not overlap.
+    Refusal::of(unsafe {
+        ffi::hub_cut(
+            report.as_ptr(),
+            report.len(),
+            fragment_size,
+            index,
+            piece.as_mut_ptr(),
+            piece.len(),
+        )
+    })?;
+    let [count, from, size] = piece;
+    Ok(Piece { count: count as u16, bytes: &report[from as usize..][..size as usize] })
+}

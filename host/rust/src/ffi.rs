@@ -1,0 +1,87 @@
+//! The functions of include/hub.h, declared once more. A slice is a pointer and a number of elements.
+
+unsafe extern "C" {
+    pub fn hub_version() -> u32;
+    pub fn hub_digest(bytes: *const u8, bytes_n: usize, out: *mut u8, out_n: usize) -> u8;
+    pub fn hub_hmac(
+        key: *const u8,
+        key_n: usize,
+        message: *const u8,
+        message_n: usize,
+        out: *mut u8,
+        out_n: usize,
+    ) -> u8;
+    pub fn hub_same_tag(a: *const u8, a_n: usize, b: *const u8, b_n: usize) -> u8;
+    pub fn hub_read_header(
+        message: *const u8,
+        message_n: usize,
+        header: *mut u64,
+        header_n: usize,
+    ) -> u8;
+    pub fn hub_read(
+        message: *const u8,
+        message_n: usize,
+        keys: *const u8,
+        keys_n: usize,
+        working: *mut u8,
+        working_n: usize,
+        header: *mut u64,
+        header_n: usize,
+    ) -> u8;
+    pub fn hub_payload(
+        message: *const u8,
+        message_n: usize,
+        working: *const u8,
+        working_n: usize,
+        header: *const u64,
+        header_n: usize,
+        place: *mut u64,
+        place_n: usize,
+    ) -> u8;
+    pub fn hub_write(
+        fields: *const u64,
+        fields_n: usize,
+        chain: *const u8,
+        chain_n: usize,
+        payload: *const u8,
+        payload_n: usize,
+        keys: *const u8,
+        keys_n: usize,
+        out: *mut u8,
+        out_n: usize,
+        length: *mut u64,
+        length_n: usize,
+    ) -> u8;
+    pub fn hub_open(fragment_size: u64, state: *mut u8, state_n: usize) -> u8;
+    pub fn hub_step(
+        state: *mut u8,
+        state_n: usize,
+        message: *const u8,
+        message_n: usize,
+        keys: *const u8,
+        keys_n: usize,
+        working: *mut u8,
+        working_n: usize,
+        report: *mut u8,
+        report_n: usize,
+        verdict: u8,
+        answer: *mut u64,
+        answer_n: usize,
+    ) -> u8;
+    pub fn hub_cut(
+        report: *const u8,
+        report_n: usize,
+        fragment_size: u64,
+        index: u64,
+        piece: *mut u64,
+        piece_n: usize,
+    ) -> u8;
+    pub fn hub_list(
+        message: *const u8,
+        message_n: usize,
+        line: *mut u8,
+        line_n: usize,
+        length: *mut u64,
+        length_n: usize,
+    ) -> u8;
+}

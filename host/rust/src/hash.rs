@@ -1,0 +1,32 @@
+//! Digests and tags.
+
+use crate::ffi;
+
+/// SHA-256.
+pub fn digest(bytes: &[u8]) -> [u8; 32] {
+    let mut out = [0; 32];
+    // SAFETY: pointers and lengths are those of slices; the two do not overlap.
+    let number =
+        unsafe { ffi::hub_digest(bytes.as_ptr(), bytes.len(), out.as_mut_ptr(), out.len()) };
+    assert_eq!(number, 0, "an output of 32 bytes");
+    out
+}
+
+/// HMAC-SHA-256 under a key of any length.
+pub fn hmac(key: &[u8], message: &[u8]) -> [u8; 32] {
+    let mut out = [0; 32];
+    // SAFETY: pointers and lengths are those of slices; `out` overlaps no other.
+    let number = unsafe {
+        let (key, key_n) = (key.as_ptr(), key.len());
+        let (message, message_n) = (message.as_ptr(), message.len());
+        ffi::hub_hmac(key, key_n, message, message_n, out.as_mut_ptr(), out.len())
+    };
+    assert_eq!(number, 0, "an output of 32 bytes");
+    out
+}
+
+/// Whether two tags are alike; all their bytes are read, wherever they differ.
+pub fn same_tag(a: &[u8; 32], b: &[u8; 32]) -> bool {
+    // SAFETY: pointers and lengths are those of arrays.
+    unsafe { ffi::hub_same_tag(a.as_ptr(), a.len(), b.as_ptr(), b.len()) == 0 }
+}

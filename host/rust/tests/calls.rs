@@ -1,0 +1,126 @@
+//! Each call of the wrapper by itself.
+
+use hlidunsk::{cut, digest, hmac, list, read, read_header, same_tag, version, write};
+use hlidunsk::{Connection, Header, Refusal, NO_ENTRIES};
+
+/// Document 01's P1.
+fn p1() -> Vec<u8> {
+    let mut message = vec![0x30, 0x30, 0, 0x2B, 3, 1, 0, 0];
+    message.extend([0; 12]);
+    message.extend([0, 0, 0, 1]);
+    message.extend([0; 19]);
+    message
+}
+
+fn hex(bytes: &[u8]) -> String {
+    bytes.iter().map(|byte| format!("{byte:02x}")).collect()
+}
+
+#[test]
+fn the_version_is_that_of_the_crate() {
+    let [major, minor, patch] = [
+        env!("CARGO_PKG_VERSION_MAJOR"),
+        env!("CARGO_PKG_VERSION_MINOR"),
+        env!("CARGO_PKG_VERSION_PATCH"),
+    ]
+    .map(|part| part.parse::<u32>().unwrap());
+    assert_eq!(version(), major << 16 | minor << 8 | patch);
+}
+
+#[test]
+fn published_digests_and_tags() {
+    let abc = "ba7816bf8f01cfea414140de5dae2223b00361a396177a9cb410ff61f20015ad";
+    assert_eq!(hex(&digest(b"abc")), abc);
+    let jefe = hmac(b"Jefe", b"what do ya want for nothing?");
+    assert_eq!(hex(&jefe), "5bdcc146bf60754e6a042426089575c75a003f089d2739839dec58b964ec3843");
+    assert!(same_tag(&jefe, &jefe.clone()));
+    for bit in 0..256 {
+        let mut other = jefe;
+        other[bit / 8] ^= 1 << (bit % 8);
+        assert!(!same_tag(&jefe, &other));
+    }
+}
+
+#[test]
+fn document_01s_first_examples() {
+    let message = p1();
+    let framed = read_header(&message).unwrap();
+    assert_eq!((framed.header.message_type, framed.header.count, framed.body), (1, 1, &[0][..]));
+    assert_eq!(list(&message).unwrap(), "1 0 0 1 43");
+    assert_eq!(read(&message, &[0; 64], &mut []).unwrap().payload, [0]);
+    assert_eq!(read_header(&message[..42]), Err(Refusal::WrongLength));
+    assert_eq!(read_header(&message[..41]), Err(Refusal::TooShort));
+    assert_eq!(list(&[]), Err(Refusal::TooShort));
+}
+
+#[test]
+fn a_written_message_is_read_back() {
+    let header = Header {
+        message_type: Header::SESSION,
+        flags: Header::SEALED,
+        sequence: 7,
+        request: u64::MAX,
+        index: 1,
+        count: 3,
+        session: 5,
+        channel: 9,
+    };
+    let (keys, mut out, mut working) = ([3; 64], [0; 90], [0; 16]);
+    assert_eq!(write(&header, NO_ENTRIES, b"twelve bytes", &keys, &mut out), Ok(90));
+    let message = read(&out, &keys, &mut working).unwrap();
+    assert_eq!((message.header, message.payload), (header, &b"twelve bytes"[..]));
+    assert_eq!(read(&out, &keys, &mut [0; 15]), Err(Refusal::WorkingTooShort));
+    assert_eq!(read(&out, &[4; 64], &mut [0; 16]), Err(Refusal::WrongTag));
+    let before = out;
+    assert_eq!(write(&header, &[], b"", &keys, &mut out), Err(Refusal::WrongChain));
+    assert_eq!(write(&header, NO_ENTRIES, b"", &keys, &mut out[..89]), Err(Refusal::NoRoom));
+    assert_eq!(out, before);
+}
+
+#[test]
+fn pieces_of_a_report() {
+    let pieces: Vec<_> = (0..3).map(|i| cut(b"ten bytes.", 4, i).unwrap()).collect();
+    assert_eq!(pieces.iter().map(|piece| piece.bytes.len()).collect::<Vec<_>>(), [4, 4, 2]);
+    assert_eq!(pieces.iter().map(|piece| piece.count).collect::<Vec<_>>(), [3, 3, 3]);
+    assert_eq!(pieces[2].bytes, b"s.");
+    assert_eq!(cut(b"", 4, 0).map(|piece| (piece.count, piece.bytes.len())), Ok((1, 0)));
+    assert_eq!(cut(b"ten bytes.", 4, 3), Err(Refusal::WrongPiece));
+    assert_eq!(cut(b"ten bytes.", 0, 0), Err(Refusal::WrongFragmentSize));
+}
+
+#[test]
+fn opening() {
+    let hub = Connection::open(16_384).unwrap();
+    assert_eq!(
+        (hub.fragment_size(), hub.state(), hub.session(), hub.expected()),
+        (16_384, 0, 0, 0)
+    );
+    assert_eq!(Connection::open(0), Err(Refusal::WrongFragmentSize));
+    assert_eq!(Connection::open(16_385), Err(Refusal::WrongFragmentSize));
+    assert_eq!(Connection::open(1 << 32), Err(Refusal::WrongFragmentSize));
+    assert_eq!(
+        format!("{hub:?}"),
+        "Connection { fragment_size: 16384, state: 0, session: 0, expected: 0, .. }"
+    );
+}
+
+/// Any bytes are a connection: a step on them answers and, refused, changes nothing.
+#[test]
+fn any_bytes_are_a_connection() {
+    for byte in 0..=255 {
+        let mut hub = Connection::from_bytes([byte; Connection::SIZE]);
+        let answer = hub.step(&p1(), &[0; 64], &mut [], &mut [], true);
+        assert_eq!(answer, Err(Refusal::WrongFragmentSize));
+        assert_eq!(hub.as_bytes(), &[byte; Connection::SIZE]);
+    }
+}
+
+#[test]
+fn refusals_and_their_numbers() {
+    for number in 0..=255 {
+        let refusal = Refusal::from_number(number);
+        assert_eq!(refusal.is_some(), (1..=25).contains(&number));
+        assert!(refusal.map_or(true, |refusal| refusal.number() == number));
+    }
+    assert_eq!(Refusal::Conflict.to_string(), "refused 23");
+}

@@ -1,0 +1,117 @@
+//! The wrapper on the repository's samples.
+
+use std::fs;
+use std::path::{Path, PathBuf};
+
+use hlidunsk::{list, read, read_header, write, Answer, Connection, Keys, Refusal};
+use hlidunsk::{MOST_MESSAGE, MOST_PIECES, MOST_SEALED};
+
+fn folder() -> PathBuf {
+    Path::new(env!("CARGO_MANIFEST_DIR")).join("../../samples")
+}
+
+fn sample(name: &str) -> Vec<u8> {
+    fs::read(folder().join(name)).unwrap_or_else(|error| panic!("samples/{name}: {error}"))
+}
+
+fn keys() -> Keys {
+    sample("keys.bin").try_into().expect("64 bytes")
+}
+
+/// The messages of a stream: MessageLength bytes at a time, at least 42, or what is left.
+fn messages(stream: &[u8]) -> Vec<&[u8]> {
+    let (mut messages, mut rest) = (Vec::new(), stream);
+    while !rest.is_empty() {
+        let length = rest.get(2..4).map_or(42, |two| u16::from_be_bytes([two[0], two[1]]).max(42));
+        let (message, behind) = rest.split_at(rest.len().min(length.into()));
+        messages.push(message);
+        rest = behind;
+    }
+    messages
+}
+
+fn said(answer: Result<Answer, Refusal>) -> String {
+    match answer {
+        Err(refusal) => refusal.to_string(),
+        Ok(Answer::Reply(kind)) => format!("reply {kind}"),
+        Ok(Answer::Again(kind)) => format!("again {kind}"),
+        Ok(Answer::Failure) => "failure".to_owned(),
+        Ok(Answer::Taken { heard }) => format!("taken {heard}"),
+        Ok(Answer::Repeat { heard }) => format!("repeat {heard}"),
+        Ok(Answer::Complete { length, .. }) => format!("complete {length}"),
+    }
+}
+
+/// Plays the capture; answers its lines and its reports.
+fn play(accepted: bool) -> (String, Vec<Vec<u8>>) {
+    let mut hub = Connection::open(256).unwrap();
+    let (mut working, mut report) = (vec![0; MOST_SEALED], vec![0; MOST_PIECES * 256]);
+    let (mut lines, mut reports) = (String::new(), Vec::new());
+    for message in messages(&sample("capture.bin")) {
+        let before = hub;
+        let answer = hub.step(message, &keys(), &mut working, &mut report, accepted);
+        if let Ok(Answer::Complete { length, .. }) = answer {
+            assert_eq!(before.expected() as usize, reports.len());
+            reports.push(report[..length].to_vec());
+        }
+        assert!(answer.is_ok() || hub == before, "a refusal changes nothing");
+        hub = Connection::from_bytes(*hub.as_bytes());
+        lines += &format!("{}\n", said(answer));
+    }
+    (lines, reports)
+}
+
+#[test]
+fn the_capture_gives_its_answers_and_reports() {
+    let (lines, reports) = play(true);
+    assert_eq!(lines.as_bytes(), sample("capture.txt"));
+    let sent: Vec<_> = (0..5).map(|number| sample(&format!("report-{number}"))).collect();
+    assert_eq!(reports, sent);
+}
+
+#[test]
+fn the_capture_with_a_certificate_that_is_not_accepted() {
+    let (lines, reports) = play(false);
+    assert_eq!(lines.as_bytes(), sample("capture-verdict-0.txt"));
+    assert!(reports.is_empty());
+}
+
+#[test]
+fn the_listings() {
+    for name in ["listing", "listing-refused"] {
+        let mut lines = String::new();
+        for message in messages(&sample(&format!("{name}.bin"))) {
+            match list(message) {
+                Ok(line) => lines += &format!("{line}\n"),
+                Err(refusal) => {
+                    lines += &format!("{refusal}\n");
+                    break;
+                }
+            }
+        }
+        assert_eq!(lines.as_bytes(), sample(&format!("{name}.txt")));
+    }
+}
+
+/// Every sample message is read, and what was read is written again to the same bytes.
+#[test]
+fn what_is_read_is_written_to_the_same_bytes() {
+    let keys = keys();
+    let mut working = vec![0; MOST_SEALED];
+    let mut count = 0;
+    for entry in fs::read_dir(folder().join("messages")).unwrap() {
+        let path = entry.unwrap().path();
+        let message = fs::read(&path).unwrap();
+        let framed = read_header(&message).unwrap();
+        let tag = if framed.header.is_sealed() { 32 } else { 0 };
+        let chain = &message[40..message.len() - tag - framed.body.len()];
+        let read = read(&message, &keys, &mut working).unwrap();
+        assert_eq!(read.header, framed.header);
+        let mut out = vec![0xEE; MOST_MESSAGE];
+        let length = write(&read.header, chain, read.payload, &keys, &mut out).unwrap();
+        assert_eq!(out[..length], message[..], "{}", path.display());
+        assert!(out[length..].iter().all(|byte| *byte == 0xEE));
+        count += 1;
+    }
+    assert_eq!(count, 25);
+}

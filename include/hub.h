@@ -1,0 +1,416 @@
+/*
+ * hub.h: the hub of Hlidunsk for C and C++.
+ *
+ * The library enrols gateways and joins their reports, over the Connected Devices Platform protocol (MS-CDP) as docs/01-scope.md, here called
+ * document 01, describes it. Every function below is proved to do exactly what its contract in crates/hub_c says, on every input; the
+ * sentences of this header are those contracts in words. What "proved" rests on is in docs/TRUST.md. This header itself is not proved: that
+ * it fits the library is tested (tests/boundary), millions of calls against an independent second implementation.
+ *
+ *
+ * MESSAGES, PIECES, REPORTS
+ *
+ * A message is 42 to 65,535 bytes: a header of 40, a chain of additional headers that ends with two zero bytes, a payload, and, where it is
+ * sealed, a tag of 32. Sealed means encrypted and tagged under 64 key bytes that the caller brings (16 encryption key, 16 vector key, 32 HMAC
+ * key). A gateway enrols by three Connect messages, each of which the hub replies to. Then it sends reports. A report is cut into 1 to 64
+ * pieces of F bytes (the last has the rest), each in a Session message of its own; they may come in any order, twice, or damaged.
+ *
+ * A caller of the hub's side does this:
+ *
+ *     hub_open      once for each gateway: makes a connection of fragment size F
+ *     hub_step      for each message that comes in: judges it, changes the connection, writes a piece into the report buffer, and answers
+ *                   what to do: reply, reply again, name a failure, wait for more pieces, or take the report, which is complete
+ *     hub_write     makes the bytes of a reply
+ *
+ * and a gateway's side hub_cut and hub_write. The rest looks at messages without a connection. The library opens no socket, keeps no time,
+ * agrees on no key and judges no certificate: the caller says by the verdict whether it accepts the certificate that a message shows.
+ *
+ *
+ * WHO OWNS WHICH MEMORY
+ *
+ * All memory is the caller's. The library allocates nothing, keeps no pointer after a call, and has no state of its own: what it remembers of
+ * a gateway is the 151 bytes that hub_open writes and hub_step changes. They may be copied, stored, sent, or compared with memcmp. So any
+ * calls may run at the same time in different threads, as long as none writes a buffer that another uses.
+ *
+ * Every buffer is two parameters, a pointer and behind it the number of its elements (x and x_n): bytes, or words of 64 bits where the type
+ * is uint64_t. The caller promises, as everywhere in C, that so many elements are there, that words are aligned, and that a buffer that a call
+ * writes overlaps no other buffer of the call. That is the only thing that the caller has to promise: every content is allowed, every number and
+ * every size; random bytes in place of a connection, a message or keys are defined behaviour and are answered. A buffer of no elements is not looked
+ * at, and its pointer may be null.
+ *
+ * Buffers of fixed size (a connection, the words of a header, an answer) are passed with their size like all others. Another size than the one
+ * asked for is answered HUB_WRONG_BUFFER before anything else is judged, and nothing is changed.
+ *
+ * The buffers of free size:
+ *
+ *     message   one whole message.
+ *     keys      the 64 key bytes. Another size is HUB_WRONG_KEYS, where a message is sealed; a plain message does not look at them.
+ *     working   room into which a sealed message is opened: HUB_MOST_SEALED bytes are enough for every message, for a piece of F bytes
+ *               F + 19. It holds secrets afterwards: erase it if you must. Its content before a call does not matter.
+ *     report    where a report is put together: 64 times F bytes are enough for every report. Leave it alone between steps until the report is
+ *               complete: what is in it is compared with pieces that come twice.
+ *     out       where a message is written: HUB_MOST_MESSAGE bytes are enough for every message that hub_write makes.
+ *
+ *
+ * WHAT A CALL ANSWERS
+ *
+ * Each call returns a number: HUB_DONE (0); or the number of a refusal in document 01 (1 to 25), which is the first row of document 01's table
+ * that applies, in the order given with the call; or HUB_WRONG_BUFFER (255). (hub_same_tag and hub_version return what is said there.)
+ *
+ * Where a call does not return HUB_DONE every buffer is exactly as it was before, each byte of it, but for what the call's "On refusal" names.
+ * A buffer declared const is never changed. What is not named as written is not written.
+ *
+ * "Proved" names the statement in docs/PROMISES.md, beyond the call's contract, that says the same for a reader. A contract fixes the answer and every byte
+ * of every buffer: OneResult and OneOutcome.
+ *
+ *
+ * SECRETS AND TIME
+ *
+ * hub_hmac and hub_same_tag make no branch and no memory access that depends on the bytes they are given; this is tested with valgrind (tests/memory) and
+ * not proved. AES reads tables at places that depend on keys and data, so hub_read, hub_write and hub_step are NOT constant-time: see
+ * docs/SECURITY.md. Copies on the stack are not erased. Stack: see the table in docs/PERFORMANCE.md.
+ */
+#ifndef HLIDUNSK_HUB_H
+#define HLIDUNSK_HUB_H
+
+#include <stddef.h>
+#include <stdint.h>
+
+#ifdef __cplusplus
+extern "C" {
+#endif
+
+/* An answer that is not looked at is a mistake. */
+#if defined(__GNUC__) || defined(__clang__)
+#define HUB_ANSWER_MATTERS __attribute__((warn_unused_result))
+#else
+#define HUB_ANSWER_MATTERS
+#endif
+
+/* This header's version: major * 65536 + minor * 256 + patch. */
+#define HUB_VERSION 0x00010000u
+
+/* Sizes of the buffers of fixed size; bytes, or words of 64 bits where so said. */
+#define HUB_STATE 151  /* a connection */
+#define HUB_HEADER 11  /* words: a header that was read, and the place of its payload */
+#define HUB_FIELDS 8   /* words: the fields of a header to be written */
+#define HUB_PLACE 3    /* words: where a payload lies */
+#define HUB_ANSWER 3   /* words: what a step answers */
+#define HUB_PIECE 3    /* words: a piece of a report */
+#define HUB_LENGTH 1   /* words: how many bytes were written */
+#define HUB_DIGEST 32  /* a SHA-256 digest, and a tag */
+#define HUB_KEYS 64    /* keys */
+#define HUB_LINE 64    /* a line of the listing */
+
+/* Bounds of document 01. */
+#define HUB_LEAST_MESSAGE 42         /* the shortest message */
+#define HUB_MOST_MESSAGE 18530       /* the longest message that hub_write makes */
+#define HUB_MOST_READ 65535          /* the longest message that is read */
+#define HUB_MOST_SEALED 65456        /* the longest sealed part of a message that is read */
+#define HUB_MOST_PIECES 64           /* the most pieces of a report */
+#define HUB_MOST_FRAGMENT_SIZE 16384 /* the largest F, and the longest Session payload that hub_write takes */
+
+/* What a call returns: document 01's table "Refusal numbers". */
+enum hub_refusal {
+    HUB_DONE = 0,
+    HUB_TOO_SHORT = 1,            /* fewer than 42 bytes */
+    HUB_WRONG_SIGNATURE = 2,      /* wrong signature */
+    HUB_WRONG_LENGTH = 3,         /* MessageLength under 42 or not the bytes given */
+    HUB_WRONG_VERSION = 4,        /* version not 3 */
+    HUB_WRONG_TYPE = 5,           /* type not 1, 2, 4 */
+    HUB_WRONG_FLAGS = 6,          /* a flag above 8; flags 2 and 4 not alike; sealed Discovery; plain Session */
+    HUB_WRONG_PIECE = 7,          /* count 0 or over 64; index not under count; count not 1 outside Session */
+    HUB_WRONG_CHAIN = 8,          /* chain leaves its room, unknown type, type 0 with a size, over 8 entries */
+    HUB_WRONG_SEALED_SIZE = 9,    /* sealed part empty or no multiple of 16 */
+    HUB_WRONG_KEYS = 10,          /* keys not 64 bytes */
+    HUB_WRONG_TAG = 11,           /* tag differs */
+    HUB_WORKING_TOO_SHORT = 12,   /* working buffer shorter than the sealed part */
+    HUB_WRONG_PADDING = 13,       /* size or padding not as the rule gives */
+    HUB_WRONG_PAYLOAD = 14,       /* Discovery or Connect payload not as document 01 says */
+    HUB_NOT_ALLOWED = 15,         /* message not allowed in this state */
+    HUB_OTHER_SESSION = 16,       /* state not 0 and another SessionID */
+    HUB_NUMBER_BELOW = 17,        /* SequenceNumber below the expected one */
+    HUB_NUMBER_ABOVE = 18,        /* SequenceNumber above the expected one */
+    HUB_NUMBER_UNUSED = 19,       /* SequenceNumber is 2^32 - 1 */
+    HUB_WRONG_PIECE_SIZE = 20,    /* piece not F bytes and not last; last over F; last empty with count over 1;
+                                     in hub_write: Session payload over 16,384 */
+    HUB_UNLIKE_FIRST = 21,        /* count or channel unlike the first piece taken of this message */
+    HUB_NO_ROOM = 22,             /* F times index + piece length exceeds the report buffer; or out too small */
+    HUB_CONFLICT = 23,            /* index already heard, and the bytes differ from the report buffer's there, or
+                                     the length from the one taken */
+    HUB_WRONG_FRAGMENT_SIZE = 24, /* F outside 1 to 16,384 */
+    HUB_WRONG_VERDICT = 25,       /* verdict not 0 or 1 */
+    HUB_WRONG_BUFFER = 255        /* a buffer of fixed size has another size; not a number of document 01 */
+};
+
+/* Places of the words of a header: HUB_FIELDS of them are given to hub_write, HUB_HEADER come from hub_read_header and hub_read. */
+enum hub_header_word {
+    HUB_TYPE = 0,     /* MessageType, a hub_type */
+    HUB_FLAGS = 1,    /* MessageFlags */
+    HUB_SEQUENCE = 2, /* SequenceNumber */
+    HUB_REQUEST = 3,  /* RequestID */
+    HUB_INDEX = 4,    /* FragmentIndex */
+    HUB_COUNT = 5,    /* FragmentCount */
+    HUB_SESSION = 6,  /* SessionID */
+    HUB_CHANNEL = 7,  /* ChannelID */
+    HUB_SEALED = 8,   /* 1 if the message is sealed, else 0 */
+    HUB_FROM = 9,     /* where the payload starts */
+    HUB_SIZE = 10     /* how many bytes it has */
+};
+
+/* MessageType. */
+enum hub_type { HUB_TYPE_DISCOVERY = 1, HUB_TYPE_CONNECT = 2, HUB_TYPE_SESSION = 4 };
+
+/* MessageFlags. A message is sealed where both bits of HUB_SEAL are set. */
+enum hub_flag { HUB_FLAG_ACKNOWLEDGE = 1, HUB_FLAG_HMAC = 2, HUB_FLAG_ENCRYPTED = 4, HUB_SEAL = 6, HUB_FLAG_WAKE = 8 };
+
+/* The types of Connect payloads: the byte behind ConnectionMode. */
+enum hub_connect {
+    HUB_CONNECTION_REQUEST = 0,
+    HUB_CONNECTION_RESPONSE = 1,
+    HUB_AUTHENTICATION_REQUEST = 2,
+    HUB_AUTHENTICATION_RESPONSE = 3,
+    HUB_DONE_REQUEST = 6,
+    HUB_DONE_RESPONSE = 7
+};
+
+/* Places of the words that hub_payload writes. */
+enum hub_place_word {
+    HUB_PLACE_BUFFER = 0, /* 0: in the message, 1: in the working buffer */
+    HUB_PLACE_FROM = 1,
+    HUB_PLACE_SIZE = 2
+};
+
+/* Places of the words that hub_step writes. */
+enum hub_answer_word {
+    HUB_ANSWER_KIND = 0,  /* a hub_kind */
+    HUB_ANSWER_VALUE = 1, /* Reply, Again: the Connect type to send; Taken, Repeat, Complete: how many different pieces have come */
+    HUB_ANSWER_LENGTH = 2 /* Complete: the report's length; else 0 */
+};
+
+/* The kinds of a step's answers. */
+enum hub_kind {
+    HUB_REPLY = 1,   /* send the Connect payload of this type: 1 (Connection Response), 3 (Device Authentication Response),
+                        7 (Authentication Done Response, with Status 0) */
+    HUB_AGAIN = 2,   /* the message came before and nothing has changed; send the same reply again */
+    HUB_FAILURE = 3, /* the verdict was 0: send Authentication Failure, which the caller makes without hub_write */
+    HUB_TAKEN = 4,   /* a new piece is in the report buffer; others are missing */
+    HUB_REPEAT = 5,  /* a piece that had come, with the same bytes; nothing has changed */
+    HUB_COMPLETE = 6 /* the last missing piece: the report is the report buffer's first bytes */
+};
+
+/* Places of the words that hub_cut writes. */
+enum hub_piece_word {
+    HUB_PIECE_COUNT = 0, /* how many pieces the report makes: FragmentCount */
+    HUB_PIECE_FROM = 1,  /* where in the report the piece starts */
+    HUB_PIECE_SIZE = 2   /* how many bytes it has */
+};
+
+/*
+ * Where in the 151 bytes of a connection what stands; numbers are big-endian, as on the wire. Every 151 bytes are a connection, and every
+ * connection is 151 bytes in exactly one way. Only hub_open and hub_step need write them.
+ */
+enum hub_state_place {
+    HUB_STATE_FRAGMENT_SIZE = 0, /* 8 bytes: F */
+    HUB_STATE_STATE = 8,         /* 1 byte: 0 waiting for a request, 1 waiting for authentication, 2 passed, 3 Ready, 4 Failed */
+    HUB_STATE_SESSION = 9,       /* 8 bytes: SessionID */
+    HUB_STATE_NONCE = 17,        /* 8 bytes: the nonce of the Connection Request */
+    HUB_STATE_X = 25,            /* 32 bytes: its X */
+    HUB_STATE_Y = 57,            /* 32 bytes: its Y */
+    HUB_STATE_CERTIFICATE = 89,  /* 32 bytes: SHA-256 of the gateway's certificate */
+    HUB_STATE_EXPECTED = 121,    /* 4 bytes: the SequenceNumber of the report that is expected */
+    HUB_STATE_HEARD = 125,       /* 8 bytes: the pieces that have come: index i is the bit of value 2^(i % 8) in byte i / 8 */
+    HUB_STATE_COUNT = 133,       /* 8 bytes: FragmentCount of the first piece taken */
+    HUB_STATE_CHANNEL = 141,     /* 8 bytes: ChannelID of the first piece taken */
+    HUB_STATE_LAST = 149         /* 2 bytes: the length of the piece with the last index, once taken */
+};
+
+/*
+ * The library's version, as HUB_VERSION is this header's.
+ *
+ * Returns   0x00010000 for 1.0.0.
+ */
+uint32_t hub_version(void);
+
+/*
+ * SHA-256 (FIPS 180-4).
+ *
+ * bytes     what is hashed; any size.
+ * out       HUB_DIGEST bytes.
+ *
+ * Returns   HUB_DONE, HUB_WRONG_BUFFER (out).
+ * On done   out holds the digest.
+ * Proved    the contract: out is `digest` of the bytes (crates/sha256/specs/Digests.antt).
+ */
+HUB_ANSWER_MATTERS
+uint8_t hub_digest(const uint8_t *bytes, size_t bytes_n, uint8_t *out, size_t out_n);
+
+/*
+ * HMAC-SHA-256 (RFC 2104).
+ *
+ * key       the key; any size. (A key over 64 bytes is hashed first, as RFC 2104 says.)
+ * message   what is tagged; any bytes and any size: it need not be a message of document 01.
+ * out       HUB_DIGEST bytes.
+ *
+ * Returns   HUB_DONE, HUB_WRONG_BUFFER (out).
+ * On done   out holds the tag.
+ * Proved    the contract: out is `hmac` of key and message (crates/sha256/specs/Digests.antt).
+ */
+HUB_ANSWER_MATTERS
+uint8_t hub_hmac(const uint8_t *key, size_t key_n, const uint8_t *message, size_t message_n, uint8_t *out, size_t out_n);
+
+/*
+ * Compares two tags. All bytes of both are read, wherever they differ.
+ *
+ * a, b      HUB_DIGEST bytes each.
+ *
+ * Returns   0 if they are alike, 1 if not, HUB_WRONG_BUFFER (a or b).
+ * Proved    the contract: 0 exactly where the bytes are the same.
+ */
+HUB_ANSWER_MATTERS
+uint8_t hub_same_tag(const uint8_t *a, size_t a_n, const uint8_t *b, size_t b_n);
+
+/*
+ * Reads the header of a message and its chain. It needs no keys.
+ *
+ * message   one whole message.
+ * header    HUB_HEADER words.
+ *
+ * Returns   HUB_DONE, HUB_WRONG_BUFFER (header), then 1 to 9 in this order.
+ * On done   header holds the fields, and by HUB_FROM and HUB_SIZE where in the message the payload lies or, for a sealed message, its sealed part.
+ * Proved    ReaderExact (rows 1 to 9).
+ */
+HUB_ANSWER_MATTERS
+uint8_t hub_read_header(const uint8_t *message, size_t message_n, uint64_t *header, size_t header_n);
+
+/*
+ * Reads a message; a sealed one is opened into the working buffer.
+ *
+ * message   one whole message.
+ * keys      the 64 key bytes.
+ * working   at least as long as the message's sealed part.
+ * header    HUB_HEADER words.
+ *
+ * Returns   HUB_DONE, HUB_WRONG_BUFFER (header), then 1 to 14 in this order; 10 to 13 for sealed messages only.
+ * On done   header holds the fields, and by HUB_FROM and HUB_SIZE where the payload lies: in the message (HUB_SEALED 0) or in the working buffer
+ *           (HUB_SEALED 1). The first bytes of working hold the opened sealed part: payload size (4 bytes), payload, padding; the rest is
+ *           unchanged. A plain message leaves all of it unchanged.
+ * On refusal 14 of a sealed message working holds the opened sealed part likewise. All else is as it was.
+ * Proved    ReaderExact, WorkingBuffer.
+ */
+HUB_ANSWER_MATTERS
+uint8_t hub_read(const uint8_t *message, size_t message_n, const uint8_t *keys, size_t keys_n, uint8_t *working, size_t working_n, uint64_t *header,
+                 size_t header_n);
+
+/*
+ * Says where the payload of a message that hub_read has read lies. It trusts no number: what it answers is always inside the buffers given.
+ *
+ * message   the message.
+ * working   the working buffer.
+ * header    HUB_HEADER words, as hub_read wrote them; only HUB_SEALED, HUB_FROM and HUB_SIZE are looked at.
+ * place     HUB_PLACE words.
+ *
+ * Returns   HUB_DONE, HUB_WRONG_BUFFER (header or place).
+ * On done   place holds the buffer (0 message, 1 working), the payload's start in it and its length; or 0, 0, 0 where header names a part that
+ *           the buffer does not have.
+ * Proved    the contract (`payload` in crates/message/specs/Handed.antt).
+ */
+HUB_ANSWER_MATTERS
+uint8_t hub_payload(const uint8_t *message, size_t message_n, const uint8_t *working, size_t working_n, const uint64_t *header, size_t header_n,
+                    uint64_t *place, size_t place_n);
+
+/*
+ * Writes a message; sealed where both bits of HUB_SEAL are set in its flags.
+ *
+ * fields    HUB_FIELDS words, see hub_header_word. A word that does not fit its field is refused like a wrong value of it.
+ * chain     the additional headers with their end: the two bytes 0, 0 where there are none.
+ * payload   the payload. A Session message's is any 0 to 16,384 bytes; the others' have the shapes of document 01.
+ * keys      the 64 key bytes; a plain message does not look at them.
+ * out       at least as long as the message: 42 + entries of the chain + payload where it is plain, else 74 + entries +
+ *           (payload + 4 rounded up to a multiple of 16). It may overlap no other buffer.
+ * length    HUB_LENGTH words.
+ *
+ * Returns   HUB_DONE, HUB_WRONG_BUFFER (fields or length; a SequenceNumber over 2^32 - 1), then 5, 6, 7, 8, 10 (sealed messages), 14, 20, 22 in this order.
+ * On done   the first length[0] bytes of out are the message; the rest of out is unchanged.
+ * Proved    WriterExact; that hub_read gives it back: read-sealed, payload-sealed, read-plain (crates/message/proofs/WrittenBack.antt).
+ */
+HUB_ANSWER_MATTERS
+uint8_t hub_write(const uint64_t *fields, size_t fields_n, const uint8_t *chain, size_t chain_n, const uint8_t *payload, size_t payload_n,
+                  const uint8_t *keys, size_t keys_n, uint8_t *out, size_t out_n, uint64_t *length, size_t length_n);
+
+/*
+ * Opens a connection: state 0, expecting the report of SequenceNumber 0.
+ *
+ * fragment_size   F, 1 to 16,384: the bytes of each piece but the last.
+ * state           HUB_STATE bytes.
+ *
+ * Returns   HUB_DONE, HUB_WRONG_BUFFER (state), 24.
+ * On done   state holds the connection.
+ * On refusal 24 state is all zero, which hub_step refuses with 24.
+ * Proved    the contract (`opened` in crates/hub/specs/Opening.antt).
+ */
+HUB_ANSWER_MATTERS
+uint8_t hub_open(uint64_t fragment_size, uint8_t *state, size_t state_n);
+
+/*
+ * Takes one message that has come in.
+ *
+ * state     HUB_STATE bytes: the connection.
+ * message   the message, as it came.
+ * keys      the 64 key bytes of this gateway. Before they are agreed on no bytes may be given: plain messages do not look at them.
+ * working   at least as long as the message's sealed part.
+ * report    the report buffer of this connection.
+ * verdict   1 if the certificate that this message may show is accepted, else 0. Only a Device Authentication Request in state 1 looks at it; the caller
+ *           reads that message beforehand with hub_read.
+ * answer    HUB_ANSWER words.
+ *
+ * Returns   HUB_DONE, HUB_WRONG_BUFFER (state or answer), then the first that applies of 25; 24; 1 to 9; 10 to 13 (sealed messages); 14; 16; 15;
+ *           19, 17, 18, 21, 20, 22, 23.
+ * On done   answer holds what to do (see hub_kind; words that a kind does not use are 0), state the next connection. HUB_TAKEN and HUB_COMPLETE:
+ *           the piece is in report from F times its index on, no other byte of it changed. HUB_COMPLETE: the first answer[HUB_ANSWER_LENGTH] bytes
+ *           of report are the report, whose SequenceNumber was the expected one before this step. The other kinds leave report unchanged;
+ *           HUB_AGAIN and HUB_REPEAT state too. The first bytes of working hold the opened sealed part of a sealed message.
+ * On refusal state, report and answer are as they were. So is working for 1 to 13, 24 and 25; for the others its first bytes hold the opened
+ *           sealed part of a sealed message.
+ * Proved    StepExact, LeavesAlone, WorkingBuffer, RepeatedStep, OnlyWhatCame, AtTheLastMissing, HandedOut, AtNoOther, NotBetween, LaterCopies.
+ */
+HUB_ANSWER_MATTERS
+uint8_t hub_step(uint8_t *state, size_t state_n, const uint8_t *message, size_t message_n, const uint8_t *keys, size_t keys_n, uint8_t *working,
+                 size_t working_n, uint8_t *report, size_t report_n, uint8_t verdict, uint64_t *answer, size_t answer_n);
+
+/*
+ * Cuts a report: says where its piece lies.
+ *
+ * report          the report, 0 to 64 times F bytes.
+ * fragment_size   F, 1 to 16,384.
+ * index           which piece, from 0 on.
+ * piece           HUB_PIECE words.
+ *
+ * Returns   HUB_DONE, HUB_WRONG_BUFFER (piece), 24, then 7 where the report is longer than 64 times F or has no such piece.
+ * On done   piece holds the number of pieces, the piece's start in the report and its length.
+ * On refusal 24 and 7 piece is 0, 0, 0.
+ * Proved    CutterExact.
+ */
+HUB_ANSWER_MATTERS
+uint8_t hub_cut(const uint8_t *report, size_t report_n, uint64_t fragment_size, uint64_t index, uint64_t *piece, size_t piece_n);
+
+/*
+ * Writes the line that the listing has for a message: type, sequence, index, count and length in decimal with single blanks between, or
+ * `refused N`; then a newline. No zero byte is added.
+ *
+ * message   one whole message.
+ * line      HUB_LINE bytes.
+ * length    HUB_LENGTH words.
+ *
+ * Returns   HUB_DONE, HUB_WRONG_BUFFER (line or length), then 1 to 9 in this order.
+ * On done   the first length[0] bytes of line are the line; the rest is unchanged.
+ * On refusal 1 to 9 likewise: the line is `refused N` and a newline.
+ * Proved    the contract (`lineOf` in crates/lines/specs/Listing.antt).
+ */
+HUB_ANSWER_MATTERS
+uint8_t hub_list(const uint8_t *message, size_t message_n, uint8_t *line, size_t line_n, uint64_t *length, size_t length_n);
+
+#ifdef __cplusplus
+}
+#endif
+
+#endif
