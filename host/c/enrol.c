@@ -116,7 +116,7 @@ static void send_report(void)
 {
     uint8_t message[HUB_MOST_MESSAGE];
     uint64_t piece[HUB_PIECE], i;
-    size_t length;
+    size_t length = 0;
 
     must(hub_cut((const uint8_t *)sent, sizeof sent - 1, F, 0, piece, HUB_PIECE), "hub_cut");
     for (i = piece[HUB_PIECE_COUNT]; i-- > 0;) {

@@ -8,7 +8,7 @@ pub type Keys = [u8; 64];
 /// The chain with no entries.
 pub const NO_ENTRIES: &[u8] = &[0, 0];
 
-/// The longest message that [`write`] makes.
+/// The longest message that [`write()`] makes.
 pub const MOST_MESSAGE: usize = 18_530;
 
 /// The longest sealed part of a message: a working buffer of this size is enough for all.

@@ -1,0 +1,142 @@
+//! What libFuzzer calls: its bytes choose a call, or some steps of one connection, and the two
+//! implementations must agree. Messages are sealed here, since no fuzzer finds a tag.
+
+#![allow(unsafe_code)]
+
+use std::cell::RefCell;
+
+use second::compare::{Comparison, Difference};
+use second::connection::{Answer, Connection};
+use second::draft::{Damage, Draft};
+use second::generate::{Case, CutCase, WriteCase};
+use second::header::Header;
+
+use crate::hub_h::Hub;
+
+/// The fuzzer's bytes, read from the front; behind their end all is zero.
+struct Tape<'a>(&'a [u8]);
+
+impl Tape<'_> {
+    fn number(&mut self, bytes: usize) -> u64 {
+        let (front, rest) = self.0.split_at(bytes.min(self.0.len()));
+        self.0 = rest;
+        front.iter().fold(0, |number, byte| number << 8 | u64::from(*byte))
+    }
+
+    fn byte(&mut self) -> u8 {
+        self.number(1) as u8
+    }
+
+    fn bytes(&mut self) -> Vec<u8> {
+        let length = usize::from(self.byte()).min(self.0.len());
+        let (front, rest) = self.0.split_at(length);
+        self.0 = rest;
+        front.to_vec()
+    }
+
+    fn header(&mut self) -> Header {
+        Header {
+            message_type: self.byte(),
+            flags: self.number(2) as u16,
+            sequence: self.byte().into(),
+            request: self.byte().into(),
+            index: self.byte().into(),
+            count: self.byte().into(),
+            session: (self.byte() & 1).into(),
+            channel: (self.byte() & 1).into(),
+        }
+    }
+
+    fn draft(&mut self) -> Draft {
+        let mut draft = Draft::new(self.header(), Vec::new());
+        let unusual = self.byte();
+        if unusual & 1 != 0 {
+            draft.chain = self.bytes();
+        }
+        draft.payload = self.bytes();
+        if unusual & 2 != 0 {
+            draft.size = Some(self.number(4) as u32);
+        }
+        if unusual & 4 != 0 {
+            draft.padding = Some(self.bytes());
+        }
+        if unusual & 8 != 0 {
+            draft.damage.push(Damage::Flip(self.number(2) as usize));
+        }
+        if unusual & 16 != 0 {
+            draft.damage.push(Damage::Cut(self.number(2) as usize));
+        }
+        if unusual & 32 != 0 {
+            draft.length = Some(self.number(2) as u16);
+        }
+        draft
+    }
+}
+
+const KEYS: [u8; 64] = [0x42; 64];
+
+/// A connection that starts in any state, and some messages to it.
+fn steps(comparison: &mut Comparison<Hub>, tape: &mut Tape<'_>) -> Result<(), Difference> {
+    let mut connection = Connection {
+        fragment_size: tape.byte().into(),
+        state: tape.byte() % 6,
+        session: 1,
+        expected: tape.byte().into(),
+        ..Connection::default()
+    };
+    let (mut working, mut report) = (vec![0xAA; 300], vec![0x55; 16 * usize::from(tape.byte())]);
+    while !tape.0.is_empty() {
+        let choice = tape.byte();
+        let message = if choice & 3 == 3 { tape.bytes() } else { tape.draft().bytes(&KEYS) };
+        let keys = if choice & 0xF0 == 0xF0 { tape.bytes() } else { KEYS.to_vec() };
+        let verdict = u32::from(choice >> 2 & 3);
+        let (kept, room) = (working.clone(), report.clone());
+        let mut case = Case { connection, message, keys, working: kept, report: room, verdict };
+        comparison.read(&case)?;
+        let answer = comparison.step(&case)?;
+        let (next, _) = case.step();
+        if !matches!(answer, Answer::Refused(_)) {
+            connection = next;
+        }
+        (working, report) = (case.working, case.report);
+    }
+    Ok(())
+}
+
+fn one(comparison: &mut Comparison<Hub>, data: &[u8]) -> Result<(), Difference> {
+    let mut tape = Tape(data);
+    match tape.byte() % 4 {
+        0 | 1 => steps(comparison, &mut tape),
+        2 => {
+            let header = Header { sequence: tape.number(4) as u32, ..tape.header() };
+            let (chain, keys) = (tape.bytes(), tape.bytes());
+            let (room, payload) = (tape.number(2) as usize, tape.0.to_vec());
+            let keys = if keys.is_empty() { KEYS.to_vec() } else { keys };
+            let output = vec![0xEE; room];
+            comparison.write(&WriteCase { header, chain, payload, keys, output })
+        }
+        _ => {
+            let (fragment_size, index) = (tape.number(2) as u32, tape.number(2) as u32);
+            let report = tape.0.to_vec();
+            comparison.digest(&[index as u8; 32], &report)?;
+            comparison.cut(&CutCase { report, fragment_size, index })
+        }
+    }
+}
+
+thread_local! {
+    static COMPARISON: RefCell<Comparison<Hub>> = RefCell::new(Comparison::new(Hub::default()));
+}
+
+/// libFuzzer's entry.
+#[unsafe(no_mangle)]
+pub extern "C" fn LLVMFuzzerTestOneInput(data: *const u8, size: usize) -> i32 {
+    // SAFETY: libFuzzer lends so many bytes; none may be at a null pointer.
+    let data = if size == 0 { &[] } else { unsafe { std::slice::from_raw_parts(data, size) } };
+    let outcome = COMPARISON.with_borrow_mut(|comparison| one(comparison, data));
+    if let Err(Difference(text)) = outcome {
+        eprintln!("a difference: {text}");
+        std::process::abort();
+    }
+    0
+}

@@ -1,0 +1,196 @@
+//! Document 01's calls as the comparison asks for them, each by one call through the C boundary. What
+//! the comparison cannot see is tested here: that a refusal leaves every output as it was.
+
+use second::compare::{Implementation, Piece};
+use second::connection::{Answer, Connection};
+use second::header::{Framed, Header, Kind};
+use second::message::{Message, Place};
+use second::refusal::Refusal;
+
+use crate::hub_h::{Hub, answer_words, header_words, kinds, piece_words, place_words};
+use crate::state::{STATE, decode, encode};
+
+/// What stands in an output before a call.
+const BEFORE: u64 = 0x5AA5_0FF0_C33C_9669;
+
+/// What a call returned, as a refusal.
+pub fn refusal(number: u8) -> Result<(), Refusal> {
+    match number {
+        0 => Ok(()),
+        _ => Err(Refusal::from_number(number).unwrap_or_else(|| panic!("{number} was returned"))),
+    }
+}
+
+/// The same; refused, the words must be as they were.
+fn unless_refused<const N: usize>(number: u8, words: [u64; N]) -> Result<[u64; N], Refusal> {
+    let answer = refusal(number);
+    assert!(answer.is_ok() || words == [BEFORE; N], "refused {number}, but words were written");
+    answer.map(|()| words)
+}
+
+/// The words of a header by hub.h's names, in its order.
+pub fn by_name<const N: usize>(words: &[u64; N], names: [usize; N]) -> [u64; N] {
+    names.map(|name| words[name])
+}
+
+fn fits<T: TryFrom<u64>>(word: u64) -> T {
+    T::try_from(word).unwrap_or_else(|_| panic!("{word} is too wide for its field"))
+}
+
+/// Header, kind, whether it is sealed, and the place's start and end.
+fn header_of(words: &[u64; 11]) -> (Header, Kind, bool, std::ops::Range<usize>) {
+    let [kind, flags, sequence, request, index, count, session, channel, sealed, from, size] =
+        by_name(words, header_words());
+    let header = Header {
+        message_type: fits(kind),
+        flags: fits(flags),
+        sequence: fits(sequence),
+        request,
+        index: fits(index),
+        count: fits(count),
+        session,
+        channel,
+    };
+    assert!(sealed <= 1, "sealed is {sealed}");
+    let kind = Kind::from_number(header.message_type).expect("a kind");
+    (header, kind, sealed == 1, from as usize..(from + size) as usize)
+}
+
+/// The words of a header, for the writer.
+pub fn fields_of(header: &Header) -> [u64; 8] {
+    let values: [u64; 8] = [
+        header.message_type.into(),
+        header.flags.into(),
+        header.sequence.into(),
+        header.request,
+        header.index.into(),
+        header.count.into(),
+        header.session,
+        header.channel,
+    ];
+    let mut fields = [0; 8];
+    for (name, value) in header_words().into_iter().zip(values) {
+        fields[name] = value;
+    }
+    fields
+}
+
+/// A step's answer.
+pub fn answer_of(words: &[u64; 3]) -> Answer {
+    let [kind, value, length] = by_name(words, answer_words());
+    let [reply, again, failure, taken, repeat, complete] = kinds();
+    assert!(kind == complete || length == 0, "a length that is not used is {length}");
+    match kind {
+        kind if kind == reply => Answer::Reply(fits(value)),
+        kind if kind == again => Answer::Again(fits(value)),
+        kind if kind == failure && value == 0 => Answer::Failure,
+        kind if kind == taken => Answer::Taken(fits(value)),
+        kind if kind == repeat => Answer::Repeat(fits(value)),
+        kind if kind == complete => Answer::Complete(fits(length), fits(value)),
+        _ => panic!("answer {words:?}"),
+    }
+}
+
+impl Implementation for Hub {
+    fn read_header(&mut self, message: &[u8]) -> Result<Framed, Refusal> {
+        let mut words = [BEFORE; 11];
+        let number = Hub::read_header(self, message, &mut words);
+        let (header, kind, sealed, body) = header_of(&unless_refused(number, words)?);
+        assert_eq!(sealed, header.sealed());
+        Ok(Framed { header, kind, body })
+    }
+
+    fn read_message(
+        &mut self,
+        message: &[u8],
+        keys: &[u8],
+        working: &mut [u8],
+    ) -> Result<Message, Refusal> {
+        let mut words = [BEFORE; 11];
+        let number = Hub::read(self, message, keys, working, &mut words);
+        let (header, kind, sealed, range) = header_of(&unless_refused(number, words)?);
+        let mut place = [BEFORE; 3];
+        assert_eq!(Hub::payload(self, message, working, &words, &mut place), 0);
+        let [buffer, from, size] = by_name(&place, place_words());
+        assert_eq!((buffer, from, size), (sealed.into(), range.start as u64, range.len() as u64));
+        let payload = if sealed { Place::Working(range) } else { Place::Message(range) };
+        Ok(Message { header, kind, payload })
+    }
+
+    fn write_message(
+        &mut self,
+        header: &Header,
+        chain: &[u8],
+        payload: &[u8],
+        keys: &[u8],
+        output: &mut [u8],
+    ) -> Result<usize, Refusal> {
+        let mut length = [BEFORE];
+        let fields = fields_of(header);
+        let number = Hub::write(self, &fields, chain, payload, keys, output, &mut length);
+        Ok(fits(unless_refused(number, length)?[0]))
+    }
+
+    fn open(&mut self, fragment_size: u32) -> (Connection, Result<(), Refusal>) {
+        let mut state = [0xA5; STATE];
+        let number = Hub::open(self, fragment_size.into(), &mut state);
+        (decode(&state), refusal(number))
+    }
+
+    fn step(
+        &mut self,
+        connection: Connection,
+        message: &[u8],
+        keys: &[u8],
+        working: &mut [u8],
+        report: &mut [u8],
+        verdict: u32,
+    ) -> (Connection, Answer) {
+        let before = encode(&connection);
+        let (mut state, mut words) = (before, [BEFORE; 3]);
+        let verdict = verdict as u8;
+        let number =
+            Hub::step(self, &mut state, message, keys, working, report, verdict, &mut words);
+        match unless_refused(number, words) {
+            Err(refusal) => {
+                assert_eq!(state, before, "{refusal}, but the state was written");
+                (connection, Answer::Refused(refusal))
+            }
+            Ok(words) => (decode(&state), answer_of(&words)),
+        }
+    }
+
+    fn cut(&mut self, report: &[u8], fragment_size: u32, index: u32) -> Piece {
+        let mut words = [BEFORE; 3];
+        let number = Hub::cut(self, report, fragment_size.into(), index.into(), &mut words);
+        let [count, from, size] = by_name(&words, piece_words());
+        (fits(count), fits(from)..fits(from + size), refusal(number))
+    }
+
+    fn line(&mut self, message: &[u8]) -> Result<String, Refusal> {
+        let (mut line, mut length) = ([0xA5; 64], [BEFORE]);
+        let answer = refusal(Hub::list(self, message, &mut line, &mut length));
+        let (text, rest) = line.split_at(fits(length[0]));
+        assert!(rest.iter().all(|byte| *byte == 0xA5), "written behind the line");
+        let text = str::from_utf8(text).expect("ASCII").strip_suffix('\n').expect("a newline");
+        match answer {
+            Ok(()) => Ok(text.to_owned()),
+            Err(refusal) => {
+                assert_eq!(text, refusal.to_string());
+                Err(refusal)
+            }
+        }
+    }
+
+    fn sha256(&mut self, data: &[u8]) -> [u8; 32] {
+        let mut out = [0xA5; 32];
+        assert_eq!(Hub::digest(self, data, &mut out), 0);
+        out
+    }
+
+    fn hmac(&mut self, key: &[u8; 32], data: &[u8]) -> [u8; 32] {
+        let mut out = [0xA5; 32];
+        assert_eq!(Hub::hmac(self, key, data, &mut out), 0);
+        out
+    }
+}

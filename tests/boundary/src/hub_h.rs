@@ -1,0 +1,324 @@
+//! The calls of include/hub.h, on slices of any size. Each slice is lent as memory that ends at an
+//! unreadable page and is copied back; those that a call only reads must be as they were.
+
+#![allow(unsafe_code)]
+
+use crate::guard::Room;
+
+mod through {
+    unsafe extern "C" {
+        pub fn through_version() -> u32;
+        pub fn through_digest(b: *const u8, bn: usize, o: *mut u8, on: usize) -> u8;
+        pub fn through_hmac(
+            k: *const u8,
+            kn: usize,
+            m: *const u8,
+            mn: usize,
+            o: *mut u8,
+            on: usize,
+        ) -> u8;
+        pub fn through_same_tag(a: *const u8, an: usize, b: *const u8, bn: usize) -> u8;
+        pub fn through_read_header(m: *const u8, mn: usize, h: *mut u64, hn: usize) -> u8;
+        pub fn through_read(
+            m: *const u8,
+            mn: usize,
+            k: *const u8,
+            kn: usize,
+            w: *mut u8,
+            wn: usize,
+            h: *mut u64,
+            hn: usize,
+        ) -> u8;
+        pub fn through_payload(
+            m: *const u8,
+            mn: usize,
+            w: *const u8,
+            wn: usize,
+            h: *const u64,
+            hn: usize,
+            p: *mut u64,
+            pn: usize,
+        ) -> u8;
+        pub fn through_write(
+            f: *const u64,
+            fn_: usize,
+            c: *const u8,
+            cn: usize,
+            p: *const u8,
+            pn: usize,
+            k: *const u8,
+            kn: usize,
+            o: *mut u8,
+            on: usize,
+            l: *mut u64,
+            ln: usize,
+        ) -> u8;
+        pub fn through_open(f: u64, s: *mut u8, sn: usize) -> u8;
+        pub fn through_step(
+            s: *mut u8,
+            sn: usize,
+            m: *const u8,
+            mn: usize,
+            k: *const u8,
+            kn: usize,
+            w: *mut u8,
+            wn: usize,
+            r: *mut u8,
+            rn: usize,
+            v: u8,
+            a: *mut u64,
+            an: usize,
+        ) -> u8;
+        pub fn through_cut(r: *const u8, rn: usize, f: u64, i: u64, p: *mut u64, pn: usize) -> u8;
+        pub fn through_list(
+            m: *const u8,
+            mn: usize,
+            t: *mut u8,
+            tn: usize,
+            l: *mut u64,
+            ln: usize,
+        ) -> u8;
+        pub static through_version_here: u32;
+        pub static through_refusals: [u8; 27];
+        pub static through_sizes: [usize; 10];
+        pub static through_bounds: [usize; 6];
+        pub static through_header_words: [usize; 11];
+        pub static through_place_words: [usize; 3];
+        pub static through_answer_words: [usize; 3];
+        pub static through_piece_words: [usize; 3];
+        pub static through_state_places: [usize; 13];
+        pub static through_kinds: [u64; 6];
+        pub static through_types: [u64; 3];
+        pub static through_flags: [u64; 5];
+        pub static through_connects: [u64; 6];
+    }
+}
+
+macro_rules! constants {
+    ($($name:ident: $type:ty = $from:ident, $what:literal;)*) => {
+        $(#[doc = $what]
+        pub fn $name() -> $type {
+            // SAFETY: a constant.
+            unsafe { through::$from }
+        })*
+    };
+}
+
+constants! {
+    version_here: u32 = through_version_here, "The header's version.";
+    refusals: [u8; 27] = through_refusals, "Done, the refusals in document 01's order, wrong buffer.";
+    sizes: [usize; 10] = through_sizes, "State, header, fields, place, answer, piece, length, digest, keys, line.";
+    bounds: [usize; 6] = through_bounds, "Least and most message, most read, most sealed, pieces, F.";
+    header_words: [usize; 11] = through_header_words, "Type to size.";
+    place_words: [usize; 3] = through_place_words, "Buffer, from, size.";
+    answer_words: [usize; 3] = through_answer_words, "Kind, value, length.";
+    piece_words: [usize; 3] = through_piece_words, "Count, from, size.";
+    state_places: [usize; 13] = through_state_places, "Fragment size to last length, and the end.";
+    kinds: [u64; 6] = through_kinds, "Reply, Again, Failure, Taken, Repeat, Complete.";
+    types: [u64; 3] = through_types, "Discovery, Connect, Session.";
+    flags: [u64; 5] = through_flags, "Acknowledge, HMAC, encrypted, both, wake.";
+    connects: [u64; 6] = through_connects, "The Connect types, in order.";
+}
+
+/// The longest buffer that is lent: a report of 64 × 16,384 bytes and some.
+const LONGEST: usize = (1 << 20) + (1 << 17);
+/// The longest buffer of the others.
+const LONG: usize = 1 << 17;
+
+/// The library, with a room for each buffer of a call.
+pub struct Hub {
+    message: Room,
+    keys: Room,
+    working: Room,
+    report: Room,
+    state: Room,
+    chain: Room,
+    payload: Room,
+    out: Room,
+    words: Room,
+    more_words: Room,
+}
+
+impl Default for Hub {
+    fn default() -> Hub {
+        Hub {
+            message: Room::new(LONG),
+            keys: Room::new(LONG),
+            working: Room::new(LONG),
+            report: Room::new(LONGEST),
+            state: Room::new(LONG),
+            chain: Room::new(LONG),
+            payload: Room::new(LONG),
+            out: Room::new(LONG),
+            words: Room::new(LONG),
+            more_words: Room::new(LONG),
+        }
+    }
+}
+
+// SAFETY of all calls below: pointer and length name a room's bytes, and rooms do not overlap.
+impl Hub {
+    /// `hub_version`.
+    pub fn version(&self) -> u32 {
+        unsafe { through::through_version() }
+    }
+
+    /// `hub_digest`.
+    pub fn digest(&mut self, bytes: &[u8], out: &mut [u8]) -> u8 {
+        let (b, o) = (self.message.lend(bytes), self.out.lend(out));
+        let number = unsafe { through::through_digest(b, bytes.len(), o, out.len()) };
+        self.message.unchanged(bytes);
+        self.out.give_back(out);
+        number
+    }
+
+    /// `hub_hmac`.
+    pub fn hmac(&mut self, key: &[u8], message: &[u8], out: &mut [u8]) -> u8 {
+        let (k, m) = (self.keys.lend(key), self.message.lend(message));
+        let o = self.out.lend(out);
+        let number = unsafe { through::through_hmac(k, key.len(), m, message.len(), o, out.len()) };
+        self.keys.unchanged(key);
+        self.message.unchanged(message);
+        self.out.give_back(out);
+        number
+    }
+
+    /// `hub_same_tag`.
+    pub fn same_tag(&mut self, a: &[u8], b: &[u8]) -> u8 {
+        let (x, y) = (self.message.lend(a), self.out.lend(b));
+        let number = unsafe { through::through_same_tag(x, a.len(), y, b.len()) };
+        self.message.unchanged(a);
+        self.out.unchanged(b);
+        number
+    }
+
+    /// `hub_read_header`.
+    pub fn read_header(&mut self, message: &[u8], header: &mut [u64]) -> u8 {
+        let (m, h) = (self.message.lend(message), self.words.lend_words(header));
+        let number = unsafe { through::through_read_header(m, message.len(), h, header.len()) };
+        self.message.unchanged(message);
+        self.words.give_back_words(header);
+        number
+    }
+
+    /// `hub_read`.
+    pub fn read(
+        &mut self,
+        message: &[u8],
+        keys: &[u8],
+        working: &mut [u8],
+        header: &mut [u64],
+    ) -> u8 {
+        let (m, k) = (self.message.lend(message), self.keys.lend(keys));
+        let (w, h) = (self.working.lend(working), self.words.lend_words(header));
+        let (mn, kn, wn, hn) = (message.len(), keys.len(), working.len(), header.len());
+        let number = unsafe { through::through_read(m, mn, k, kn, w, wn, h, hn) };
+        self.message.unchanged(message);
+        self.keys.unchanged(keys);
+        self.working.give_back(working);
+        self.words.give_back_words(header);
+        number
+    }
+
+    /// `hub_payload`.
+    pub fn payload(
+        &mut self,
+        message: &[u8],
+        working: &[u8],
+        header: &[u64],
+        place: &mut [u64],
+    ) -> u8 {
+        let (m, w) = (self.message.lend(message), self.working.lend(working));
+        let (h, p) = (self.words.lend_words(header), self.more_words.lend_words(place));
+        let (mn, wn, hn, pn) = (message.len(), working.len(), header.len(), place.len());
+        let number = unsafe { through::through_payload(m, mn, w, wn, h, hn, p, pn) };
+        self.message.unchanged(message);
+        self.working.unchanged(working);
+        self.words.unchanged_words(header);
+        self.more_words.give_back_words(place);
+        number
+    }
+
+    /// `hub_write`.
+    pub fn write(
+        &mut self,
+        fields: &[u64],
+        chain: &[u8],
+        payload: &[u8],
+        keys: &[u8],
+        out: &mut [u8],
+        length: &mut [u64],
+    ) -> u8 {
+        let (f, l) = (self.words.lend_words(fields), self.more_words.lend_words(length));
+        let (c, p) = (self.chain.lend(chain), self.payload.lend(payload));
+        let (k, o) = (self.keys.lend(keys), self.out.lend(out));
+        let (cn, pn, kn, on) = (chain.len(), payload.len(), keys.len(), out.len());
+        let number = unsafe {
+            let (f_n, l_n) = (fields.len(), length.len());
+            through::through_write(f, f_n, c, cn, p, pn, k, kn, o, on, l, l_n)
+        };
+        self.words.unchanged_words(fields);
+        self.chain.unchanged(chain);
+        self.payload.unchanged(payload);
+        self.keys.unchanged(keys);
+        self.out.give_back(out);
+        self.more_words.give_back_words(length);
+        number
+    }
+
+    /// `hub_open`.
+    pub fn open(&mut self, fragment_size: u64, state: &mut [u8]) -> u8 {
+        let s = self.state.lend(state);
+        let number = unsafe { through::through_open(fragment_size, s, state.len()) };
+        self.state.give_back(state);
+        number
+    }
+
+    /// `hub_step`.
+    pub fn step(
+        &mut self,
+        state: &mut [u8],
+        message: &[u8],
+        keys: &[u8],
+        working: &mut [u8],
+        report: &mut [u8],
+        verdict: u8,
+        answer: &mut [u64],
+    ) -> u8 {
+        let (s, a) = (self.state.lend(state), self.words.lend_words(answer));
+        let (m, k) = (self.message.lend(message), self.keys.lend(keys));
+        let (w, r) = (self.working.lend(working), self.report.lend(report));
+        let (sn, mn, kn, an) = (state.len(), message.len(), keys.len(), answer.len());
+        let (wn, rn) = (working.len(), report.len());
+        let number =
+            unsafe { through::through_step(s, sn, m, mn, k, kn, w, wn, r, rn, verdict, a, an) };
+        self.state.give_back(state);
+        self.message.unchanged(message);
+        self.keys.unchanged(keys);
+        self.working.give_back(working);
+        self.report.give_back(report);
+        self.words.give_back_words(answer);
+        number
+    }
+
+    /// `hub_cut`.
+    pub fn cut(&mut self, report: &[u8], size: u64, index: u64, piece: &mut [u64]) -> u8 {
+        let (r, p) = (self.report.lend(report), self.words.lend_words(piece));
+        let number = unsafe { through::through_cut(r, report.len(), size, index, p, piece.len()) };
+        self.report.unchanged(report);
+        self.words.give_back_words(piece);
+        number
+    }
+
+    /// `hub_list`.
+    pub fn list(&mut self, message: &[u8], line: &mut [u8], length: &mut [u64]) -> u8 {
+        let (m, t) = (self.message.lend(message), self.out.lend(line));
+        let l = self.words.lend_words(length);
+        let (mn, tn, ln) = (message.len(), line.len(), length.len());
+        let number = unsafe { through::through_list(m, mn, t, tn, l, ln) };
+        self.message.unchanged(message);
+        self.out.give_back(line);
+        self.words.give_back_words(length);
+        number
+    }
+}

@@ -1,0 +1,201 @@
+//! boundary test              what ./test runs: a fixed seed, each count on a line
+//! boundary slice             a small part of it, for valgrind
+//! boundary fuzz SECONDS SEED rounds from this seed on, for so long
+//! boundary round SEED ROUND  one round again, to look at a difference
+//! boundary touch             reads one byte behind a buffer: that must end it
+
+use std::io::Write;
+use std::panic::{AssertUnwindSafe, catch_unwind};
+use std::process::exit;
+use std::time::{Duration, Instant};
+
+use boundary::guard::Room;
+use boundary::hub_h::{self, Hub};
+use boundary::samples::{self, samples};
+use boundary::sizes::{any_place, any_state, any_tag, every_wrong_size, wide_fields, wide_numbers};
+use boundary::state::{decode, encode};
+use boundary::wrapper::Wrapper;
+use second::compare::{Comparison, Difference, Implementation, Tally};
+use second::generate::{case, write_case};
+use second::prng::Prng;
+
+/// The seed of `./test`: "HUB.H".
+const SEED: u64 = 0x48_55_42_2E_48;
+
+/// A round's own generator.
+fn prng(seed: u64, round: u64) -> Prng {
+    Prng::new(Prng::new(seed.wrapping_add(round)).word())
+}
+
+/// Ends the run unless a part of it agrees; `name` says how to do that part again.
+fn agree<T>(name: &str, part: impl FnOnce() -> Result<T, Difference>) -> T {
+    match catch_unwind(AssertUnwindSafe(part)) {
+        Ok(Ok(done)) => done,
+        Ok(Err(Difference(text))) => {
+            eprintln!("boundary: FAILED: {name}: the two differ\n{text}");
+            exit(1);
+        }
+        Err(_) => {
+            eprintln!("boundary: FAILED: {name}: see above");
+            exit(1);
+        }
+    }
+}
+
+fn round<I: Implementation>(comparison: &mut Comparison<I>, seed: u64, round: u64) {
+    let name = format!("boundary round {seed} {round}");
+    agree(&name, || comparison.round(&mut prng(seed, round)));
+}
+
+/// What a round of the comparison does not reach: four calls of each.
+fn beside(hub: &mut Hub, seed: u64, round: u64) {
+    agree(&format!("boundary round {seed} {round}"), || {
+        let mut prng = prng(!seed, round);
+        for _ in 0..4 {
+            any_state(hub, &mut prng);
+            wide_fields(hub, &mut prng);
+            any_place(hub, &mut prng);
+            any_tag(hub, &mut prng);
+            wide_numbers(hub, &mut prng);
+        }
+        Ok(())
+    });
+}
+
+/// The header's constants are what the library and document 01 go by.
+fn constants(hub: &Hub) {
+    agree("constants", || {
+        assert_eq!(hub.version(), hub_h::version_here());
+        let numbers: Vec<u8> = (0..=25).chain([255]).collect();
+        assert_eq!(hub_h::refusals()[..], numbers);
+        assert_eq!(hub_h::sizes(), [151, 11, 8, 3, 3, 3, 1, 32, 64, 64]);
+        assert_eq!(hub_h::bounds(), [42, 18_530, 65_535, 65_456, 64, 16_384]);
+        assert_eq!(hub_h::types(), [1, 2, 4]);
+        assert_eq!(hub_h::flags(), [1, 2, 4, 6, 8]);
+        assert_eq!(hub_h::connects(), [0, 1, 2, 3, 6, 7]);
+        Ok(())
+    });
+}
+
+/// Encoding and decoding here undo each other, so that comparing one compares the other.
+fn states(prng: &mut Prng) {
+    agree("states", || {
+        for _ in 0..1_000 {
+            let connection = case(prng).connection;
+            assert_eq!(decode(&encode(&connection)), connection);
+        }
+        Ok(())
+    });
+}
+
+fn wrong_sizes(hub: &mut Hub, times: u64) -> u64 {
+    let mut prng = Prng::new(SEED);
+    (0..times)
+        .map(|_| {
+            let (case, write) = (case(&mut prng), write_case(&mut prng));
+            agree("wrong sizes", || Ok(every_wrong_size(hub, &mut prng, &case, &write)))
+        })
+        .sum()
+}
+
+fn say(tally: &Tally) -> String {
+    let Tally { steps, conversations, reads, writes, cuts, digests } = tally;
+    format!(
+        "{steps} steps in {conversations} conversations and single, {reads} messages read, {writes} \
+         written, {cuts} cut, {digests} digests with their tags"
+    )
+}
+
+/// The whole test: so many rounds, a fault at every n, wrong sizes, the wrapper.
+fn test(rounds: u64) {
+    let mut comparison = Comparison::new(Hub::default());
+    constants(&comparison.other);
+    states(&mut Prng::new(SEED));
+    for number in 0..rounds {
+        round(&mut comparison, SEED, number);
+        beside(&mut comparison.other, SEED, number);
+    }
+    println!("boundary: alike: {}", say(&comparison.tally));
+    println!(
+        "boundary: alike: {} each of steps on states of any bytes, writes with wide words, places by \
+         any words, tags compared, numbers of 64 bits",
+        4 * rounds
+    );
+    let mut faults = Comparison::new(Hub::default());
+    let messages = agree("a fault at every n", || samples::every_fault(&mut faults));
+    println!(
+        "boundary: a fault at every n of {messages} sample messages: {} steps and {} writes alike",
+        faults.tally.steps, faults.tally.writes
+    );
+    let calls = wrong_sizes(&mut comparison.other, 1 + rounds / 1_000);
+    println!("boundary: {calls} calls with a buffer of wrong size change nothing");
+    let mut wrapper = Comparison::new(Wrapper);
+    for number in 0..rounds / 20 {
+        round(&mut wrapper, !SEED, number);
+    }
+    agree("the wrapper's samples", || samples::every_fault(&mut wrapper));
+    println!("boundary: the Rust wrapper alike: {}", say(&wrapper.tally));
+}
+
+/// Part of the test, for valgrind.
+fn slice() {
+    let mut comparison = Comparison::new(Hub::default());
+    for number in 0..10 {
+        round(&mut comparison, SEED, number);
+        beside(&mut comparison.other, SEED, number);
+    }
+    let (keys, messages) = samples();
+    for (name, message) in messages.iter().filter(|(_, message)| message.len() < 100) {
+        let (case, write) = samples::cases(&keys, message);
+        agree(name, || comparison.read(&case));
+        agree(name, || comparison.step(&case));
+        agree(name, || comparison.every_output(&write));
+    }
+    let calls = wrong_sizes(&mut comparison.other, 1);
+    println!("{} and {calls} calls with a buffer of wrong size", say(&comparison.tally));
+}
+
+/// Rounds for so long; says now and then how far it has come.
+fn fuzz(seconds: u64, seed: u64) {
+    let (start, mut said) = (Instant::now(), Instant::now());
+    let mut comparison = Comparison::new(Hub::default());
+    let mut number = 0;
+    while start.elapsed() < Duration::from_secs(seconds) {
+        round(&mut comparison, seed, number);
+        beside(&mut comparison.other, seed, number);
+        number += 1;
+        if said.elapsed() > Duration::from_secs(60) {
+            said = Instant::now();
+            println!("fuzz: {number} rounds from seed {seed}");
+            std::io::stdout().flush().ok();
+        }
+    }
+    println!("fuzz: {number} rounds from seed {seed} alike: {}", say(&comparison.tally));
+}
+
+fn main() {
+    let words: Vec<String> = std::env::args().skip(1).collect();
+    let number = |at: usize| words.get(at).and_then(|word| word.parse::<u64>().ok());
+    match (words.first().map(String::as_str), number(1), number(2)) {
+        (Some("test"), None, None) => test(10_000),
+        (Some("slice"), None, None) => slice(),
+        (Some("touch"), None, None) => {
+            let mut room = Room::new(10);
+            room.lend(b"ten bytes.");
+            println!("{}", room.touch());
+        }
+        (Some("fuzz"), Some(seconds), Some(seed)) => fuzz(seconds, seed),
+        (Some("round"), Some(seed), Some(number)) => {
+            let mut comparison = Comparison::new(Hub::default());
+            round(&mut comparison, seed, number);
+            beside(&mut comparison.other, seed, number);
+            println!("boundary: round {number} of seed {seed} agrees: {}", say(&comparison.tally));
+        }
+        _ => {
+            eprintln!(
+                "usage: boundary test | slice | touch | fuzz SECONDS SEED | round SEED ROUND"
+            );
+            exit(2);
+        }
+    }
+}

@@ -1,0 +1,225 @@
+//! What the comparison does not reach: buffers of fixed size at every other size, words wider than
+//! their fields, states of any bytes, places that do not fit, tags, keys of HMAC of any length.
+
+use second::compare::{Implementation, Second};
+use second::connection::Answer;
+use second::crypto::hmac;
+use second::generate::{Case, WriteCase, case, cut_case, write_case};
+use second::header::Header;
+use second::prng::Prng;
+
+use crate::hub::{answer_of, fields_of};
+use crate::hub_h::{Hub, header_words};
+use crate::state::{STATE, decode, encode, encode_next};
+
+const WRONG_BUFFER: u8 = 255;
+
+/// Every size from 0 to a little more than the right one, but for that.
+fn wrong(right: usize) -> impl Iterator<Item = usize> {
+    (0..=right + 9).chain([2 * right, 1_000]).filter(move |size| *size != right)
+}
+
+/// Each buffer of fixed size at every other size: nothing changes, whatever else is wrong. Answers
+/// how many calls that were.
+pub fn every_wrong_size(hub: &mut Hub, prng: &mut Prng, case: &Case, write: &WriteCase) -> u64 {
+    let mut calls = 0;
+    let mut call = |what: &str, number: u8, unchanged: bool| {
+        assert!(number == WRONG_BUFFER && unchanged, "{what}: {number}, unchanged: {unchanged}");
+        calls += 1;
+    };
+    let fill = prng.word();
+    let Case { message, keys, .. } = case;
+    for size in wrong(32) {
+        let before = prng.bytes(size);
+        let mut out = before.clone();
+        call("digest", hub.digest(message, &mut out), out == before);
+        call("hmac", hub.hmac(keys, message, &mut out), out == before);
+        call("same_tag", hub.same_tag(&before, &[0; 32]), true);
+        call("same_tag", hub.same_tag(&[0; 32], &before), true);
+        call("same_tag", hub.same_tag(&before, &before), true);
+    }
+    for size in wrong(11) {
+        let mut words = vec![fill; size];
+        call("read_header", hub.read_header(message, &mut words), words == vec![fill; size]);
+        let mut working = case.working.clone();
+        let number = hub.read(message, keys, &mut working, &mut words);
+        call("read", number, words == vec![fill; size] && working == case.working);
+        let mut place = [fill; 3];
+        call("payload", hub.payload(message, &working, &words, &mut place), place == [fill; 3]);
+    }
+    for size in wrong(3) {
+        let mut words = vec![fill; size];
+        let header = [0; 11];
+        let number = hub.payload(message, &case.working, &header, &mut words);
+        call("payload", number, words == vec![fill; size]);
+        let cut = cut_case(prng);
+        let number = hub.cut(&cut.report, cut.fragment_size.into(), cut.index.into(), &mut words);
+        call("cut", number, words == vec![fill; size]);
+        let (mut state, mut after) = (encode(&case.connection), case.clone());
+        let (working, report) = (&mut after.working, &mut after.report);
+        let verdict = case.verdict as u8;
+        let number = hub.step(&mut state, message, keys, working, report, verdict, &mut words);
+        let unchanged = words == vec![fill; size] && state == encode(&case.connection);
+        call("step", number, unchanged && after == *case);
+    }
+    for size in wrong(STATE) {
+        let before = prng.bytes(size);
+        let mut state = before.clone();
+        call("open", hub.open(prng.word() >> prng.below(64), &mut state), state == before);
+        let (mut after, mut words) = (case.clone(), [fill; 3]);
+        let (working, report) = (&mut after.working, &mut after.report);
+        let verdict = case.verdict as u8;
+        let number = hub.step(&mut state, message, keys, working, report, verdict, &mut words);
+        call("step", number, state == before && words == [fill; 3] && after == *case);
+    }
+    let WriteCase { header, chain, payload, keys, output } = write;
+    let fields = fields_of(header);
+    for size in wrong(8) {
+        let (mut out, mut length) = (output.clone(), [fill]);
+        let fields = vec![1; size];
+        let number = hub.write(&fields, chain, payload, keys, &mut out, &mut length);
+        call("write", number, out == *output && length == [fill]);
+    }
+    for size in wrong(1) {
+        let (mut out, mut length) = (output.clone(), vec![fill; size]);
+        let number = hub.write(&fields, chain, payload, keys, &mut out, &mut length);
+        call("write", number, out == *output && length == vec![fill; size]);
+        let mut line = [0x77; 64];
+        let number = hub.list(message, &mut line, &mut length);
+        call("list", number, line == [0x77; 64] && length == vec![fill; size]);
+    }
+    for size in wrong(64) {
+        let before = prng.bytes(size);
+        let (mut line, mut length) = (before.clone(), [fill]);
+        let number = hub.list(message, &mut line, &mut length);
+        call("list", number, line == before && length == [fill]);
+    }
+    calls
+}
+
+/// A step on a state of any bytes, against the second implementation on what they stand for.
+pub fn any_state(hub: &mut Hub, prng: &mut Prng) {
+    let mut ours = case(prng);
+    let mut state = encode(&ours.connection);
+    match prng.below(4) {
+        0 => state = prng.array(),
+        1 => state[9..].copy_from_slice(&prng.array::<{ STATE - 9 }>()),
+        _ => (0..prng.between(1, 4)).for_each(|_| state[prng.below(STATE)] = prng.word() as u8),
+    }
+    ours.connection = decode(&state);
+    let (mut theirs, before, mut words) = (ours.clone(), state, [7; 3]);
+    let (next, answer) = ours.step();
+    let (working, report) = (&mut theirs.working, &mut theirs.report);
+    let verdict = theirs.verdict as u8;
+    let number =
+        hub.step(&mut state, &theirs.message, &theirs.keys, working, report, verdict, &mut words);
+    if let Answer::Refused(refusal) = answer {
+        let unchanged = state == before && words == [7; 3];
+        assert!(
+            number == refusal.number() && unchanged,
+            "{before:?} {ours:?}: {number}, {refusal}"
+        );
+    } else {
+        assert!(
+            number == 0 && answer_of(&words) == answer,
+            "{before:?} {ours:?}: {number} {words:?}"
+        );
+        assert_eq!(state, encode_next(&before, &next), "{before:?} {ours:?}");
+    }
+    assert!(ours == theirs, "{before:?} {ours:?}: buffers");
+}
+
+/// The writer with words wider than their fields: as if they were the widest that fit, but a
+/// SequenceNumber that is too wide is a wrong buffer.
+pub fn wide_fields(hub: &mut Hub, prng: &mut Prng) {
+    let case = write_case(prng);
+    let mut fields = fields_of(&case.header);
+    let [kind, flags, sequence, _, index, count, ..] = header_words();
+    for _ in 0..prng.between(1, 2) {
+        let field = prng.pick(&[kind, flags, sequence, index, count]);
+        let wide = 1 << prng.pick(&[8, 16, 31, 32, 33, 48, 63]);
+        fields[field] = fields[field].wrapping_add(wide);
+    }
+    let (mut out, mut length) = (case.output.clone(), [9]);
+    let number = hub.write(&fields, &case.chain, &case.payload, &case.keys, &mut out, &mut length);
+    if fields[sequence] > u32::MAX.into() {
+        assert!(number == WRONG_BUFFER && out == case.output && length == [9], "{fields:?}");
+        return;
+    }
+    let header = Header {
+        message_type: fields[kind].try_into().unwrap_or(u8::MAX),
+        flags: fields[flags].try_into().unwrap_or(u16::MAX),
+        sequence: fields[sequence] as u32,
+        index: fields[index].try_into().unwrap_or(u16::MAX),
+        count: fields[count].try_into().unwrap_or(u16::MAX),
+        ..case.header
+    };
+    let mut expected = WriteCase { header, ..case };
+    let (answer, written) = match expected.write() {
+        Ok(written) => (0, written as u64),
+        Err(refusal) => (refusal.number(), 9),
+    };
+    assert_eq!((number, length[0]), (answer, written), "{fields:?} {expected:?}");
+    assert!(out == expected.output, "{fields:?}: output");
+}
+
+/// A place by any words: it is inside the buffer that it names, or it is empty.
+pub fn any_place(hub: &mut Hub, prng: &mut Prng) {
+    let (message, working) = (prng.below(200), prng.below(200));
+    let (message, working) = (prng.bytes(message), prng.bytes(working));
+    let some = |prng: &mut Prng| match prng.below(6) {
+        0 => u64::MAX - prng.below(9) as u64,
+        1 => prng.word(),
+        2 => 1 << prng.below(64),
+        _ => prng.below(210) as u64,
+    };
+    let mut header: [u64; 11] = std::array::from_fn(|_| prng.word());
+    let [.., sealed, from, size] = header_words();
+    header[sealed] = if prng.chance(5) { some(prng) } else { prng.below(2) as u64 };
+    (header[from], header[size]) = (some(prng), some(prng));
+    let mut place = [5; 3];
+    assert_eq!(hub.payload(&message, &working, &header, &mut place), 0);
+    let room = [message.len(), working.len()].get(header[sealed] as usize).map(|room| *room as u64);
+    let end = header[from].checked_add(header[size]);
+    let expected = match (room, end) {
+        (Some(room), Some(end)) if end <= room => [header[sealed], header[from], header[size]],
+        _ => [0; 3],
+    };
+    assert_eq!(place, expected, "{header:?} {} {}", message.len(), working.len());
+}
+
+/// Two tags that are alike, or differ in one bit, or anyhow; and an HMAC under a key of any length.
+pub fn any_tag(hub: &mut Hub, prng: &mut Prng) {
+    let a: [u8; 32] = prng.array();
+    let mut b = a;
+    match prng.below(3) {
+        0 => b = prng.array(),
+        1 => b[prng.below(32)] ^= 1 << prng.below(8),
+        _ => {}
+    }
+    assert_eq!(hub.same_tag(&a, &b), u8::from(a != b), "{a:?} {b:?}");
+    let (key, data) = (prng.below(200), prng.below(300));
+    let (key, data) = (prng.bytes(key), prng.bytes(data));
+    let mut out = [0; 32];
+    assert_eq!(hub.hmac(&key, &data, &mut out), 0);
+    assert_eq!(out, hmac(&key, &data), "{key:?} {data:?}");
+}
+
+/// Opening and cutting with numbers wider than the second implementation takes.
+pub fn wide_numbers(hub: &mut Hub, prng: &mut Prng) {
+    let wide = prng.word() >> prng.below(50);
+    let size = u32::try_from(wide).unwrap_or(u32::MAX);
+    let mut state = [0xA5; STATE];
+    let number = hub.open(wide, &mut state);
+    let (connection, opened) = Second.open(size);
+    assert_eq!(number, opened.map_or_else(|refusal| refusal.number(), |()| 0), "F = {wide}");
+    assert_eq!(state, encode(&connection), "F = {wide}");
+    let cut = cut_case(prng);
+    let index = prng.word() >> prng.below(64);
+    let mut piece = [3; 3];
+    let number = hub.cut(&cut.report, cut.fragment_size.into(), index, &mut piece);
+    let narrow = u32::try_from(index).unwrap_or(u32::MAX);
+    let (count, range, answer) = Second.cut(&cut.report, cut.fragment_size, narrow);
+    assert_eq!(number, answer.map_or_else(|refusal| refusal.number(), |()| 0), "{cut:?} {index}");
+    assert_eq!(piece, [count.into(), range.start as u64, range.len() as u64], "{cut:?} {index}");
+}

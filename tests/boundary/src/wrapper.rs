@@ -1,0 +1,132 @@
+//! Document 01's calls by the Rust wrapper, host/rust. What its types rule out (keys that are not 64
+//! bytes, another verdict than 0 and 1) is answered by the second implementation.
+
+use hlidunsk as h;
+use second::compare::{Implementation, Piece, Second};
+use second::connection::{Answer, Connection};
+use second::header::{Framed, Header, Kind};
+use second::message::{Message, Place};
+use second::refusal::Refusal;
+
+use crate::hub::refusal;
+use crate::state::{decode, encode};
+
+/// The wrapper.
+pub struct Wrapper;
+
+fn refused(by: h::Refusal) -> Refusal {
+    refusal(by.number()).expect_err("a refusal")
+}
+
+fn header(of: h::Header) -> Header {
+    let h::Header { message_type, flags, sequence, request, index, count, session, channel } = of;
+    Header { message_type, flags, sequence, request, index, count, session, channel }
+}
+
+fn kind(of: h::Header) -> Kind {
+    Kind::from_number(of.message_type).expect("a kind")
+}
+
+/// Where in `whole` a part of it lies.
+fn place(part: &[u8], whole: &[u8]) -> Option<std::ops::Range<usize>> {
+    let start = (part.as_ptr() as usize).checked_sub(whole.as_ptr() as usize)?;
+    (start + part.len() <= whole.len()).then_some(start..start + part.len())
+}
+
+impl Implementation for Wrapper {
+    fn read_header(&mut self, message: &[u8]) -> Result<Framed, Refusal> {
+        let framed = h::read_header(message).map_err(refused)?;
+        let body = place(framed.body, message).expect("a part of the message");
+        Ok(Framed { header: header(framed.header), kind: kind(framed.header), body })
+    }
+
+    fn read_message(
+        &mut self,
+        message: &[u8],
+        keys: &[u8],
+        working: &mut [u8],
+    ) -> Result<Message, Refusal> {
+        let Ok(keys) = keys.try_into() else {
+            return Second.read_message(message, keys, working);
+        };
+        let (start, length) = (working.as_ptr() as usize, working.len());
+        let read = h::read(message, keys, working).map_err(refused)?;
+        let payload = if read.header.is_sealed() {
+            let from = read.payload.as_ptr() as usize - start;
+            assert!(from + read.payload.len() <= length);
+            Place::Working(from..from + read.payload.len())
+        } else {
+            Place::Message(place(read.payload, message).expect("a part of the message"))
+        };
+        Ok(Message { header: header(read.header), kind: kind(read.header), payload })
+    }
+
+    fn write_message(
+        &mut self,
+        header: &Header,
+        chain: &[u8],
+        payload: &[u8],
+        keys: &[u8],
+        output: &mut [u8],
+    ) -> Result<usize, Refusal> {
+        let Ok(keys) = keys.try_into() else {
+            return Second.write_message(header, chain, payload, keys, output);
+        };
+        let Header { message_type, flags, sequence, request, index, count, session, channel } =
+            *header;
+        let header =
+            h::Header { message_type, flags, sequence, request, index, count, session, channel };
+        h::write(&header, chain, payload, keys, output).map_err(refused)
+    }
+
+    fn open(&mut self, fragment_size: u32) -> (Connection, Result<(), Refusal>) {
+        match h::Connection::open(fragment_size.into()) {
+            Ok(opened) => (decode(opened.as_bytes()), Ok(())),
+            Err(by) => (Connection::default(), Err(refused(by))),
+        }
+    }
+
+    fn step(
+        &mut self,
+        connection: Connection,
+        message: &[u8],
+        keys: &[u8],
+        working: &mut [u8],
+        report: &mut [u8],
+        verdict: u32,
+    ) -> (Connection, Answer) {
+        let (Ok(keys), 0..=1) = (keys.try_into(), verdict) else {
+            return Second.step(connection, message, keys, working, report, verdict);
+        };
+        let mut hub = h::Connection::from_bytes(encode(&connection));
+        let answer = match hub.step(message, keys, working, report, verdict == 1) {
+            Err(by) => Answer::Refused(refused(by)),
+            Ok(h::Answer::Reply(kind)) => Answer::Reply(kind),
+            Ok(h::Answer::Again(kind)) => Answer::Again(kind),
+            Ok(h::Answer::Failure) => Answer::Failure,
+            Ok(h::Answer::Taken { heard }) => Answer::Taken(heard as u32),
+            Ok(h::Answer::Repeat { heard }) => Answer::Repeat(heard as u32),
+            Ok(h::Answer::Complete { heard, length }) => Answer::Complete(length, heard as u32),
+        };
+        (decode(hub.as_bytes()), answer)
+    }
+
+    fn cut(&mut self, report: &[u8], fragment_size: u32, index: u32) -> Piece {
+        match h::cut(report, fragment_size.into(), index.into()) {
+            Ok(piece) => (piece.count, place(piece.bytes, report).expect("a part"), Ok(())),
+            Err(by) => (0, 0..0, Err(refused(by))),
+        }
+    }
+
+    fn line(&mut self, message: &[u8]) -> Result<String, Refusal> {
+        h::list(message).map_err(refused)
+    }
+
+    fn sha256(&mut self, data: &[u8]) -> [u8; 32] {
+        h::digest(data)
+    }
+
+    fn hmac(&mut self, key: &[u8; 32], data: &[u8]) -> [u8; 32] {
+        h::hmac(key, data)
+    }
+}
