@@ -129,8 +129,12 @@ thread_local! {
 }
 
 /// libFuzzer's entry.
+///
+/// # Safety
+///
+/// So many bytes are at the pointer.
 #[unsafe(no_mangle)]
-pub extern "C" fn LLVMFuzzerTestOneInput(data: *const u8, size: usize) -> i32 {
+pub unsafe extern "C" fn LLVMFuzzerTestOneInput(data: *const u8, size: usize) -> i32 {
     // SAFETY: libFuzzer lends so many bytes; none may be at a null pointer.
     let data = if size == 0 { &[] } else { unsafe { std::slice::from_raw_parts(data, size) } };
     let outcome = COMPARISON.with_borrow_mut(|comparison| one(comparison, data));

@@ -31,6 +31,7 @@ pub struct Room {
     end: *mut u8,
     size: usize,
     lent: usize,
+    turns: u8,
 }
 
 impl Room {
@@ -44,12 +45,14 @@ impl Room {
             assert!(start as isize != -1, "no memory");
             let end = start.cast::<u8>().add(size);
             assert_eq!(mprotect(end.cast(), PAGE, NONE), 0, "no guard page");
-            Room { end, size, lent: 0 }
+            Room { end, size, lent: 0, turns: 0 }
         }
     }
 
-    /// Puts bytes so that they end at the page, behind guard bytes; answers where they start.
+    /// Puts bytes so that they end at the page, behind guard bytes; answers where they start. Of no
+    /// bytes the pointer is now and then null.
     pub fn lend(&mut self, bytes: &[u8]) -> *mut u8 {
+        self.turns = self.turns.wrapping_add(1);
         self.lent = bytes.len();
         assert!(self.lent + GUARDS <= self.size, "more than this room has");
         // SAFETY: the room has the bytes and, in front of them, the guards.
@@ -57,7 +60,11 @@ impl Room {
             let start = self.end.sub(self.lent);
             std::ptr::write_bytes(start.sub(GUARDS), GUARD, GUARDS);
             std::ptr::copy_nonoverlapping(bytes.as_ptr(), start, self.lent);
-            start
+            if bytes.is_empty() && self.turns.is_multiple_of(3) {
+                std::ptr::null_mut()
+            } else {
+                start
+            }
         }
     }
 

@@ -137,6 +137,10 @@ pub struct Hub {
     out: Room,
     words: Room,
     more_words: Room,
+    /// How often a step answered each number.
+    pub numbers: [u64; 256],
+    /// How often a step that was done answered each word of `HUB_ANSWER_KIND`.
+    pub kinds: [u64; 7],
 }
 
 impl Default for Hub {
@@ -152,6 +156,8 @@ impl Default for Hub {
             out: Room::new(LONG),
             words: Room::new(LONG),
             more_words: Room::new(LONG),
+            numbers: [0; 256],
+            kinds: [0; 7],
         }
     }
 }
@@ -298,6 +304,11 @@ impl Hub {
         self.working.give_back(working);
         self.report.give_back(report);
         self.words.give_back_words(answer);
+        self.numbers[usize::from(number)] += 1;
+        if number == 0 {
+            let kind = answer[answer_words()[0]] as usize;
+            *self.kinds.get_mut(kind).expect("a kind of hub.h") += 1;
+        }
         number
     }
 

@@ -12,7 +12,8 @@ use std::time::{Duration, Instant};
 use boundary::guard::Room;
 use boundary::hub_h::{self, Hub};
 use boundary::samples::{self, samples};
-use boundary::sizes::{any_place, any_state, any_tag, every_wrong_size, wide_fields, wide_numbers};
+use boundary::sizes::{any_place, any_state, any_tag, every_wrong_size, long_message};
+use boundary::sizes::{wide_fields, wide_numbers};
 use boundary::state::{decode, encode};
 use boundary::wrapper::Wrapper;
 use second::compare::{Comparison, Difference, Implementation, Tally};
@@ -106,6 +107,18 @@ fn say(tally: &Tally) -> String {
     )
 }
 
+/// Every refusal of document 01 and every kind of answer came in the steps; says which was rarest.
+fn all_came(hub: &Hub) -> String {
+    let refusals = (1..=25).map(|number| (hub.numbers[number], format!("refusal {number}")));
+    let kinds = (1..=6).map(|kind| (hub.kinds[kind], format!("kind {kind}")));
+    let (times, rarest) = refusals.chain(kinds).min().expect("some");
+    agree(&rarest, || {
+        assert!(times > 0, "{rarest} never came");
+        Ok(())
+    });
+    format!("all 25 refusals and 6 kinds of answers came, the rarest {times} times ({rarest})")
+}
+
 /// The whole test: so many rounds, a fault at every n, wrong sizes, the wrapper.
 fn test(rounds: u64) {
     let mut comparison = Comparison::new(Hub::default());
@@ -115,7 +128,12 @@ fn test(rounds: u64) {
         round(&mut comparison, SEED, number);
         beside(&mut comparison.other, SEED, number);
     }
+    for number in 0..rounds / 20 {
+        let name = format!("long message {number}");
+        agree(&name, || long_message(&mut comparison, &mut prng(SEED, number)));
+    }
     println!("boundary: alike: {}", say(&comparison.tally));
+    println!("boundary: in these steps {}", all_came(&comparison.other));
     println!(
         "boundary: alike: {} each of steps on states of any bytes, writes with wide words, places by \
          any words, tags compared, numbers of 64 bits",

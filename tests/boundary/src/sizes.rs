@@ -1,10 +1,10 @@
 //! What the comparison does not reach: buffers of fixed size at every other size, words wider than
 //! their fields, states of any bytes, places that do not fit, tags, keys of HMAC of any length.
 
-use second::compare::{Implementation, Second};
-use second::connection::Answer;
+use second::compare::{Comparison, Difference, Implementation, Second};
+use second::connection::{Answer, State};
 use second::crypto::hmac;
-use second::generate::{Case, WriteCase, case, cut_case, write_case};
+use second::generate::{Case, WriteCase, case, cut_case, dress, gateway, write_case};
 use second::header::Header;
 use second::prng::Prng;
 
@@ -222,4 +222,18 @@ pub fn wide_numbers(hub: &mut Hub, prng: &mut Prng) {
     let (count, range, answer) = Second.cut(&cut.report, cut.fragment_size, narrow);
     assert_eq!(number, answer.map_or_else(|refusal| refusal.number(), |()| 0), "{cut:?} {index}");
     assert_eq!(piece, [count.into(), range.start as u64, range.len() as u64], "{cut:?} {index}");
+}
+
+/// A Session message of about 65,535 bytes, some of them more than MessageLength can say.
+pub fn long_message(comparison: &mut Comparison<Hub>, prng: &mut Prng) -> Result<(), Difference> {
+    let gateway = gateway(prng);
+    let length = prng.between(63_300, 65_600);
+    let draft = gateway.piece(0, 0, 1, &prng.bytes(length));
+    let message = dress(prng, draft).bytes(&gateway.keys);
+    let working = vec![0xAA; prng.pick(&[65_455, 65_456, 65_600])];
+    let connection = gateway.connection(16_384, State::Ready);
+    let (keys, report) = (gateway.keys.to_vec(), vec![0x55; 16_384]);
+    let case = Case { connection, message, keys, working, report, verdict: 1 };
+    comparison.read(&case)?;
+    comparison.step(&case).map(|_| ())
 }
