@@ -120,7 +120,7 @@ fn refusals_and_their_numbers() {
     for number in 0..=255 {
         let refusal = Refusal::from_number(number);
         assert_eq!(refusal.is_some(), (1..=25).contains(&number));
-        assert!(refusal.map_or(true, |refusal| refusal.number() == number));
+        assert!(refusal.is_none_or(|refusal| refusal.number() == number));
     }
     assert_eq!(Refusal::Conflict.to_string(), "refused 23");
 }

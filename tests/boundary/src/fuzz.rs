@@ -124,6 +124,37 @@ fn one(comparison: &mut Comparison<Hub>, data: &[u8]) -> Result<(), Difference> 
     }
 }
 
+/// The tape of one good message: verdict 1, type, flags, index, count, session 1, payload.
+fn spell(kind: u8, flags: u8, index: u8, count: u8, payload: &[u8]) -> Vec<u8> {
+    let length = payload.len().try_into().expect("a short payload");
+    let front = [4, kind, 0, flags, 0, 0, index, count, 1, 0, 0, length];
+    [&front, payload].concat()
+}
+
+/// Tapes to start from: an enrolment and a report of two pieces, whole and each message by itself in
+/// the state that waits for it; a call of the writer and one of the cutter.
+pub fn seeds() -> Vec<Vec<u8>> {
+    let mut request = [0; 86];
+    request[..20].copy_from_slice(b"\0\0\0\0\0\x20a nonce!\0\0\x40\0\0\x20");
+    request[53] = 32;
+    let messages = [
+        (0, spell(2, 0, 0, 1, &request)),
+        (1, spell(2, 6, 0, 1, b"\0\0\x02\0\x03abc\0\0")),
+        (2, spell(2, 6, 0, 1, b"\0\0\x06")),
+        (3, spell(4, 6, 1, 2, b"abcd")),
+        (3, spell(4, 6, 1, 2, b"abcd")),
+        (3, spell(4, 6, 0, 2, b"12345678")),
+        (3, spell(1, 0, 0, 1, b"\0")),
+    ];
+    let start = |state: u8| vec![0, 8, state, 0, 4];
+    let whole = messages.iter().flat_map(|(_, message)| message.clone());
+    let mut seeds = vec![[start(0), whole.collect()].concat()];
+    seeds.extend(messages.iter().map(|(state, message)| [&start(*state)[..], message].concat()));
+    let write = [&[2, 0, 0, 0, 0, 4, 0, 6, 0, 0, 0, 1, 0, 0, 2, 0, 0, 0, 1, 0][..], b"a piece"];
+    seeds.extend([write.concat(), [&[3, 0, 4, 0, 2][..], b"ten bytes."].concat()]);
+    seeds
+}
+
 thread_local! {
     static COMPARISON: RefCell<Comparison<Hub>> = RefCell::new(Comparison::new(Hub::default()));
 }

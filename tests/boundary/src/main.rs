@@ -2,6 +2,7 @@
 //! boundary slice             a small part of it, for valgrind
 //! boundary fuzz SECONDS SEED rounds from this seed on, for so long
 //! boundary round SEED ROUND  one round again, to look at a difference
+//! boundary seeds FOLDER      writes what libFuzzer starts from
 //! boundary touch             reads one byte behind a buffer: that must end it
 
 use std::io::Write;
@@ -197,6 +198,12 @@ fn main() {
     match (words.first().map(String::as_str), number(1), number(2)) {
         (Some("test"), None, None) => test(10_000),
         (Some("slice"), None, None) => slice(),
+        (Some("seeds"), None, None) if words.len() == 2 => {
+            for (number, seed) in boundary::fuzz::seeds().iter().enumerate() {
+                let path = std::path::Path::new(&words[1]).join(format!("seed-{number}"));
+                std::fs::write(path, seed).expect("the folder is there");
+            }
+        }
         (Some("touch"), None, None) => {
             let mut room = Room::new(10);
             room.lend(b"ten bytes.");
@@ -211,7 +218,7 @@ fn main() {
         }
         _ => {
             eprintln!(
-                "usage: boundary test | slice | touch | fuzz SECONDS SEED | round SEED ROUND"
+                "usage: boundary test | slice | touch | seeds FOLDER | fuzz SECONDS SEED | round SEED ROUND"
             );
             exit(2);
         }
