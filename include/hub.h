@@ -253,7 +253,7 @@ uint8_t hub_digest(const uint8_t *bytes, size_t bytes_n, uint8_t *out, size_t ou
  *
  * Returns   HUB_DONE, HUB_WRONG_BUFFER (out).
  * On done   out holds the tag.
- * Proved    the contract: out is `hmac` of key and message (crates/sha256/specs/Digests.antt).
+ * Proved    the contract: out is `hmac` of key and message (crates/sha256/specs/Macs.antt).
  */
 HUB_ANSWER_MATTERS
 uint8_t hub_hmac(const uint8_t *key, size_t key_n, const uint8_t *message, size_t message_n, uint8_t *out, size_t out_n);
@@ -371,7 +371,7 @@ uint8_t hub_open(uint64_t fragment_size, uint8_t *state, size_t state_n);
  *           HUB_AGAIN and HUB_REPEAT state too. The first bytes of working hold the opened sealed part of a sealed message.
  * On refusal state, report and answer are as they were. So is working for 1 to 13, 24 and 25; for the others its first bytes hold the opened
  *           sealed part of a sealed message.
- * Proved    StepExact, LeavesAlone, WorkingBuffer, RepeatedStep, OnlyWhatCame, AtTheLastMissing, HandedOut, AtNoOther, NotBetween, LaterCopies.
+ * Proved    StepExact, LeavesAlone, WorkingBuffer, RepeatedStep, OnlyWhatCame, HandedOut, NotBetween.
  */
 HUB_ANSWER_MATTERS
 uint8_t hub_step(uint8_t *state, size_t state_n, const uint8_t *message, size_t message_n, const uint8_t *keys, size_t keys_n, uint8_t *working,
