@@ -311,7 +311,7 @@ uint8_t hub_read(const uint8_t *message, size_t message_n, const uint8_t *keys, 
  *
  * Returns   HUB_DONE, HUB_WRONG_BUFFER (header or place).
  * On done   place holds the buffer (0 message, 1 working), the payload's start in it and its length; or 0, 0, 0 where header names a part that
- *           the buffer does not have.
+ *           the buffer does not have, or by HUB_SEALED another buffer than these two.
  * Proved    the contract (`payload` in crates/message/specs/Handed.antt).
  */
 HUB_ANSWER_MATTERS
