@@ -356,7 +356,8 @@ uint8_t hub_open(uint64_t fragment_size, uint8_t *state, size_t state_n);
  *
  * state     HUB_STATE bytes: the connection.
  * message   the message, as it came.
- * keys      the 64 key bytes of this gateway. Before they are agreed on no bytes may be given: plain messages do not look at them.
+ * keys      the 64 key bytes of this gateway. Until they are agreed on give none (a null pointer, 0): a plain message does not look at them, and a
+ *           sealed one is refused with 10.
  * working   at least as long as the message's sealed part.
  * report    the report buffer of this connection.
  * verdict   1 if the certificate that this message may show is accepted, else 0. Only a Device Authentication Request in state 1 looks at it; the caller
