@@ -5,5 +5,5 @@ pub mod header;
 pub mod numbers;
 pub mod payload;
 pub mod refusals;
-mod stores;
+pub mod stores;
 pub mod writer;
