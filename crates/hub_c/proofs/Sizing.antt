@@ -1,0 +1,44 @@
+-- Buffers that have their sizes, and what the calls over them come to, as laws over numbers and lists. Assumes nothing.
+use Prim.Native.Nat.{ℕ, _*_}
+use mathlib.Core.Path.{_≡_, refl, ap, _∙_}
+use mathlib.Core.List.{List, [], _∷_}
+use mathlib.Core.Bool.{Bool, true, false, not, _||_}
+use lib.Dec.{eqb}
+use lib.ListN.{length}
+use borrow.Author.Tests.{eqb-true, eq-eqb, ne-eqb, not-false}
+use Rattle.laws.specs.Bytes.{be16}
+use Rattle.laws.proofs.Bools.{or-false}
+use Rattle.wire.specs.Reader.{readHeader}
+use Rattle.wire.specs.declared.header.HeaderRead.{HeaderRead}
+use Rattle.wire.specs.declared.header.HeaderRead.the-variants.{Refused, Read}
+use Rattle.wire.proofs.Sound.{read-sound}
+use Rattle.lines.specs.Listing.{headerLine, lineOf}
+use Rattle.joining.specs.Cut.{cutRefusal, cutCount, cutPiece}
+use Rattle.hub_c.specs.Pieces.{cutWords}
+use Rattle.hub_c.specs.Line.{lineText}
+
+-- Two buffers.
+pub both-sized : (a m b n : ℕ) → (not (eqb a m) || not (eqb b n)) ≡ false → (a ≡ m) × (b ≡ n)
+both-sized a m b n e =
+    let k = or-false (not (eqb a m)) (not (eqb b n)) e in
+    (eqb-true a m (not-false (eqb a m) (k .0)), eqb-true b n (not-false (eqb b n) (k .1)))
+
+-- What the cutter answers is put into words.
+module _ (F : ℕ) (R : List ℕ) (i : ℕ) where
+  pub cut-refused : (cutRefusal F (length R) i ≡ 0 → ⊥) → 0 ∷ 0 ∷ 0 ∷ [] ≡ cutWords F R i
+  unfolding cutWords
+  cut-refused n = rw (ne-eqb (cutRefusal F (length R) i) 0 n)
+
+  pub cut-told : {n : ℕ} {p : List ℕ} → cutRefusal F (length R) i ≡ 0 → n ≡ cutCount F (length R) i → p ≡ cutPiece F R i
+      → n ∷ F * i ∷ length p ∷ [] ≡ cutWords F R i
+  unfolding cutWords
+  cut-told z e f = rw (e, f, eq-eqb (cutRefusal F (length R) i) 0 z)
+
+-- The length that stands in an accepted message is the number of its bytes; a refusal's line has none.
+pub line-told : (m : List ℕ) → lineOf (readHeader m) (be16 m 2) ≡ lineText m
+unfolding lineText lineOf
+line-told m = by (readHeader m) refl
+  where
+    by : (a : HeaderRead) → readHeader m ≡ a → lineOf a (be16 m 2) ≡ lineOf a (length m)
+    by (Refused n) e = refl
+    by (Read h start size) e = ap (headerLine h) (read-sound m h start size e .good .size)

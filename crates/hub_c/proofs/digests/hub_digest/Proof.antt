@@ -1,0 +1,19 @@
+-- The output has its size or not.
+use mathlib.Core.Path.{_∙_}
+use borrow.Author.Tests.{eq-eqb, ne-eqb}
+use borrow.Author.Needs.{needs}
+use Rattle.hub_c.proofs.digests.hub_digest.Statement.{statement}
+use Rattle.hub_c.proofs.digests.hub_digest.Tie as tie
+
+returns : tie.Need-returns
+returns c = (rw (ne-eqb _ _ (c .if1 .taken)), rw (ne-eqb _ _ (c .if1 .taken)))
+
+returns-2 : tie.Need-returns-2
+returns-2 c =
+    let at-put-digest = c .before .before in
+    let at-digest = at-put-digest .before .before in
+    let at-if1 = at-digest .before in
+    (rw (eq-eqb _ _ (at-if1 .if1 .left)), rw (eq-eqb _ _ (at-if1 .if1 .left)) (at-put-digest .put-digest .ensures ∙ at-digest .digest .ensures))
+
+pub hub-digest-spec : {M : Type 1} → statement M
+hub-digest-spec = tie.close (tie.spec returns (λ c κs. search needs) (λ c κs. search needs) (λ c. search needs) returns-2)

@@ -1,0 +1,17 @@
+-- One word over the whole of the buffer.
+use mathlib.Core.List.{_∷_, []}
+use mathlib.Core.Path.{_∙_}
+use Rattle.hub_c.proofs.Filling.{sets-whole}
+use borrow.Author.Needs.{needs}
+use Rattle.hub_c.proofs.words.put_length.Statement.{statement}
+use Rattle.hub_c.proofs.words.put_length.Tie as tie
+
+returns : tie.Need-returns
+returns c =
+    let at-put-word = c .before .before in
+    let start = at-put-word .before .before .before in
+    let s = start .args in
+    at-put-word .put-word .ensures ∙ sets-whole (s .x ∷ []) (s .out .now) (start .pre)
+
+pub put-length-spec : {M : Type 1} → statement M
+put-length-spec = tie.close (tie.spec (λ c κs. search needs) (λ c. search needs) returns)

@@ -1,0 +1,8 @@
+pub mod Sizes
+pub mod Digesting
+pub mod Headers
+pub mod Written
+pub mod Pieces
+pub mod Line
+pub mod State
+pub mod Answered

@@ -1,0 +1,42 @@
+-- Buffers of fixed size: their sizes, and what a call answers and leaves where one of them has another size.
+use Prim.Native.Nat.{ℕ}
+use mathlib.Core.List.{List}
+use mathlib.Core.Bool.{cond}
+use lib.Dec.{eqb}
+use lib.ListN.{length}
+
+-- The number of a call that was lent a buffer of the wrong size; document 01 does not use it.
+abbrev pub wrongBuffer : ℕ
+wrongBuffer = 255
+
+-- The bytes of a digest and of a tag.
+abbrev pub digestSize : ℕ
+digestSize = 32
+
+-- The words of a header that was read.
+abbrev pub headerSize : ℕ
+headerSize = 11
+
+-- The words of a header that is to be written.
+abbrev pub fieldsSize : ℕ
+fieldsSize = 8
+
+-- The words of a place, of a cut and of an answer.
+abbrev pub tripleSize : ℕ
+tripleSize = 3
+
+-- The bytes of a line.
+abbrev pub lineSize : ℕ
+lineSize = 64
+
+-- The bytes of a connection's state.
+abbrev pub stateSize : ℕ
+stateSize = 151
+
+-- The number where the buffer has its size, else that of a wrong buffer.
+abbrev pub sized : (size : ℕ) → (buffer : List ℕ) → ℕ → ℕ
+sized size buffer number = cond (eqb (length buffer) size) number wrongBuffer
+
+-- What a buffer holds afterwards: `next` where the one that is measured has its size, else what it held before.
+abbrev pub kept : (size : ℕ) → (buffer next before : List ℕ) → List ℕ
+kept size buffer next before = cond (eqb (length buffer) size) next before

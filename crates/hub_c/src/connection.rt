@@ -1,0 +1,120 @@
+// Opening a connection and stepping it, in its state buffer.
+use super::state::STATE;
+use super::state::decode;
+use super::state::encode;
+use super::words::TRIPLE;
+use super::words::WRONG_BUFFER;
+use super::words::put_triple;
+use hub::Answer;
+use hub::Connection;
+use hub::Stepped;
+ghost use mathlib.Core.Path.{_≡_};
+ghost use mathlib.Core.Bool.{cond};
+ghost use lib.ListN.{length};
+ghost use Rattle.hub.specs.Opening.{opened};
+ghost use Rattle.hub.specs.Step.{step, reportStepped, workingStepped};
+ghost use Rattle.hub_c.specs.Sizes.{wrongBuffer, stateSize, tripleSize, sized, kept};
+ghost use Rattle.hub_c.specs.State.{connectionAt, stateBytes};
+ghost use Rattle.hub_c.specs.Answered.{words, said, stateAfter, answerAfter, wrongStep};
+
+// An answer in words; the refusal is 0 where there is none, and beside a refusal all is 0.
+pub struct Said {
+    pub refusal: u8,
+    // 1 Reply, 2 Again, 3 Failure, 4 Taken, 5 Repeat, 6 Complete.
+    pub kind: u64,
+    // The Connect type of the reply, or how many different pieces have come.
+    pub value: u64,
+    // The report's length.
+    pub length: u64,
+}
+
+// The words of an answer that is no refusal.
+fn words(kind: u64, value: u64, length: u64) -> Said
+    ensures { λ r. ⌜ r ≡ words kind value length ⌝ }
+{
+    Said {
+        refusal: 0,
+        kind,
+        value,
+        length,
+    }
+}
+
+// An answer in words.
+fn said_of(answer: Answer) -> Said
+    ensures { λ r. ⌜ r ≡ said answer ⌝ }
+{
+    match answer {
+        Answer::Refused(n) => Said {
+            refusal: n,
+            kind: 0,
+            value: 0,
+            length: 0,
+        },
+        Answer::Reply(kind) => words(1, kind as u64, 0),
+        Answer::Again(kind) => words(2, kind as u64, 0),
+        Answer::Failure => words(3, 0, 0),
+        Answer::Taken(heard) => words(4, heard as u64, 0),
+        Answer::Repeat(heard) => words(5, heard as u64, 0),
+        Answer::Complete { length, heard } => words(6, heard as u64, length as u64),
+    }
+}
+
+// Opens a connection of this fragment size into a state buffer. Refused with 24 the state is that of the connection that is all zero.
+#[no_mangle]
+pub extern "C" fn hub_open(fragment_size: u64, state: &mut [u8]) -> u8
+    ensures { λ r. ⌜ r ≡ sized stateSize (now (state .entry)) (opened «fragment_size» .refusal) ⌝ }
+    ensures { λ _. ⌜ now (state .exit) ≡ kept stateSize (now (state .entry)) (stateBytes (opened «fragment_size» .connection)) (now (state .entry)) ⌝ }
+{
+    if state.len() != STATE {
+        return WRONG_BUFFER;
+    }
+    let opened = Connection::open(fragment_size as usize);
+    let connection = opened.connection;
+    encode(connection, state);
+    opened.refusal
+}
+
+// Hands out what a step came to: the next state and the answer's words, or the refusal's number.
+fn settle(stepped: Stepped, state: &mut [u8], answer: &mut [u64]) -> u8
+    requires { ⌜ (length (now state) ≡ stateSize) × (length (now answer) ≡ tripleSize) ⌝ }
+    ensures { λ r. ⌜ r ≡ said (stepped .answer) .refusal ⌝ }
+    ensures { λ _. ⌜ now (state .exit) ≡ stateAfter stepped (now (state .entry)) ⌝ }
+    ensures { λ _. ⌜ now (answer .exit) ≡ answerAfter stepped (now (answer .entry)) ⌝ }
+{
+    let given = stepped.answer;
+    let told = said_of(given);
+    if told.refusal != 0 {
+        return told.refusal;
+    }
+    let connection = stepped.connection;
+    encode(connection, state);
+    put_triple(answer, told.kind, told.value, told.length);
+    0
+}
+
+// One message on the connection in a state buffer: refused, with state, report and answer as they were; or the next state, and the answer in
+// three words: kind, value, length.
+#[no_mangle]
+pub extern "C" fn hub_step(
+    state: &mut [u8],
+    message: &[u8],
+    keys: &[u8],
+    working: &mut [u8],
+    report: &mut [u8],
+    verdict: u8,
+    answer: &mut [u64],
+) -> u8
+    ensures { λ r. ⌜ r ≡ cond (wrongStep (now (state .entry)) (now (answer .entry))) wrongBuffer (said (step (connectionAt (now (state .entry))) (now (message .entry)) (now (keys .entry)) (now (working .entry)) (now (report .entry)) verdict .answer) .refusal) ⌝ }
+    ensures { λ _. ⌜ now (state .exit) ≡ cond (wrongStep (now (state .entry)) (now (answer .entry))) (now (state .entry)) (stateAfter (step (connectionAt (now (state .entry))) (now (message .entry)) (now (keys .entry)) (now (working .entry)) (now (report .entry)) verdict) (now (state .entry))) ⌝ }
+    ensures { λ _. ⌜ now (working .exit) ≡ cond (wrongStep (now (state .entry)) (now (answer .entry))) (now (working .entry)) (workingStepped (connectionAt (now (state .entry))) (now (message .entry)) (now (keys .entry)) (now (working .entry)) verdict) ⌝ }
+    ensures { λ _. ⌜ now (report .exit) ≡ cond (wrongStep (now (state .entry)) (now (answer .entry))) (now (report .entry)) (reportStepped (connectionAt (now (state .entry))) (now (message .entry)) (now (keys .entry)) (now (working .entry)) (now (report .entry)) verdict) ⌝ }
+    ensures { λ _. ⌜ now (answer .exit) ≡ cond (wrongStep (now (state .entry)) (now (answer .entry))) (now (answer .entry)) (answerAfter (step (connectionAt (now (state .entry))) (now (message .entry)) (now (keys .entry)) (now (working .entry)) (now (report .entry)) verdict) (now (answer .entry))) ⌝ }
+{
+    if (state.len() != STATE) | (answer.len() != TRIPLE) {
+        return WRONG_BUFFER;
+    }
+    let connection = decode(state);
+    let stepped = connection.step(message, keys, working, report, verdict);
+    settle(stepped, state, answer)
+}

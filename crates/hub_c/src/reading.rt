@@ -1,0 +1,199 @@
+// Reading: what was read of a message, in words.
+//
+//     0      1       2          3         4       5       6         7         8        9      10
+//     | type | flags | sequence | request | index | count | session | channel | sealed | from | length
+//
+use super::words::TRIPLE;
+use super::words::WRONG_BUFFER;
+use super::words::put_triple;
+use super::words::put_word;
+use super::words::word;
+use lines::text::lacks;
+use message::reading::MessageRead;
+use wire::header::Header;
+use wire::header::HeaderRead;
+use wire::header::is_sealed;
+ghost use mathlib.Core.Path.{_≡_};
+ghost use mathlib.Core.List.{_∷_, []};
+ghost use mathlib.Core.Bool.{cond};
+ghost use lib.ListN.{length, getD};
+ghost use lib.Seq.{sets};
+ghost use Rattle.wire.specs.Reader.{readHeader};
+ghost use Rattle.message.specs.Reading.{readMessage, workingAfter};
+ghost use Rattle.joining.specs.Heard.{bit};
+ghost use Rattle.hub_c.specs.Sizes.{wrongBuffer, headerSize, sized, kept};
+ghost use Rattle.hub_c.specs.Headers.{nothing, ofHeader, ofMessage, fieldWords, handed, wrongPlace, placeOf};
+
+// The words of a header.
+const HEADER: usize = 11;
+
+// What was read of a message; the refusal is 0 where there is none, and beside a refusal all is 0.
+pub struct Found {
+    pub refusal: u8,
+    pub header: Header,
+    pub sealed: bool,
+    pub from: usize,
+    pub size: usize,
+}
+
+// Nothing, for this refusal.
+fn nothing(refusal: u8) -> Found
+    ensures { λ r. ⌜ r ≡ nothing refusal ⌝ }
+{
+    Found {
+        refusal,
+        header: Header::empty(),
+        sealed: false,
+        from: 0,
+        size: 0,
+    }
+}
+
+pub(crate) fn of_header(read: HeaderRead) -> Found
+    ensures { λ r. ⌜ r ≡ ofHeader read ⌝ }
+{
+    match read {
+        HeaderRead::Refused(n) => nothing(n),
+        HeaderRead::Read {
+            header,
+            start,
+            size,
+        } => Found {
+            refusal: 0,
+            header,
+            sealed: is_sealed(header.flags),
+            from: start,
+            size,
+        },
+    }
+}
+
+fn of_message(read: MessageRead) -> Found
+    ensures { λ r. ⌜ r ≡ ofMessage read ⌝ }
+{
+    match read {
+        MessageRead::Refused(n) => nothing(n),
+        MessageRead::Read {
+            header,
+            sealed,
+            from,
+            size,
+        } => Found {
+            refusal: 0,
+            header,
+            sealed,
+            from,
+            size,
+        },
+    }
+}
+
+// A bool as a word.
+fn flag(b: bool) -> u64
+    ensures { λ r. ⌜ r ≡ bit b ⌝ }
+{
+    if b { 1 } else { 0 }
+}
+
+// Puts the fields of a header.
+fn put_fields(h: Header, out: &mut [u64])
+    ensures { λ _. ⌜ now (out .exit) ≡ sets (now (out .entry)) 0 (fieldWords h) ⌝ }
+{
+    put_word(out, 0, h.kind as u64);
+    put_word(out, 1, h.flags as u64);
+    put_word(out, 2, h.sequence as u64);
+    put_word(out, 3, h.request);
+    put_word(out, 4, h.index as u64);
+    put_word(out, 5, h.count as u64);
+    put_word(out, 6, h.session);
+    put_word(out, 7, h.channel);
+}
+
+// Puts the place of a payload behind the fields.
+fn put_place(sealed: bool, from: usize, size: usize, out: &mut [u64])
+    ensures { λ _. ⌜ now (out .exit) ≡ sets (now (out .entry)) 8 (bit sealed ∷ from ∷ size ∷ []) ⌝ }
+{
+    put_word(out, 8, flag(sealed));
+    put_word(out, 9, from as u64);
+    put_word(out, 10, size as u64);
+}
+
+// Hands out what was read: the words, or the refusal's number.
+fn hand(found: Found, out: &mut [u64]) -> u8
+    requires { ⌜ length (now out) ≡ headerSize ⌝ }
+    ensures { λ r. ⌜ r ≡ found .refusal ⌝ }
+    ensures { λ _. ⌜ now (out .exit) ≡ handed found (now (out .entry)) ⌝ }
+{
+    if found.refusal != 0 {
+        return found.refusal;
+    }
+    let header = found.header;
+    put_fields(header, out);
+    put_place(found.sealed, found.from, found.size, out);
+    0
+}
+
+// Reads a message as far as it goes without keys: refusals 1 to 9, else the header's words. The place is that of the payload in the message,
+// for a sealed message that of its sealed part.
+#[no_mangle]
+pub extern "C" fn hub_read_header(message: &[u8], header: &mut [u64]) -> u8
+    ensures { λ r. ⌜ r ≡ sized headerSize (now (header .entry)) (ofHeader (readHeader (now (message .entry))) .refusal) ⌝ }
+    ensures { λ _. ⌜ now (header .exit) ≡ kept headerSize (now (header .entry)) (handed (ofHeader (readHeader (now (message .entry)))) (now (header .entry))) (now (header .entry)) ⌝ }
+{
+    if header.len() != HEADER {
+        return WRONG_BUFFER;
+    }
+    hand(of_header(wire::header::read_header(message)), header)
+}
+
+// Reads a message: refusals 1 to 14, else the header's words. The place is that of the payload, in the message if it was plain, in the working
+// buffer if it was sealed.
+#[no_mangle]
+pub extern "C" fn hub_read(
+    message: &[u8],
+    keys: &[u8],
+    working: &mut [u8],
+    header: &mut [u64],
+) -> u8
+    ensures { λ r. ⌜ r ≡ sized headerSize (now (header .entry)) (ofMessage (readMessage (now (message .entry)) (now (keys .entry)) (length (now (working .entry)))) .refusal) ⌝ }
+    ensures { λ _. ⌜ now (working .exit) ≡ kept headerSize (now (header .entry)) (workingAfter (now (message .entry)) (now (keys .entry)) (now (working .entry))) (now (working .entry)) ⌝ }
+    ensures { λ _. ⌜ now (header .exit) ≡ kept headerSize (now (header .entry)) (handed (ofMessage (readMessage (now (message .entry)) (now (keys .entry)) (length (now (working .entry))))) (now (header .entry))) (now (header .entry)) ⌝ }
+{
+    if header.len() != HEADER {
+        return WRONG_BUFFER;
+    }
+    hand(
+        of_message(message::reading::read(message, keys, working)),
+        header,
+    )
+}
+
+// Where the payload lies of a message that was read: which buffer (0 the message, 1 the working buffer), from where, how many bytes. No number
+// is trusted: what does not fit is 0, 0, 0, the empty part at the message's start.
+#[no_mangle]
+pub extern "C" fn hub_payload(
+    message: &[u8],
+    working: &[u8],
+    header: &[u64],
+    place: &mut [u64],
+) -> u8
+    ensures { λ r. ⌜ r ≡ cond (wrongPlace (now (header .entry)) (now (place .entry))) wrongBuffer 0 ⌝ }
+    ensures { λ _. ⌜ now (place .exit) ≡ cond (wrongPlace (now (header .entry)) (now (place .entry))) (now (place .entry)) (placeOf (length (now (message .entry))) (length (now (working .entry))) (getD (now (header .entry)) 8 0) (getD (now (header .entry)) 9 0) (getD (now (header .entry)) 10 0)) ⌝ }
+{
+    if (header.len() != HEADER) | (place.len() != TRIPLE) {
+        return WRONG_BUFFER;
+    }
+    let which = word(header, 8);
+    let from = word(header, 9) as usize;
+    let size = word(header, 10) as usize;
+    if (which == 0) & !lacks(message.len(), from, size) {
+        put_triple(place, 0, from as u64, size as u64);
+        return 0;
+    }
+    if (which == 1) & !lacks(working.len(), from, size) {
+        put_triple(place, 1, from as u64, size as u64);
+        return 0;
+    }
+    put_triple(place, 0, 0, 0);
+    0
+}

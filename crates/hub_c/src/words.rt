@@ -1,0 +1,45 @@
+// Answers of several numbers, written as words of 64 bits.
+ghost use mathlib.Core.Path.{_≡_};
+ghost use mathlib.Core.List.{_∷_, []};
+ghost use lib.ListN.{getD, length};
+ghost use lib.Seq.{sets};
+
+// The number of a call that was lent a buffer of the wrong size.
+pub(crate) const WRONG_BUFFER: u8 = 255;
+
+// The words of a place, of a cut and of an answer.
+pub(crate) const TRIPLE: usize = 3;
+
+// The word at a place; past the end it counts as 0.
+pub(crate) fn word(s: &[u64], at: usize) -> u64
+    ensures { λ r. ⌜ r ≡ getD (now (s .entry)) at 0 ⌝ }
+{
+    if at < s.len() { s[at] } else { 0 }
+}
+
+// Puts a word; one past the end is dropped.
+pub(crate) fn put_word(out: &mut [u64], at: usize, x: u64)
+    ensures { λ _. ⌜ now (out .exit) ≡ sets (now (out .entry)) at (x ∷ []) ⌝ }
+{
+    if at < out.len() {
+        out[at] = x;
+    }
+}
+
+// Puts the one word of a length.
+pub(crate) fn put_length(out: &mut [u64], x: u64)
+    requires { ⌜ length (now out) ≡ 1 ⌝ }
+    ensures { λ _. ⌜ now (out .exit) ≡ x ∷ [] ⌝ }
+{
+    put_word(out, 0, x);
+}
+
+// Puts three words.
+pub(crate) fn put_triple(out: &mut [u64], a: u64, b: u64, c: u64)
+    requires { ⌜ length (now out) ≡ 3 ⌝ }
+    ensures { λ _. ⌜ now (out .exit) ≡ a ∷ b ∷ c ∷ [] ⌝ }
+{
+    put_word(out, 0, a);
+    put_word(out, 1, b);
+    put_word(out, 2, c);
+}

@@ -1,0 +1,115 @@
+// Writing a message whose fields are given in words: type, flags, sequence, request, index, count, session, channel.
+use super::words::WRONG_BUFFER;
+use super::words::put_length;
+use super::words::word;
+use wire::header::Header;
+use wire::writer::Written;
+ghost use mathlib.Core.Path.{_≡_};
+ghost use mathlib.Core.Bool.{cond};
+ghost use lib.ListN.{length};
+ghost use Rattle.message.specs.Writing.{writeAnswer, writtenInto};
+ghost use Rattle.hub_c.specs.Sizes.{wrongBuffer};
+ghost use Rattle.hub_c.specs.Written.{narrow, narrowed, fieldsOf, ofWritten, lengthAfter, wrongFields};
+
+// The words of a header that is to be written.
+const FIELDS: usize = 8;
+
+// The greatest sequence number that has room in a header.
+const MOST_SEQUENCE: u64 = 4294967295;
+
+// What the writer answered; the refusal is 0 where there is none, and beside a refusal the size is 0.
+pub struct Wrote {
+    pub refusal: u8,
+    pub size: usize,
+}
+
+fn of_written(written: Written) -> Wrote
+    ensures { λ r. ⌜ r ≡ ofWritten written ⌝ }
+{
+    match written {
+        Written::Refused(n) => Wrote {
+            refusal: n,
+            size: 0,
+        },
+        Written::Bytes(size) => Wrote { refusal: 0, size },
+    }
+}
+
+fn narrow8(x: u64) -> u8
+    ensures { λ r. ⌜ r ≡ narrow 255 x ⌝ }
+{
+    if 255 < x {
+        return 255;
+    }
+    x as u8
+}
+
+fn narrow16(x: u64) -> u16
+    ensures { λ r. ⌜ r ≡ narrow 65535 x ⌝ }
+{
+    if 65535 < x {
+        return 65535;
+    }
+    x as u16
+}
+
+fn narrow32(x: u64) -> u32
+    ensures { λ r. ⌜ r ≡ narrow 4294967295 x ⌝ }
+{
+    if 4294967295 < x {
+        return 4294967295;
+    }
+    x as u32
+}
+
+// The header of these words. A number that has no room in its field becomes the greatest that has: both are refused by the same row.
+fn header_of(fields: &[u64]) -> Header
+    ensures { λ r. ⌜ r ≡ narrowed (fieldsOf (now (fields .entry))) ⌝ }
+{
+    Header {
+        kind: narrow8(word(fields, 0)),
+        flags: narrow16(word(fields, 1)),
+        sequence: narrow32(word(fields, 2)),
+        request: word(fields, 3),
+        index: narrow16(word(fields, 4)),
+        count: narrow16(word(fields, 5)),
+        session: word(fields, 6),
+        channel: word(fields, 7),
+    }
+}
+
+// Hands out what the writer answered: the length, or the refusal's number.
+fn tell(wrote: Wrote, size: &mut [u64]) -> u8
+    requires { ⌜ length (now size) ≡ 1 ⌝ }
+    ensures { λ r. ⌜ r ≡ wrote .refusal ⌝ }
+    ensures { λ _. ⌜ now (size .exit) ≡ lengthAfter wrote (now (size .entry)) ⌝ }
+{
+    if wrote.refusal != 0 {
+        return wrote.refusal;
+    }
+    put_length(size, wrote.size as u64);
+    0
+}
+
+// Writes a message with these fields, this chain (given with its end entry) and this payload at the start of the output, and its length into
+// the one word of `size`; or refuses with 5, 6, 7, 8, 10, 14, 20 or 22 and leaves both as they were. A sequence number over 32 bits is 255.
+#[no_mangle]
+pub extern "C" fn hub_write(
+    fields: &[u64],
+    chain: &[u8],
+    payload: &[u8],
+    keys: &[u8],
+    out: &mut [u8],
+    size: &mut [u64],
+) -> u8
+    ensures { λ r. ⌜ r ≡ cond (wrongFields (now (fields .entry)) (now (size .entry))) wrongBuffer (ofWritten (writeAnswer (fieldsOf (now (fields .entry))) (now (chain .entry)) (now (payload .entry)) (length (now (keys .entry))) (length (now (out .entry)))) .refusal) ⌝ }
+    ensures { λ _. ⌜ now (out .exit) ≡ cond (wrongFields (now (fields .entry)) (now (size .entry))) (now (out .entry)) (writtenInto (fieldsOf (now (fields .entry))) (now (chain .entry)) (now (payload .entry)) (now (keys .entry)) (now (out .entry))) ⌝ }
+    ensures { λ _. ⌜ now (size .exit) ≡ cond (wrongFields (now (fields .entry)) (now (size .entry))) (now (size .entry)) (lengthAfter (ofWritten (writeAnswer (fieldsOf (now (fields .entry))) (now (chain .entry)) (now (payload .entry)) (length (now (keys .entry))) (length (now (out .entry))))) (now (size .entry))) ⌝ }
+{
+    if (fields.len() != FIELDS) | (size.len() != 1) | (MOST_SEQUENCE < word(fields, 2)) {
+        return WRONG_BUFFER;
+    }
+    let header = header_of(fields);
+    let written = message::writing::write(header, chain, payload, keys, out);
+    tell(of_written(written), size)
+}
