@@ -1,13 +1,13 @@
 -- A product with a fixed byte is a byte, and the product of a sum is the sum of the products. Assumes nothing.
-use mathlib.Core.Path.{_≡_, refl, sym, ap, ap₂, _∙_, subst}
-use Prim.Native.Nat.{ℕ, zero, suc, _+_, _*_, _/_, _%_, _≤_, _<_}
+use mathlib.Core.Path.{_≡_, sym, ap, ap₂, _∙_, subst}
+use Prim.Native.Nat.{ℕ, zero, suc, _*_, _/_, _%_, _<_}
 use native.Mathlib.Nat.{mod-lt, zero-mul, one-mul, le-of-suc-le-suc, not-suc-le-zero}
 use native.Mathlib.Omega.{arith}
 use lib.Dec.{lit<}
 use Rattle.field.specs.Xor.{xor}
 use Rattle.field.specs.Field.{polynomial, xtime, times, mul}
 use Rattle.field.proofs.Xor.{self, zero-r, zero-l, byte, swap4, double, top}
-use Rattle.field.proofs.Below.{agree, bounded}
+use Rattle.field.proofs.Below.{bounded}
 
 pub xtime-byte : (x : ℕ) → x < 256 → xtime x < 256
 unfolding xtime xor

@@ -1,6 +1,6 @@
 -- InvMixColumns undoes MixColumns: the inverse row times the row, turned four times, has the coefficients 1, 0, 0, 0, each by one test
 -- over the bytes. Assumes nothing.
-use mathlib.Core.Path.{_≡_, refl, sym, ap, ap₂, _∙_}
+use mathlib.Core.Path.{_≡_, sym, ap, _∙_}
 use Prim.Native.Nat.{ℕ, _<_}
 use Rattle.field.specs.Xor.{xor}
 use Rattle.field.specs.Field.{xtime, times, mul}

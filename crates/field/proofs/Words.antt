@@ -1,5 +1,5 @@
 -- Four looked-up words, added, are the column: the rows of their sum are the rows of the matrix, turned. Assumes nothing.
-use mathlib.Core.Path.{_≡_, refl, sym, ap, ap₂, _∙_}
+use mathlib.Core.Path.{_≡_, refl, sym, ap, _∙_}
 use Prim.Native.Nat.{ℕ, _+_, _*_, _/_, _%_, _<_}
 use native.Mathlib.Nat.{mul-add-div-right, div-eq-of-lt}
 use native.Mathlib.Omega.{arith}

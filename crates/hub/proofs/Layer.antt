@@ -1,13 +1,12 @@
 -- The step as the machine of demand 3: a fragment of the report that the reader reads is joined, and a quiet answer changes nothing.
 -- Assumes nothing.
 use Prim.Native.Nat.{ℕ, _≤_}
-use mathlib.Core.Path.{_≡_, refl, sym, ap, ap₂, _∙_}
+use mathlib.Core.Path.{_≡_, refl, ap}
 use mathlib.Core.List.{List}
 use mathlib.Core.Bool.{Bool, true, false, cond, _||_}
-use native.Mathlib.Omega.{arith}
 use lib.ListN.{length}
 use lib.Dec.{ltb, eqb}
-use borrow.Author.Tests.{le-ltb, eq-eqb, ne-eqb}
+use borrow.Author.Tests.{le-ltb, eq-eqb}
 use Rattle.wire.specs.declared.header.Header.{Header}
 use Rattle.message.specs.Reading.{readMessage, workingAfter}
 use Rattle.message.specs.Handed.{payload}
@@ -15,7 +14,6 @@ use Rattle.message.specs.declared.reading.MessageRead.{MessageRead}
 use Rattle.message.specs.declared.reading.MessageRead.the-variants.{Refused, Read}
 use Rattle.joining.specs.declared.Progress.{Progress}
 use Rattle.joining.specs.declared.Piece.{Piece}
-use Rattle.joining.specs.declared.Joined.{Joined}
 use Rattle.joining.specs.Cut.{badSize}
 use Rattle.joining.specs.Join.{join, reportAfter}
 use Rattle.joining.proofs.Courses.{Machine}
@@ -23,7 +21,7 @@ use Rattle.hub.specs.declared.Connection.{Connection}
 use Rattle.hub.specs.declared.Stepped.{Stepped}
 use Rattle.hub.specs.declared.Answer.{Answer}
 use Rattle.hub.specs.Answers.{answerOf, isQuiet, isComplete}
-use Rattle.hub.specs.Hear.{pieceIn, withProgress, joined, isForeign, joins, heard, reportHeard}
+use Rattle.hub.specs.Hear.{pieceIn, withProgress, joined, joins, heard, reportHeard}
 use Rattle.hub.specs.Step.{afterRead, reportRead, step, reportStepped}
 use Rattle.hub.proofs.Quiet.{Still, heard-still}
 

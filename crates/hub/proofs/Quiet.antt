@@ -1,6 +1,6 @@
 -- A refusal and Again leave connection and report buffer alone. Assumes nothing.
 use Prim.Native.Nat.{ℕ}
-use mathlib.Core.Path.{_≡_, refl, sym, ap, _∙_}
+use mathlib.Core.Path.{_≡_, refl, sym, ap}
 use mathlib.Core.List.{List}
 use mathlib.Core.Bool.{Bool, true, false, cond, not, _&&_, true≢false}
 use lib.Dec.{eqb}
@@ -11,8 +11,6 @@ use Rattle.wire.specs.Payload.{connectType, readRequest}
 use Rattle.wire.specs.declared.header.Header.{Header}
 use Rattle.wire.specs.declared.payload.Request.{Request}
 use Rattle.sha256.specs.Digests.{digest}
-use Rattle.joining.specs.declared.Progress.{Progress}
-use Rattle.joining.specs.declared.Joined.{Joined}
 use Rattle.joining.specs.declared.Arrival.{Arrival}
 use Rattle.joining.specs.declared.Arrival.the-variants.{Refused as refusedPiece, Taken as takenPiece, Repeat as repeatedPiece, Complete as completePiece}
 use Rattle.joining.specs.Join.{join, reportAfter}

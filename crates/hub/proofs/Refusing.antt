@@ -1,17 +1,15 @@
 -- The number that a step answers is the one that the tables give. Assumes nothing.
 use Prim.Native.Nat.{ℕ}
-use mathlib.Core.Path.{_≡_, refl, sym, ap, _∙_}
+use mathlib.Core.Path.{_≡_, refl, sym, _∙_}
 use mathlib.Core.List.{List, [], _∷_}
-use mathlib.Core.Bool.{Bool, true, false, not, cond, _&&_, _||_}
+use mathlib.Core.Bool.{Bool, true, false, not, cond, _||_}
 use lib.Dec.{eqb, ltb}
 use lib.ListN.{length}
 use borrow.Author.Tests.{eqb-true}
-use Rattle.laws.specs.Rows.{first, orElse}
-use Rattle.laws.specs.Same.{same}
+use Rattle.laws.specs.Rows.{orElse}
 use Rattle.wire.specs.Refusals.{notAllowed, otherSession}
 use Rattle.wire.specs.Payload.{connectType, readRequest}
 use Rattle.wire.specs.declared.header.Header.{Header}
-use Rattle.wire.specs.declared.payload.Request.{Request}
 use Rattle.sha256.specs.Digests.{digest}
 use Rattle.message.specs.Reading.{readMessage, workingAfter}
 use Rattle.message.specs.Handed.{payload}
@@ -20,16 +18,14 @@ use Rattle.message.specs.declared.reading.MessageRead.the-variants.{Refused, Re
 use Rattle.joining.specs.declared.Progress.{Progress}
 use Rattle.joining.specs.declared.Piece.{Piece}
 use Rattle.joining.specs.declared.Joined.{Joined}
-use Rattle.joining.specs.declared.Arrival.{Arrival}
-use Rattle.joining.specs.declared.Arrival.the-variants.{Refused as refusedPiece, Taken as takenPiece, Repeat as repeatedPiece, Complete as completePiece}
 use Rattle.joining.specs.Heard.{has}
 use Rattle.joining.specs.Cut.{badSize}
-use Rattle.joining.specs.Join.{completes, taken, joinRefusal, join}
+use Rattle.joining.specs.Join.{completes, joinRefusal, join}
 use Rattle.hub.specs.declared.Connection.{Connection}
 use Rattle.hub.specs.declared.Stepped.{Stepped}
 use Rattle.hub.specs.Answers.{valuesOf, answerOf}
-use Rattle.hub.specs.Host.{refuse, hostRows, firstRow, knows, within, host}
-use Rattle.hub.specs.Hear.{certificate, connect, pieceIn, joined, isForeign, joins, heard}
+use Rattle.hub.specs.Host.{refuse, hostRows, firstRow, host}
+use Rattle.hub.specs.Hear.{certificate, connect, pieceIn, isForeign, joins, heard}
 use Rattle.hub.specs.Step.{afterRead, step}
 use Rattle.hub.specs.Refusing.{anyRow, isAllowed, heardRefusal, readRefusal, stepRefusal}
 

@@ -1,7 +1,7 @@
 -- The refusals of a step as tables, row by row: "25; 24; 1 to 9; for sealed messages 10 to 13; 14; 16; 15; then 19, 17, 18, 21, 20, 22, 23."
 use Prim.Native.Nat.{ℕ}
 use mathlib.Core.List.{List, [], _∷_}
-use mathlib.Core.Bool.{Bool, false, not, cond, _&&_, _||_}
+use mathlib.Core.Bool.{Bool, false, not, cond, _||_}
 use lib.Dec.{eqb, ltb}
 use lib.ListN.{length}
 use Rattle.laws.specs.Rows.{first, orElse}

@@ -3,7 +3,7 @@
 use Prim.Native.Nat.{ℕ, zero, suc, _+_, _-_, _*_, _≤_, _<_}
 use mathlib.Core.Path.{_≡_, refl, sym, ap, _∙_}
 use mathlib.Core.List.{List, [], _∷_, _++_}
-use mathlib.Core.Bool.{Bool, true, false, cond, not, _&&_, _||_, true≢false}
+use mathlib.Core.Bool.{Bool, true, false, cond, not, _||_, true≢false}
 use native.Mathlib.Omega.{arith}
 use lib.Dec.{eqb}
 use lib.ListN.{length, length-set, length-replicate}
@@ -15,7 +15,7 @@ use Rattle.joining.specs.declared.Piece.{Piece}
 use Rattle.joining.specs.declared.Joined.{Joined}
 use Rattle.joining.specs.declared.Arrival.{Arrival}
 use Rattle.joining.specs.declared.Arrival.the-variants.{Refused, Taken, Repeat, Complete}
-use Rattle.joining.specs.Heard.{most, bit, tally, come, has, mark, none}
+use Rattle.joining.specs.Heard.{most, tally, come, has, mark, none}
 use Rattle.joining.specs.Join.{unlike, turnRows, placeRows, joinRefusal, lastOf, expecting, extended, completes, taken, join}
 use Rattle.joining.proofs.Heards.{has-none}
 use Rattle.joining.proofs.Refusals.{fitting}

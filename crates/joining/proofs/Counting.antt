@@ -8,12 +8,12 @@ use lib.Dec.{eqb}
 use lib.ListN.{length}
 use lib.Seq.{getD-set-other}
 use borrow.Author.Tests.{eq-eqb, ne-eqb}
-use Rattle.joining.specs.declared.Arrival.the-variants.{Refused, Taken, Repeat, Complete}
+use Rattle.joining.specs.declared.Arrival.the-variants.{Taken, Repeat}
 use Rattle.joining.specs.Heard.{most, bit, tally, come, has, mark}
 use Rattle.joining.proofs.Heards.{come-next, come-mark, come-full, full-come, tally-mark}
 use Rattle.joining.proofs.Coming.{Start, Fair, Lawful, pieceOf, bytesOf}
 use Rattle.joining.proofs.Arriving.{mark-known, mark-lawful}
-use Rattle.joining.proofs.Courses.{Event, piece, between, came, setOf, set-has, set-lawful, LastMissing, mark-has, Machine, final, Course, under, began, says-here}
+use Rattle.joining.proofs.Courses.{Event, piece, came, setOf, set-has, set-lawful, LastMissing, mark-has, Machine, final, Course, under, began, says-here}
 
 -- How many of the pieces 0 to n - 1 have come, each counted once however often it came.
 abbrev pub howMany : ℕ → List Event → ℕ

@@ -6,7 +6,7 @@ use mathlib.Core.Bool.{Bool, true, false, cond, _||_}
 use native.Mathlib.Omega.{arith}
 use native.Mathlib.Nat.{div-lt-iff-lt-mul, le-div-iff-mul-le, div-eq-of-lt-le, mul-le-mul, le-of-lt}
 use lib.Dec.{eqb, ltb, leb, eqb·suc-zero}
-use lib.ListN.{length, take, drop, length-take, length-drop}
+use lib.ListN.{length, length-take, length-drop}
 use borrow.Author.Tests.{eqb-false, ltb-false, leb-false}
 use Rattle.laws.proofs.Bools.{or-false}
 use Rattle.wire.specs.Fields.{mostPieces}

@@ -5,7 +5,7 @@ use mathlib.Core.List.{List, [], _∷_}
 use mathlib.Core.Bool.{Bool, true, false}
 use native.Mathlib.Omega.{arith}
 use mir.Val.{boolByte}
-use lib.ListN.{length, getD, set, take}
+use lib.ListN.{length, set}
 use lib.Seq.{set-getD}
 use Rattle.joining.specs.Heard.{bit, tally, come, has, mark, none}
 

@@ -2,7 +2,7 @@
 use Prim.Native.Nat.{ℕ, _+_, _*_, _≤_, _<_}
 use mathlib.Core.Path.{_≡_, refl, sym, _∙_}
 use mathlib.Core.List.{List}
-use mathlib.Core.Bool.{Bool, true, false, cond, not, _&&_, _||_}
+use mathlib.Core.Bool.{Bool, true, false, cond, _&&_}
 use native.Mathlib.Omega.{arith}
 use lib.Dec.{eqb, ltb, leb}
 use lib.ListN.{length}
@@ -14,7 +14,7 @@ use Rattle.joining.specs.declared.Progress.{Progress}
 use Rattle.joining.specs.declared.Piece.{Piece}
 use Rattle.joining.specs.Heard.{most}
 use Rattle.joining.specs.Cut.{badSize}
-use Rattle.joining.specs.Join.{badIndex, unlike, isLast, misfit, conflict, turnRows, placeRows, joinRefusal, Fitting}
+use Rattle.joining.specs.Join.{badIndex, unlike, isLast, misfit, turnRows, placeRows, joinRefusal, Fitting}
 use Rattle.joining.proofs.Cuts.{good-size, passed}
 
 -- The piece is one of the expected message.

@@ -10,7 +10,7 @@ use Rattle.joining.specs.declared.Piece.{Piece}
 use Rattle.joining.specs.declared.Joined.{Joined}
 use Rattle.joining.specs.declared.Arrival.{Arrival}
 use Rattle.joining.specs.declared.Arrival.the-variants.{Refused, Taken, Repeat, Complete}
-use Rattle.joining.specs.Heard.{tally, has}
+use Rattle.joining.specs.Heard.{has}
 use Rattle.joining.specs.Join.{completes, taken, joinRefusal, join, reportAfter}
 
 -- The answer is a refusal.

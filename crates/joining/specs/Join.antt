@@ -12,7 +12,6 @@ use Rattle.wire.specs.Refusals.{wrongPiece, pastSequence, futureSequence, lastS
 use Rattle.joining.specs.declared.Progress.{Progress}
 use Rattle.joining.specs.declared.Piece.{Piece}
 use Rattle.joining.specs.declared.Joined.{Joined}
-use Rattle.joining.specs.declared.Arrival.{Arrival}
 use Rattle.joining.specs.declared.Arrival.the-variants.{Refused, Taken, Repeat, Complete}
 use Rattle.joining.specs.Heard.{most, tally, come, has, mark, none}
 use Rattle.joining.specs.Report.{part, put}

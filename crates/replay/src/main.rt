@@ -17,7 +17,6 @@ use lines::stream::Next;
 use lines::stream::ahead;
 use report::save;
 ghost use mathlib.Core.Path.{_≡_};
-ghost use Prim.Native.Nat.{_≤_};
 ghost use lib.ListN.{length};
 
 // The most pieces of a report.

@@ -1,6 +1,6 @@
 -- FIPS 180-4 §6.2.2: the message schedule W of a block, the sixty-four rounds on the working variables a to h, and the hash value after
 -- one block, after several. A hash value and the working variables are both a `Vars`, eight words.
-use Prim.Native.Nat.{ℕ, zero, suc, _+_, _-_, _*_, _/_}
+use Prim.Native.Nat.{ℕ, zero, suc, _+_, _*_, _/_}
 use mathlib.Core.List.{List, [], _∷_, _++_}
 use lib.ListN.{getD, length, set}
 use Rattle.laws.specs.Bytes.{be32}

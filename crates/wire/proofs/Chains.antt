@@ -10,7 +10,7 @@ use Rattle.laws.proofs.Bools.{or-false}
 use native.Mathlib.Omega.{arith}
 use native.Mathlib.Nat.{zero-add}
 use native.Mathlib.Numerals.{sub-one}
-use lib.ListN.{length, take, drop, length-append, length-drop, length-take}
+use lib.ListN.{length, drop, length-append, length-drop, length-take}
 use lib.Seq.{drop-append-le}
 use Rattle.wire.specs.Chain.{entryOf, follow, chain, readChain, mostEntries, leaves, isBroken, badChain}
 use Rattle.wire.specs.Reader.{roomOf}

@@ -1,16 +1,16 @@
 -- What the payload writers write has its shape, and reads back. Assumes nothing.
-use Prim.Native.Nat.{ℕ, _+_, _*_, _/_, _%_, _≤_}
-use mathlib.Core.Path.{_≡_, refl, sym, ap, _∙_}
+use Prim.Native.Nat.{ℕ, _+_, _≤_}
+use mathlib.Core.Path.{_≡_, refl, ap, _∙_}
 use mathlib.Core.List.{List, [], _∷_, _++_, append-assoc, append-nil}
-use mathlib.Core.Bool.{Bool, true, false, not, cond, _&&_, _||_, true≢false}
+use mathlib.Core.Bool.{Bool, true, false, not, _&&_, true≢false}
 use mathlib.Core.Logic.{_⊎_, inl, inr}
 use native.Mathlib.Omega.{arith}
 use native.Mathlib.Nat.{div-add-mod'}
 use borrow.Author.Tests.{le-leb, le-ltb, eq-eqb, ne-eqb, eqb-true, eqb-false}
 use lib.ListN.{length, take, drop, length-append}
 use lib.Seq.{take-at}
-use lib.Dec.{ltb, leb, eqb}
-use Rattle.laws.specs.Bytes.{be8, be16, be32, bytesAt, bytes16, bytes32}
+use lib.Dec.{eqb}
+use Rattle.laws.specs.Bytes.{be16, be32, bytesAt, bytes16, bytes32}
 use Rattle.laws.proofs.Bools.{or-true}
 use Rattle.laws.proofs.Numbers.{be16-at, be32-at}
 use Rattle.laws.proofs.Parts.{part-back}
@@ -32,7 +32,6 @@ use Rattle.wire.specs.Payload.{
 }
 use Rattle.wire.specs.Writer.{exchangeBytes, coded, badDevice, deviceAuthentication, presenceRequest, connectionRequest, connectionResponse, doneRequest, doneResponse}
 use Rattle.wire.specs.declared.payload.Request.{Request}
-use Rattle.wire.specs.declared.payload.Place.{Place}
 use Rattle.wire.proofs.Writing.{device, length-device}
 
 -- A payload that has the shape of one row of the list.

@@ -1,16 +1,16 @@
 -- What is written reads back: `readHeader` gives back every header that the writer accepts, with the place and the length of what stands
 -- between its chain and its tag. Assumes nothing.
-use Prim.Native.Nat.{ℕ, _+_, _-_, _*_, _/_, _%_, _≤_}
+use Prim.Native.Nat.{ℕ, _+_, _-_, _%_, _≤_}
 use mathlib.Core.Path.{_≡_, refl, sym, ap, _∙_}
-use mathlib.Core.List.{List, [], _∷_, _++_, append-assoc}
-use mathlib.Core.Bool.{Bool, true, false, not, _&&_, _||_, true≢false}
+use mathlib.Core.List.{List, _++_, append-assoc}
+use mathlib.Core.Bool.{Bool, true, false, not, _&&_, _||_}
 use native.Mathlib.Omega.{arith}
 use native.Mathlib.Nat.{div-add-mod'}
 use borrow.Author.Tests.{le-ltb, eq-eqb, ne-eqb}
-use lib.ListN.{length, take, drop, length-append}
+use lib.ListN.{length, take, length-append}
 use lib.Seq.{take-at}
-use lib.Dec.{ltb, eqb}
-use Rattle.laws.specs.Bytes.{be8, be16}
+use lib.Dec.{eqb}
+use Rattle.laws.specs.Bytes.{be16}
 use Rattle.laws.specs.Rows.{first}
 use Rattle.laws.proofs.Firsts.{quiet-first}
 use Rattle.wire.specs.Fields.{badKind, badFlags, badPiece, isSealed, tagSize}

@@ -1,24 +1,22 @@
 -- What an accepted message is, for callers of `read_header`, and which numbers its refusals have. Assumes nothing.
-use Prim.Native.Nat.{ℕ, _+_, _-_, _*_, _/_, _%_, _≤_, _<_}
-use mathlib.Core.Path.{_≡_, refl, sym, ap, _∙_}
+use Prim.Native.Nat.{ℕ, _+_, _-_, _/_, _%_, _≤_, _<_}
+use mathlib.Core.Path.{_≡_, refl, sym, _∙_}
 use mathlib.Core.Logic.{_⊎_, inl, inr}
 use mathlib.Core.List.{List}
 use mathlib.Core.Bool.{Bool, true, false, not, _&&_, _||_, true≢false}
 use native.Mathlib.Omega.{arith}
 use native.Mathlib.Nat.{mod-lt, zero-lt-suc}
 use borrow.Author.Tests.{ltb-false, leb-false, eqb-true, eqb-false, not-false, eq-eqb, ne-eqb}
-use lib.ListN.{length, take, drop, length-take, length-drop}
+use lib.ListN.{length}
 use lib.Dec.{ltb, leb, eqb}
 use Rattle.laws.specs.Bytes.{be8, be16}
-use Rattle.laws.specs.Rows.{quiet}
 use Rattle.laws.proofs.Firsts.{first-quiet, first-upTo}
 use Rattle.laws.proofs.Bools.{or-false, or4-false, and-true, and-false-right}
-use Rattle.wire.specs.Chain.{chain, readChain, leaves, isBroken}
+use Rattle.wire.specs.Chain.{readChain, leaves, isBroken}
 use Rattle.wire.specs.Fields.{badKind, badFlags, badPiece, mostPieces, isSealed, hmacFlag, encryptedFlag, tagSize}
 use Rattle.wire.specs.Reader.{headerOf, roomOf, chainOf, headerRows, rowsOf, refusalWith, refusalOf, readHeader}
 use Rattle.wire.specs.declared.chain.Chain.{Chain}
 use Rattle.wire.specs.declared.header.Header.{Header}
-use Rattle.wire.specs.declared.header.HeaderRead.{HeaderRead}
 use Rattle.wire.specs.declared.header.HeaderRead.the-variants.{Refused, Read}
 use Rattle.wire.proofs.Chains.{room-left}
 use Rattle.wire.proofs.Reading.{read-refused, read-good}

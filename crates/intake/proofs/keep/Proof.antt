@@ -13,35 +13,11 @@ Inv-loop input₀ from to left i₀ input i = (i ≤ left) × (length input ≡ 
 abbrev μ-loop : tie.MeasureT-loop
 μ-loop input₀ from to left i₀ input i = left - i
 
-sub-left : tie.Need-sub-left Inv-loop μ-loop
-sub-left c = search needs
-
 loop-holds : tie.Need-loop-holds Inv-loop μ-loop
 loop-holds c = (omega arith, refl)
 
-add-input : tie.Need-add-input Inv-loop μ-loop
-add-input c = search needs
-
-slice-read-input : tie.Need-slice-read-input Inv-loop μ-loop
-slice-read-input c = search needs
-
-slice-write-input : tie.Need-slice-write-input Inv-loop μ-loop
-slice-write-input c = search needs
-
-add-i : tie.Need-add-i Inv-loop μ-loop
-add-i c = search needs
-
-loop-less : tie.Need-loop-less Inv-loop μ-loop
-loop-less c = search needs
-
 loop-again : tie.Need-loop-again Inv-loop μ-loop
 loop-again c = (omega arith, simp length-set (search needs))
-
-same-length : tie.Need-same-length Inv-loop μ-loop
-same-length c = search needs
-
-returns : tie.Need-returns Inv-loop μ-loop
-returns c = search needs
 
 pub keep-spec : {M : Type 1} → statement M
 keep-spec =
@@ -49,13 +25,13 @@ keep-spec =
     (tie.spec
     Inv-loop
     μ-loop
-    sub-left
+    (λ c. search needs)
     loop-holds
-    add-input
-    slice-read-input
-    slice-write-input
-    add-i
-    loop-less
+    (λ c. search needs)
+    (λ c. search needs)
+    (λ c. search needs)
+    (λ c. search needs)
+    (λ c. search needs)
     loop-again
-    same-length
-    returns)
+    (λ c. search needs)
+    (λ c. search needs))

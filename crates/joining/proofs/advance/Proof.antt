@@ -13,31 +13,16 @@ use Rattle.joining.proofs.advance.Tie as tie
 bound : (c : tie.Start) → c .args .size * (c .args .piece .count - 1) ≤ 16384 * most
 bound c = place-bound (c .args .size) (c .args .piece .count - 1) most (c .pre .2 .small) (omega arith)
 
-last-of-requires : tie.Need-last-of-requires
-last-of-requires c κs = search needs
-
 completes-requires : tie.Need-completes-requires
 completes-requires c κs = (c .before .pre .1, c .before .pre .2 .few)
-
-sub-length : tie.Need-sub-length
-sub-length c = search needs
 
 mul-length : tie.Need-mul-length
 unfolding mostPieces
 mul-length c = omega (arith, bound (c .before .before .before))
 
-cast-length : tie.Need-cast-length
-cast-length c = search needs
-
 add-length : tie.Need-add-length
 unfolding mostPieces
 add-length c = omega (arith, bound (c .before .before .before))
-
-add-expecting : tie.Need-add-expecting
-add-expecting c = search needs
-
-expecting-requires : tie.Need-expecting-requires
-expecting-requires c κs = search needs
 
 returns : tie.Need-returns
 returns c =
@@ -57,13 +42,13 @@ pub advance-spec : {M : Type 1} → statement M
 advance-spec =
     tie.close
     (tie.spec
-    last-of-requires
+    (λ c κs. search needs)
     completes-requires
-    sub-length
+    (λ c. search needs)
     mul-length
-    cast-length
+    (λ c. search needs)
     add-length
-    add-expecting
-    expecting-requires
+    (λ c. search needs)
+    (λ c κs. search needs)
     returns
     returns-2)

@@ -13,11 +13,8 @@ returns c =
     let a = c .before .args in
     sym (ne-eqb _ _ (λ (e : come (a .count) (a .t1) ≡ a .count). omega (arith, come-tally (a .count) (a .t1), c .before .pre .0)))
 
-count-heard-requires : tie.Need-count-heard-requires
-count-heard-requires c κs = search needs
-
 returns-2 : tie.Need-returns-2
 returns-2 c = rw (c .count-heard .ensures)
 
 pub completes-spec : {M : Type 1} → statement M
-completes-spec = tie.close (tie.spec returns count-heard-requires returns-2)
+completes-spec = tie.close (tie.spec returns (λ c κs. search needs) returns-2)

@@ -24,32 +24,11 @@ element-copy-out-if1 c = search needs
 returns : tie.Need-returns
 returns c = let s = c .before .before .before .before in rw (known s, not-true (heard s) (c .if1 .taken))
 
-due-requires : tie.Need-due-requires
-due-requires c κs = search needs
-
 returns-2 : tie.Need-returns-2
 returns-2 c =
     let i = c .before .before in
     let s = i .before .before .before .before in
     rw (known s, not-false (heard s) (i .if1 .left), ← (c .before .due .ensures), ne-eqb _ _ (c .if2 .taken))
-
-mul-start : tie.Need-mul-start
-mul-start c = search needs
-
-add-end : tie.Need-add-end
-add-end c = search needs
-
-sub-alike : tie.Need-sub-alike
-sub-alike c = search needs
-
-part-alike-start : tie.Need-part-alike-start
-part-alike-start c = search needs
-
-part-alike-end : tie.Need-part-alike-end
-part-alike-end c = search needs
-
-alike-requires : tie.Need-alike-requires
-alike-requires c κs = search needs
 
 returns-3 : tie.Need-returns-3
 returns-3 c =
@@ -64,12 +43,12 @@ conflict-spec =
     (tie.spec
     element-copy-out-if1
     returns
-    due-requires
+    (λ c κs. search needs)
     returns-2
-    mul-start
-    add-end
-    sub-alike
-    part-alike-start
-    part-alike-end
-    alike-requires
+    (λ c. search needs)
+    (λ c. search needs)
+    (λ c. search needs)
+    (λ c. search needs)
+    (λ c. search needs)
+    (λ c κs. search needs)
     returns-3)

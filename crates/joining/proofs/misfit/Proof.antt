@@ -4,9 +4,6 @@ use Rattle.laws.proofs.Tests.{tests}
 use Rattle.joining.proofs.misfit.Statement.{statement}
 use Rattle.joining.proofs.misfit.Tie as tie
 
-add-if1 : tie.Need-add-if1
-add-if1 c = search needs
-
 returns : tie.Need-returns
 returns c = search tests
 
@@ -14,4 +11,4 @@ returns-2 : tie.Need-returns-2
 returns-2 c = search tests
 
 pub misfit-spec : {M : Type 1} → statement M
-misfit-spec = tie.close (tie.spec add-if1 returns returns-2)
+misfit-spec = tie.close (tie.spec (λ c. search needs) returns returns-2)

@@ -1,12 +1,12 @@
 -- The first table has no row that applies, so the answer is the second's; its rows in their order.
-use Prim.Native.Nat.{ℕ, _*_, _≤_}
+use Prim.Native.Nat.{_*_, _≤_}
 use mathlib.Core.Path.{_≡_, sym, _∙_}
 use native.Mathlib.Omega.{arith}
 use borrow.Author.Needs.{needs}
 use borrow.Author.Tests.{lt-ltb, le-ltb}
 use Rattle.laws.specs.Rows.{first}
 use Rattle.joining.specs.Heard.{most}
-use Rattle.joining.specs.Join.{turnRows, placeRows, joinRefusal}
+use Rattle.joining.specs.Join.{placeRows, joinRefusal}
 use Rattle.wire.specs.Fields.{mostPieces}
 use Rattle.joining.proofs.Cuts.{place-bound}
 use Rattle.joining.proofs.Refusals.{InTurn, in-turn, refusal-turn, refusal-place}
@@ -31,16 +31,10 @@ second c =
 bound : (c : tie.Else1) → let s = entry c .args in s .size * s .piece .index ≤ 16384 * most
 bound c = let s = entry c .args in let k = known c in place-bound (s .size) (s .piece .index) most (k .small) (omega arith)
 
-turn-requires : tie.Need-turn-requires
-turn-requires c κs = search needs
-
 returns : tie.Need-returns
 returns c =
     let s = c .before .before .before .before .args in
     refusal-turn (s .size) (s .held) (s .piece) (s .payload .now) (s .report .now) _ (c .before .turn .ensures) (c .if1 .taken)
-
-unlike-requires : tie.Need-unlike-requires
-unlike-requires c κs = search needs
 
 returns-2 : tie.Need-returns-2
 returns-2 c = rw (← (second (c .before .before)), ← (c .before .unlike .ensures), c .if2 .taken)
@@ -115,9 +109,9 @@ pub refusal-spec : {M : Type 1} → statement M
 refusal-spec =
     tie.close
     (tie.spec
-    turn-requires
+    (λ c κs. search needs)
     returns
-    unlike-requires
+    (λ c κs. search needs)
     returns-2
     misfit-requires
     returns-3

@@ -4,14 +4,8 @@ use borrow.Author.Tests.{eq-eqb, ne-eqb, lt-ltb, le-ltb}
 use Rattle.joining.proofs.turn.Statement.{statement}
 use Rattle.joining.proofs.turn.Tie as tie
 
-bad-size-requires : tie.Need-bad-size-requires
-bad-size-requires c κs = search needs
-
 returns : tie.Need-returns
 returns c = rw (← (c .before .bad-size .ensures), c .if1 .taken)
-
-bad-index-requires : tie.Need-bad-index-requires
-bad-index-requires c κs = search needs
 
 returns-2 : tie.Need-returns-2
 returns-2 c =
@@ -64,4 +58,4 @@ returns-6 c =
     )
 
 pub turn-spec : {M : Type 1} → statement M
-turn-spec = tie.close (tie.spec bad-size-requires returns bad-index-requires returns-2 returns-3 returns-4 returns-5 returns-6)
+turn-spec = tie.close (tie.spec (λ c κs. search needs) returns (λ c κs. search needs) returns-2 returns-3 returns-4 returns-5 returns-6)

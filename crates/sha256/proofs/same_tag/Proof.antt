@@ -6,15 +6,6 @@ use Rattle.laws.proofs.Sames.{same-length}
 use Rattle.sha256.proofs.same_tag.Statement.{statement}
 use Rattle.sha256.proofs.same_tag.Tie as tie
 
-slice-aggregate-differences : tie.Need-slice-aggregate-differences
-slice-aggregate-differences c = search needs
-
-differences-requires : tie.Need-differences-requires
-differences-requires c κs = search needs
-
-returns : tie.Need-returns
-returns c = search needs
-
 returns-2 : tie.Need-returns-2
 returns-2 c =
     let a = c .before .before .args in
@@ -22,4 +13,4 @@ returns-2 c =
 
 pub same-tag-spec : {M : Type 1} → statement M
 same-tag-spec =
-    tie.close (tie.spec slice-aggregate-differences differences-requires returns returns-2)
+    tie.close (tie.spec (λ c. search needs) (λ c κs. search needs) (λ c. search needs) returns-2)

@@ -10,36 +10,6 @@ Inv-loop name text end kind agreed₀ tried₀ at₀ turns₀ agreed tried at tu
 abbrev μ-loop : tie.MeasureT-loop
 μ-loop name text end kind agreed₀ tried₀ at₀ turns₀ agreed tried at turns = turns
 
-loop-holds : tie.Need-loop-holds Inv-loop μ-loop
-loop-holds c = search needs
-
-line-requires : tie.Need-line-requires Inv-loop μ-loop
-line-requires c κs = search needs
-
-one-if-requires : tie.Need-one-if-requires Inv-loop μ-loop
-one-if-requires c κs = search needs
-
-add-agreed : tie.Need-add-agreed Inv-loop μ-loop
-add-agreed c = search needs
-
-one-if-requires-2 : tie.Need-one-if-requires-2 Inv-loop μ-loop
-one-if-requires-2 c κs = search needs
-
-add-tried : tie.Need-add-tried Inv-loop μ-loop
-add-tried c = search needs
-
-sub-turns : tie.Need-sub-turns Inv-loop μ-loop
-sub-turns c = search needs
-
-loop-less : tie.Need-loop-less Inv-loop μ-loop
-loop-less c = search needs
-
-loop-again : tie.Need-loop-again Inv-loop μ-loop
-loop-again c = search needs
-
-report-requires : tie.Need-report-requires Inv-loop μ-loop
-report-requires c κs = search needs
-
 returns : tie.Need-returns Inv-loop μ-loop
 returns c = tt
 
@@ -49,14 +19,14 @@ lines-spec =
     (tie.spec
     Inv-loop
     μ-loop
-    loop-holds
-    line-requires
-    one-if-requires
-    add-agreed
-    one-if-requires-2
-    add-tried
-    sub-turns
-    loop-less
-    loop-again
-    report-requires
+    (λ c. search needs)
+    (λ c κs. search needs)
+    (λ c κs. search needs)
+    (λ c. search needs)
+    (λ c κs. search needs)
+    (λ c. search needs)
+    (λ c. search needs)
+    (λ c. search needs)
+    (λ c. search needs)
+    (λ c κs. search needs)
     returns)

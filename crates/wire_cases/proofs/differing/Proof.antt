@@ -1,6 +1,6 @@
 -- No more differ than there were; the buffer keeps its length.
 use borrow.Author.Needs.{needs}
-use Prim.Native.Nat.{_≤_, _<_, _-_}
+use Prim.Native.Nat.{_≤_, _-_}
 use mathlib.Core.Path.{_≡_}
 use lib.ListN.{length}
 use Rattle.wire_cases.proofs.differing.Statement.{statement}

@@ -1,6 +1,5 @@
 -- No report has such pieces, or all of them come.
 use mathlib.Core.Path.{refl, sym, _∙_}
-use native.Mathlib.Omega.{arith}
 use borrow.Author.Tests.{ltb-false}
 use Rattle.laws.proofs.Bools.{or-false}
 use Rattle.bench_c.specs.Course.{course}

@@ -19,9 +19,6 @@ loop-holds : tie.Need-loop-holds Inv-loop μ-loop
 unfolding course
 loop-holds c = (omega arith, refl, record { holds = c .expecting .ensures; stands = refl; says = refl })
 
-join-next-requires : tie.Need-join-next-requires Inv-loop μ-loop
-join-next-requires c κs = search needs
-
 loop-again : tie.Need-loop-again Inv-loop μ-loop
 loop-again c =
     let j = c .before .before .before .before in
@@ -44,7 +41,7 @@ join-all-spec =
     μ-loop
     (λ c κs. search needs)
     loop-holds
-    join-next-requires
+    (λ c κs. search needs)
     (λ c κs. search needs)
     (λ c. search needs)
     (λ c. search needs)

@@ -2,11 +2,8 @@ use borrow.Author.Needs.{needs}
 use Rattle.hub.proofs.Connection.blank.Statement.{statement}
 use Rattle.hub.proofs.Connection.blank.Tie as tie
 
-expecting-requires : tie.Need-expecting-requires
-expecting-requires c κs = search needs
-
 returns : tie.Need-returns
 returns c = rw (c .expecting .ensures)
 
 pub blank-spec : {M : Type 1} → statement M
-blank-spec = tie.close (tie.spec expecting-requires returns)
+blank-spec = tie.close (tie.spec (λ c κs. search needs) returns)

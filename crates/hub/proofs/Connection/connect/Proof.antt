@@ -6,27 +6,12 @@ use Rattle.hub.specs.Hear.{connect}
 use Rattle.hub.proofs.Connection.connect.Statement.{statement}
 use Rattle.hub.proofs.Connection.connect.Tie as tie
 
-connect-type-requires : tie.Need-connect-type-requires
-connect-type-requires c κs = search needs
-
-read-request-requires : tie.Need-read-request-requires
-read-request-requires c κs = search needs
-
-request-requires : tie.Need-request-requires
-request-requires c κs = search needs
-
 returns : tie.Need-returns
 unfolding connect host
 returns c =
     let k = c .before .before in
     let e = sym (k .before .connect-type .ensures) ∙ k .if1 .taken in
     rw (c .request .ensures, c .before .read-request .ensures, e)
-
-certificate-digest-requires : tie.Need-certificate-digest-requires
-certificate-digest-requires c κs = search needs
-
-authenticate-requires : tie.Need-authenticate-requires
-authenticate-requires c κs = search needs
 
 returns-2 : tie.Need-returns-2
 unfolding connect host
@@ -35,18 +20,12 @@ returns-2 c =
     let e = sym (k .before .before .connect-type .ensures) ∙ k .if2 .taken in
     rw (c .authenticate .ensures, c .before .certificate-digest .ensures, e)
 
-finish-requires : tie.Need-finish-requires
-finish-requires c κs = search needs
-
 returns-3 : tie.Need-returns-3
 unfolding connect host
 returns-3 c =
     let k = c .before in
     let e = sym (k .before .before .before .connect-type .ensures) ∙ k .if3 .taken in
     rw (c .finish .ensures, e)
-
-refuse-requires : tie.Need-refuse-requires
-refuse-requires c κs = search needs
 
 returns-4 : tie.Need-returns-4
 unfolding connect host
@@ -59,14 +38,14 @@ pub connect-spec : {M : Type 1} → statement M
 connect-spec =
     tie.close
     (tie.spec
-    connect-type-requires
-    read-request-requires
-    request-requires
+    (λ c κs. search needs)
+    (λ c κs. search needs)
+    (λ c κs. search needs)
     returns
-    certificate-digest-requires
-    authenticate-requires
+    (λ c κs. search needs)
+    (λ c κs. search needs)
     returns-2
-    finish-requires
+    (λ c κs. search needs)
     returns-3
-    refuse-requires
+    (λ c κs. search needs)
     returns-4)

@@ -11,32 +11,17 @@ use Rattle.hub.proofs.Connection.hear.Tie as tie
 own : (c : tie.Else1) → let s = c .before .before .before .before .args in isForeign (s .self) (s .header) ≡ false
 own c = sym (c .before .is-foreign .ensures) ∙ c .if1 .left
 
-is-foreign-requires : tie.Need-is-foreign-requires
-is-foreign-requires c κs = search needs
-
-refuse-requires : tie.Need-refuse-requires
-refuse-requires c κs = search needs
-
 returns : tie.Need-returns
 returns c =
     let i = c .before in
     let s = i .before .before .before .before .args in
     way-foreign (s .self) (s .header) (s .payload .now) (s .report .now) (s .verdict) (sym (i .before .is-foreign .ensures) ∙ i .if1 .taken) _ (c .refuse .ensures)
 
-connect-requires : tie.Need-connect-requires
-connect-requires c κs = search needs
-
 returns-2 : tie.Need-returns-2
 returns-2 c =
     let i = c .before .before .before in
     let s = i .before .before .before .before .args in
     way-connect (s .self) (s .header) (s .payload .now) (s .report .now) (s .verdict) (own i) (c .before .if2 .taken) _ (c .connect .ensures)
-
-session-requires : tie.Need-session-requires
-session-requires c κs = search needs
-
-same-length : tie.Need-same-length
-same-length c = search needs
 
 returns-3 : tie.Need-returns-3
 returns-3 c =
@@ -46,9 +31,6 @@ returns-3 c =
     let s = i .before .before .before .before .args in
     let e = c .before .before .session .ensures in
     way-session (s .self) (s .header) (s .payload .now) (s .report .now) (s .verdict) (own i) (ne-eqb _ _ (k .if2 .left)) (j .if3 .taken) _ (e .0) _ (e .1)
-
-refuse-requires-2 : tie.Need-refuse-requires-2
-refuse-requires-2 c κs = search needs
 
 returns-4 : tie.Need-returns-4
 returns-4 c =
@@ -62,13 +44,13 @@ pub hear-spec : {M : Type 1} → statement M
 hear-spec =
     tie.close
     (tie.spec
-    is-foreign-requires
-    refuse-requires
+    (λ c κs. search needs)
+    (λ c κs. search needs)
     returns
-    connect-requires
+    (λ c κs. search needs)
     returns-2
-    session-requires
-    same-length
+    (λ c κs. search needs)
+    (λ c. search needs)
     returns-3
-    refuse-requires-2
+    (λ c κs. search needs)
     returns-4)

@@ -3,18 +3,9 @@ use Rattle.hub.specs.Opening.{opened}
 use Rattle.hub.proofs.Connection.open.Statement.{statement}
 use Rattle.hub.proofs.Connection.open.Tie as tie
 
-bad-size-requires : tie.Need-bad-size-requires
-bad-size-requires c κs = search needs
-
-blank-requires : tie.Need-blank-requires
-blank-requires c κs = search needs
-
 returns : tie.Need-returns
 unfolding opened
 returns c = rw (← (c .before .before .bad-size .ensures), c .before .if1 .taken, c .blank .ensures)
-
-blank-requires-2 : tie.Need-blank-requires-2
-blank-requires-2 c κs = search needs
 
 returns-2 : tie.Need-returns-2
 unfolding opened
@@ -22,4 +13,4 @@ returns-2 c = rw (← (c .before .before .bad-size .ensures), c .before .if1 .le
 
 pub open-spec : {M : Type 1} → statement M
 open-spec =
-    tie.close (tie.spec bad-size-requires blank-requires returns blank-requires-2 returns-2)
+    tie.close (tie.spec (λ c κs. search needs) (λ c κs. search needs) returns (λ c κs. search needs) returns-2)

@@ -1,25 +1,16 @@
-use borrow.Author.Tests.{eq-eqb, ne-eqb, le-leb, lt-leb}
+use borrow.Author.Tests.{eq-eqb, ne-eqb}
 use borrow.Author.Needs.{needs}
 use Rattle.hub.specs.Host.{host}
 use Rattle.hub.proofs.Connection.request.Statement.{statement}
 use Rattle.hub.proofs.Connection.request.Tie as tie
 
-requested-requires : tie.Need-requested-requires
-requested-requires c κs = search needs
-
 returns : tie.Need-returns
 unfolding host
 returns c = rw (eq-eqb _ _ (c .before .if1 .taken), c .requested .ensures)
 
-knows-requires : tie.Need-knows-requires
-knows-requires c κs = search needs
-
 returns-2 : tie.Need-returns-2
 unfolding host
 returns-2 c = rw (ne-eqb _ _ (c .before .before .if1 .left), ← (c .before .knows .ensures), c .if2 .taken)
-
-refuse-requires : tie.Need-refuse-requires
-refuse-requires c κs = search needs
 
 returns-3 : tie.Need-returns-3
 unfolding host
@@ -30,4 +21,4 @@ returns-3 c =
 pub request-spec : {M : Type 1} → statement M
 request-spec =
     tie.close
-    (tie.spec requested-requires returns knows-requires returns-2 refuse-requires returns-3)
+    (tie.spec (λ c κs. search needs) returns (λ c κs. search needs) returns-2 (λ c κs. search needs) returns-3)

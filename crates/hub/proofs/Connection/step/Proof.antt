@@ -5,19 +5,10 @@ use Rattle.hub.proofs.Stepping.{way-verdict, way-size, way-refused, way
 use Rattle.hub.proofs.Connection.step.Statement.{statement}
 use Rattle.hub.proofs.Connection.step.Tie as tie
 
-refuse-requires : tie.Need-refuse-requires
-refuse-requires c κs = search needs
-
 returns : tie.Need-returns
 returns c =
     let s = c .before .before .before .before .before .before .args in
     way-verdict (s .self) (s .message .now) (s .keys .now) (s .working .now) (s .report .now) (s .verdict) (lt-ltb _ _ (c .before .if1 .taken)) _ (c .refuse .ensures)
-
-bad-size-requires : tie.Need-bad-size-requires
-bad-size-requires c κs = search needs
-
-refuse-requires-2 : tie.Need-refuse-requires-2
-refuse-requires-2 c κs = search needs
 
 returns-2 : tie.Need-returns-2
 returns-2 c =
@@ -25,27 +16,6 @@ returns-2 c =
     let t = z .before .before in
     let s = t .before .before .before .before .before .args in
     way-size (s .self) (s .message .now) (s .keys .now) (s .working .now) (s .report .now) (s .verdict) (le-ltb _ _ (t .if1 .left)) (sym (z .before .bad-size .ensures) ∙ z .if2 .taken) _ (c .refuse2 .ensures)
-
-read-requires : tie.Need-read-requires
-read-requires c κs = search needs
-
-enum-known-n : tie.Need-enum-known-n
-enum-known-n c = search needs
-
-refuse-requires-3 : tie.Need-refuse-requires-3
-refuse-requires-3 c κs = search needs
-
-enum-known-header : tie.Need-enum-known-header
-enum-known-header c = search needs
-
-payload-requires : tie.Need-payload-requires
-payload-requires c κs = search needs
-
-hear-requires : tie.Need-hear-requires
-hear-requires c κs = search needs
-
-same-length : tie.Need-same-length
-same-length c = search needs
 
 returns-3 : tie.Need-returns-3
 returns-3 c =
@@ -55,12 +25,6 @@ returns-3 c =
     let t = z .before .before in
     let s = t .before .before .before .before .before .args in
     way-refused (s .self) (s .message .now) (s .keys .now) (s .working .now) (s .report .now) (s .verdict) (le-ltb _ _ (t .if1 .left)) (sym (z .before .bad-size .ensures) ∙ z .if2 .left) _ (r .read .ensures .1) _ (sym (r .read .ensures .0) ∙ n .n .given .1) _ (c .refuse3 .ensures)
-
-same-length-2 : tie.Need-same-length-2
-same-length-2 c = search needs
-
-same-length-3 : tie.Need-same-length-3
-same-length-3 c = search needs
 
 returns-4 : tie.Need-returns-4
 returns-4 c =
@@ -78,19 +42,19 @@ pub step-spec : {M : Type 1} → statement M
 step-spec =
     tie.close
     (tie.spec
-    refuse-requires
+    (λ c κs. search needs)
     returns
-    bad-size-requires
-    refuse-requires-2
+    (λ c κs. search needs)
+    (λ c κs. search needs)
     returns-2
-    read-requires
-    enum-known-n
-    refuse-requires-3
-    enum-known-header
-    payload-requires
-    hear-requires
-    same-length
+    (λ c κs. search needs)
+    (λ c. search needs)
+    (λ c κs. search needs)
+    (λ c. search needs)
+    (λ c κs. search needs)
+    (λ c κs. search needs)
+    (λ c. search needs)
     returns-3
-    same-length-2
-    same-length-3
+    (λ c. search needs)
+    (λ c. search needs)
     returns-4)

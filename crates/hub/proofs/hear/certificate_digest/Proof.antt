@@ -12,23 +12,11 @@ use Rattle.hub.proofs.hear.certificate_digest.Tie as tie
 inside : (c : tie.After-struct-known) → let r = c .before .certificate-of .result in r .from + r .size ≤ length (c .before .before .before .args .payload .now)
 inside c = rw (c .before .certificate-of .ensures) (certificate-inside (c .before .before .before .args .payload .now))
 
-certificate-of-requires : tie.Need-certificate-of-requires
-certificate-of-requires c κs = search needs
-
 add-end : tie.Need-add-end
 add-end c = omega (arith, inside c)
 
-sub-digest : tie.Need-sub-digest
-sub-digest c = search needs
-
-part-digest-start : tie.Need-part-digest-start
-part-digest-start c = search needs
-
 part-digest-end : tie.Need-part-digest-end
 part-digest-end c = omega (arith, inside c)
-
-digest-requires : tie.Need-digest-requires
-digest-requires c κs = search needs
 
 returns : tie.Need-returns
 returns c = c .digest .ensures ∙ rw (add-sub-cancel-left, c .before .before .before .certificate-of .ensures)
@@ -37,10 +25,10 @@ pub certificate-digest-spec : {M : Type 1} → statement M
 certificate-digest-spec =
     tie.close
     (tie.spec
-    certificate-of-requires
+    (λ c κs. search needs)
     add-end
-    sub-digest
-    part-digest-start
+    (λ c. search needs)
+    (λ c. search needs)
     part-digest-end
-    digest-requires
+    (λ c κs. search needs)
     returns)

@@ -26,9 +26,6 @@ refusal-requires : tie.Need-refusal-requires
 unfolding mostPieces
 refusal-requires c κs = (refl, search needs)
 
-same-length : tie.Need-same-length
-same-length c = search needs
-
 returns : tie.Need-returns
 returns c =
     let s = c .before .before .before .before .before .before .before .args in
@@ -37,15 +34,9 @@ returns c =
 mark-requires : tie.Need-mark-requires
 mark-requires c κs = let k = known c .0 in omega (arith, k .under, k .few)
 
-cast-all : tie.Need-cast-all
-cast-all c = search needs
-
 array-read-if2 : tie.Need-array-read-if2
 unfolding mostPieces
 array-read-if2 c = let k = known (c .before .before .before) in let u = k .0 .under in let f = k .0 .few in search needs
-
-same-length-2 : tie.Need-same-length-2
-same-length-2 c = search needs
 
 returns-2 : tie.Need-returns-2
 returns-2 c =
@@ -67,9 +58,6 @@ advance-requires c κs =
     let e = m .mark .ensures in
     (e .0, e .1 ∙ ap tally (sym (e .0)), known (m .before) .0)
 
-same-length-3 : tie.Need-same-length-3
-same-length-3 c = search needs
-
 returns-3 : tie.Need-returns-3
 returns-3 c =
     let t = c .before .before .before .before .before in
@@ -83,15 +71,15 @@ join-spec =
     tie.close
     (tie.spec
     refusal-requires
-    same-length
+    (λ c. search needs)
     returns
     mark-requires
-    cast-all
+    (λ c. search needs)
     array-read-if2
-    same-length-2
+    (λ c. search needs)
     returns-2
     mul-store
     store-requires
     advance-requires
-    same-length-3
+    (λ c. search needs)
     returns-3)

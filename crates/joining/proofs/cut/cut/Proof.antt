@@ -1,15 +1,10 @@
 -- The count stands beside no refusal.
 use mathlib.Core.Path.{sym, _∙_}
-use native.Mathlib.Omega.{arith}
 use borrow.Author.Tests.{eq-eqb, ne-eqb}
 use borrow.Author.Needs.{needs}
-use Rattle.laws.proofs.Tests.{tests}
 use Rattle.joining.proofs.Cuts.{cuttable}
 use Rattle.joining.proofs.cut.cut.Statement.{statement}
 use Rattle.joining.proofs.cut.cut.Tie as tie
-
-cut-refusal-requires : tie.Need-cut-refusal-requires
-cut-refusal-requires c κs = search needs
 
 returns : tie.Need-returns
 returns c = (c .before .cut-refusal .ensures, rw (← (c .before .cut-refusal .ensures), ne-eqb _ _ (c .if1 .taken)))
@@ -23,4 +18,4 @@ returns-2 c =
     (r, rw (← r, eq-eqb _ _ (c .before .if1 .left)) (c .piece-count .ensures))
 
 pub cut-spec : {M : Type 1} → statement M
-cut-spec = tie.close (tie.spec cut-refusal-requires returns piece-count-requires returns-2)
+cut-spec = tie.close (tie.spec (λ c κs. search needs) returns piece-count-requires returns-2)

@@ -7,7 +7,6 @@ use lib.ListN.{drop, length-drop}
 use lib.ListN.{length}
 use borrow.Author.Tests.{eq-eqb, ne-eqb}
 use borrow.Author.Needs.{needs}
-use Rattle.laws.proofs.Tests.{tests}
 use Rattle.joining.proofs.Places.{take-least}
 use Rattle.joining.proofs.Cuts.{Cuttable, cuttable}
 use Rattle.joining.proofs.cut.cut_piece.Statement.{statement}
@@ -15,18 +14,6 @@ use Rattle.joining.proofs.cut.cut_piece.Tie as tie
 
 known : (c : tie.Else1) → let s = c .before .before .before .args in Cuttable (s .size) (length (s .report .now)) (s .i)
 known c = cuttable _ _ _ (sym (c .before .cut-refusal .ensures) ∙ c .if1 .left)
-
-cut-refusal-requires : tie.Need-cut-refusal-requires
-cut-refusal-requires c κs = search needs
-
-sub-result : tie.Need-sub-result
-sub-result c = search needs
-
-part-result-start : tie.Need-part-result-start
-part-result-start c = search needs
-
-part-result-end : tie.Need-part-result-end
-part-result-end c = search needs
 
 returns : tie.Need-returns
 returns c = rw (← (c .before .before .cut-refusal .ensures), ne-eqb _ _ (c .before .if1 .taken))
@@ -37,17 +24,8 @@ mul-start c = omega (arith, known c .within)
 sub-lesser : tie.Need-sub-lesser
 sub-lesser c = omega (arith, known c .within)
 
-lesser-requires : tie.Need-lesser-requires
-lesser-requires c κs = search needs
-
 add-end : tie.Need-add-end
 add-end c = omega (arith, known (c .before) .within)
-
-sub-result-2 : tie.Need-sub-result-2
-sub-result-2 c = search needs
-
-part-result-start-2 : tie.Need-part-result-start-2
-part-result-start-2 c = search needs
 
 part-result-end-2 : tie.Need-part-result-end-2
 part-result-end-2 c = omega (arith, known (c .before) .within)
@@ -63,16 +41,16 @@ pub cut-piece-spec : {M : Type 1} → statement M
 cut-piece-spec =
     tie.close
     (tie.spec
-    cut-refusal-requires
-    sub-result
-    part-result-start
-    part-result-end
+    (λ c κs. search needs)
+    (λ c. search needs)
+    (λ c. search needs)
+    (λ c. search needs)
     returns
     mul-start
     sub-lesser
-    lesser-requires
+    (λ c κs. search needs)
     add-end
-    sub-result-2
-    part-result-start-2
+    (λ c. search needs)
+    (λ c. search needs)
     part-result-end-2
     returns-2)

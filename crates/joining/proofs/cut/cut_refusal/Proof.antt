@@ -1,5 +1,5 @@
 -- The two rows in their order.
-use mathlib.Core.Path.{_≡_, sym, _∙_}
+use mathlib.Core.Path.{sym, _∙_}
 use native.Mathlib.Omega.{arith}
 use borrow.Author.Needs.{needs}
 use Rattle.joining.specs.Cut.{cutRefusal}
@@ -7,9 +7,6 @@ use Rattle.wire.specs.Fields.{mostPieces}
 use Rattle.joining.proofs.Cuts.{good-size}
 use Rattle.joining.proofs.cut.cut_refusal.Statement.{statement}
 use Rattle.joining.proofs.cut.cut_refusal.Tie as tie
-
-bad-size-requires : tie.Need-bad-size-requires
-bad-size-requires c κs = search needs
 
 returns : tie.Need-returns
 unfolding cutRefusal
@@ -35,4 +32,4 @@ returns-3 c =
 
 pub cut-refusal-spec : {M : Type 1} → statement M
 cut-refusal-spec =
-    tie.close (tie.spec bad-size-requires returns mul-if2 piece-count-requires returns-2 returns-3)
+    tie.close (tie.spec (λ c κs. search needs) returns mul-if2 piece-count-requires returns-2 returns-3)

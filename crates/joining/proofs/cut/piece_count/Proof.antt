@@ -10,12 +10,6 @@ use Rattle.joining.proofs.cut.piece_count.Tie as tie
 returns : tie.Need-returns
 returns c = search tests
 
-sub-result : tie.Need-sub-result
-sub-result c = search needs
-
-div-result : tie.Need-div-result
-div-result c = search needs
-
 add-result : tie.Need-add-result
 add-result c = omega (arith, div-le-self (c .before .args .bytes - 1) (c .before .args .size))
 
@@ -23,4 +17,4 @@ returns-2 : tie.Need-returns-2
 returns-2 c = search tests
 
 pub piece-count-spec : {M : Type 1} → statement M
-piece-count-spec = tie.close (tie.spec returns sub-result div-result add-result returns-2)
+piece-count-spec = tie.close (tie.spec returns (λ c. search needs) (λ c. search needs) add-result returns-2)

@@ -18,15 +18,9 @@ Inv-loop heard count n₀ i₀ n i = (n ≡ come i heard) × (n ≤ i) × (i ≤
 abbrev μ-loop : tie.MeasureT-loop
 μ-loop heard count n₀ i₀ n i = count - i
 
-loop-holds : tie.Need-loop-holds Inv-loop μ-loop
-loop-holds c = search needs
-
 element-copy-out-n : tie.Need-element-copy-out-n Inv-loop μ-loop
 unfolding mostPieces
 element-copy-out-n c = search needs
-
-cast-n : tie.Need-cast-n Inv-loop μ-loop
-cast-n c = search needs
 
 add-n : tie.Need-add-n Inv-loop μ-loop
 unfolding mostPieces
@@ -47,9 +41,6 @@ loop-again c =
     let b = bit-byte (getD h i false) in
     (rw (add-one i) (omega (arith, come-suc h i)), omega arith, omega arith)
 
-cast-result : tie.Need-cast-result Inv-loop μ-loop
-cast-result c = search needs
-
 returns : tie.Need-returns Inv-loop μ-loop
 returns c =
     let s = c .before in
@@ -59,4 +50,4 @@ returns c =
 pub count-heard-spec : {M : Type 1} → statement M
 count-heard-spec =
     tie.close
-    (tie.spec Inv-loop μ-loop loop-holds element-copy-out-n cast-n add-n add-i loop-less loop-again cast-result returns)
+    (tie.spec Inv-loop μ-loop (λ c. search needs) element-copy-out-n (λ c. search needs) add-n add-i loop-less loop-again (λ c. search needs) returns)

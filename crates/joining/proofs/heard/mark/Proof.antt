@@ -40,15 +40,9 @@ array-read-is-heard : tie.Need-array-read-is-heard Inv-loop μ-loop
 unfolding mostPieces
 array-read-is-heard c = search needs
 
-cast-is-heard : tie.Need-cast-is-heard Inv-loop μ-loop
-cast-is-heard c = search needs
-
 array-write-next : tie.Need-array-write-next Inv-loop μ-loop
 unfolding mostPieces
 array-write-next c = search needs
-
-cast-all : tie.Need-cast-all Inv-loop μ-loop
-cast-all c = search needs
 
 add-all : tie.Need-add-all Inv-loop μ-loop
 unfolding mostPieces
@@ -107,9 +101,9 @@ mark-spec =
     cast-turn
     loop-holds
     array-read-is-heard
-    cast-is-heard
+    (λ c. search needs)
     array-write-next
-    cast-all
+    (λ c. search needs)
     add-all
     add-turn
     add-i

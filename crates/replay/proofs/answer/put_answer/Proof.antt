@@ -6,7 +6,7 @@ use borrow.Author.Tests.{ltb-true}
 use Rattle.lines.specs.Text.{named}
 use Rattle.lines.specs.Listing.{refusedName}
 use Rattle.lines.proofs.Puts.{no-room}
-use Rattle.replay.specs.Lines.{replyName, againName, failureLine, takenName, repeatName, completeName, shown, answerLine}
+use Rattle.replay.specs.Lines.{replyName, againName, failureLine, takenName, repeatName, completeName, answerLine}
 use Rattle.replay.proofs.Told.{told}
 use borrow.Author.Needs.{needs}
 use Rattle.replay.proofs.answer.put_answer.Statement.{statement}

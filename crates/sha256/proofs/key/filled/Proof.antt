@@ -1,18 +1,11 @@
 -- The key copied over zeros. Assumes nothing.
 use borrow.Author.Needs.{needs}
-use Rattle.sha256.specs.Macs.{filled}
 use Rattle.sha256.proofs.Keys.{filled-by}
 use Rattle.sha256.proofs.key.filled.Statement.{statement}
 use Rattle.sha256.proofs.key.filled.Tie as tie
-
-slice-aggregate-copy : tie.Need-slice-aggregate-copy
-slice-aggregate-copy c = search needs
-
-copy-requires : tie.Need-copy-requires
-copy-requires c κs = search needs
 
 returns : tie.Need-returns
 returns c = filled-by (c .before .before .before .before .args .key .now) (c .before .copy .last .1 .0) (c .before .copy .ensures .1)
 
 pub filled-spec : {M : Type 1} → statement M
-filled-spec = tie.close (tie.spec slice-aggregate-copy copy-requires returns)
+filled-spec = tie.close (tie.spec (λ c. search needs) (λ c κs. search needs) returns)

@@ -20,18 +20,6 @@ loop-holds : tie.Need-loop-holds Inv-loop μ-loop
 unfolding masked
 loop-holds c = search needs
 
-element-copy-out-block : tie.Need-element-copy-out-block Inv-loop μ-loop
-element-copy-out-block c = search needs
-
-array-write-block : tie.Need-array-write-block Inv-loop μ-loop
-array-write-block c = search needs
-
-add-i : tie.Need-add-i Inv-loop μ-loop
-add-i c = search needs
-
-loop-less : tie.Need-loop-less Inv-loop μ-loop
-loop-less c = search needs
-
 loop-again : tie.Need-loop-again Inv-loop μ-loop
 loop-again c = (search needs, search needs, masked-more _ (c .before .before .loop .i) (c .before .before .before .args .key .now) (c .before .before .loop .block) (omega arith) (omega arith) (c .before .before .loop .inv .2))
 
@@ -47,9 +35,9 @@ masked-spec =
     Inv-loop
     μ-loop
     loop-holds
-    element-copy-out-block
-    array-write-block
-    add-i
-    loop-less
+    (λ c. search needs)
+    (λ c. search needs)
+    (λ c. search needs)
+    (λ c. search needs)
     loop-again
     returns)

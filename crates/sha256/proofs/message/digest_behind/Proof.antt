@@ -10,15 +10,6 @@ use Rattle.sha256.proofs.Digesting.{digest-behind, digest-none}
 use Rattle.sha256.proofs.message.digest_behind.Statement.{statement}
 use Rattle.sha256.proofs.message.digest_behind.Tie as tie
 
-fits-requires : tie.Need-fits-requires
-fits-requires c κs = search needs
-
-initial-requires : tie.Need-initial-requires
-initial-requires c κs = search needs
-
-compress-requires : tie.Need-compress-requires
-compress-requires c κs = search needs
-
 finish-requires : tie.Need-finish-requires
 finish-requires c κs = ltb-true _ _ (sym (c .before .before .before .fits2 .ensures) ∙ c .before .before .if1 .taken)
 
@@ -44,9 +35,9 @@ pub digest-behind-spec : {M : Type 1} → statement M
 digest-behind-spec =
     tie.close
     (tie.spec
-    fits-requires
-    initial-requires
-    compress-requires
+    (λ c κs. search needs)
+    (λ c κs. search needs)
+    (λ c κs. search needs)
     finish-requires
     returns
     returns-2)

@@ -13,12 +13,6 @@ use Rattle.sha256.proofs.Digesting.{digest-by, digest-none}
 use Rattle.sha256.proofs.message.digest_from.Statement.{statement}
 use Rattle.sha256.proofs.message.digest_from.Tie as tie
 
-fits-requires : tie.Need-fits-requires
-fits-requires c κs = search needs
-
-initial-requires : tie.Need-initial-requires
-initial-requires c κs = search needs
-
 finish-requires : tie.Need-finish-requires
 finish-requires c κs = ltb-true _ _ (sym (c .before .before .fits2 .ensures) ∙ c .before .if1 .taken)
 
@@ -42,4 +36,4 @@ returns-2 c =
 pub digest-from-spec : {M : Type 1} → statement M
 digest-from-spec =
     tie.close
-    (tie.spec fits-requires initial-requires finish-requires returns returns-2)
+    (tie.spec (λ c κs. search needs) (λ c κs. search needs) finish-requires returns returns-2)

@@ -9,39 +9,6 @@ use Rattle.sha256.proofs.Digesting.{finish-by}
 use Rattle.sha256.proofs.message.finish.Statement.{statement}
 use Rattle.sha256.proofs.message.finish.Tie as tie
 
-add-total : tie.Need-add-total
-add-total c = search needs
-
-add-total-2 : tie.Need-add-total-2
-add-total-2 c = search needs
-
-add-total-3 : tie.Need-add-total-3
-add-total-3 c = search needs
-
-padding-of-requires : tie.Need-padding-of-requires
-padding-of-requires c κs = search needs
-
-zeros-of-requires : tie.Need-zeros-of-requires
-zeros-of-requires c κs = search needs
-
-add-count : tie.Need-add-count
-add-count c = search needs
-
-sub-hash : tie.Need-sub-hash
-sub-hash c = search needs
-
-part-hash-start : tie.Need-part-hash-start
-part-hash-start c = search needs
-
-part-hash-end : tie.Need-part-hash-end
-part-hash-end c = search needs
-
-hash-requires : tie.Need-hash-requires
-hash-requires c κs = search needs
-
-bytes-of-requires : tie.Need-bytes-of-requires
-bytes-of-requires c κs = search needs
-
 returns : tie.Need-returns
 returns c =
     let a = c .before .before .before .before .before .before .before .before .before .args in
@@ -56,15 +23,15 @@ pub finish-spec : {M : Type 1} → statement M
 finish-spec =
     tie.close
     (tie.spec
-    add-total
-    add-total-2
-    add-total-3
-    padding-of-requires
-    zeros-of-requires
-    add-count
-    sub-hash
-    part-hash-start
-    part-hash-end
-    hash-requires
-    bytes-of-requires
+    (λ c. search needs)
+    (λ c. search needs)
+    (λ c. search needs)
+    (λ c κs. search needs)
+    (λ c κs. search needs)
+    (λ c. search needs)
+    (λ c. search needs)
+    (λ c. search needs)
+    (λ c. search needs)
+    (λ c κs. search needs)
+    (λ c κs. search needs)
     returns)

@@ -23,18 +23,6 @@ returns-3 c =
     let a = c .before .before .before .args in
     sym (le-ltb (a .done + (length (a .first .now) + (length (a .second .now) + length (a .third .now)))) (2 ^ 61) (omega arith))
 
-add-result : tie.Need-add-result
-add-result c = search needs
-
-add-result-2 : tie.Need-add-result-2
-add-result-2 c = search needs
-
-add-result-3 : tie.Need-add-result-3
-add-result-3 c = search needs
-
-returns-4 : tie.Need-returns-4
-returns-4 c = search needs
-
 pub fits-spec : {M : Type 1} → statement M
 fits-spec =
-    tie.close (tie.spec returns returns-2 returns-3 add-result add-result-2 add-result-3 returns-4)
+    tie.close (tie.spec returns returns-2 returns-3 (λ c. search needs) (λ c. search needs) (λ c. search needs) (λ c. search needs))

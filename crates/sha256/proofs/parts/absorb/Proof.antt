@@ -7,31 +7,10 @@ use Rattle.sha256.proofs.Hashing.{in-third, put-together}
 use Rattle.sha256.proofs.parts.absorb.Statement.{statement}
 use Rattle.sha256.proofs.parts.absorb.Tie as tie
 
-add-ahead : tie.Need-add-ahead
-add-ahead c = search needs
-
-add-if2 : tie.Need-add-if2
-add-if2 c = search needs
-
-add-if2-2 : tie.Need-add-if2-2
-add-if2-2 c = search needs
-
-compress-requires : tie.Need-compress-requires
-compress-requires c κs = search needs
-
 returns : tie.Need-returns
 returns c =
     let a = c .before .before .before .before .before .before .before .args in
     c .compress .ensures ∙ in-third (a .v) (a .first .now) (a .second .now) (a .third .now) (a .tail .now) (a .at) (omega arith) (omega arith)
-
-assembled-requires : tie.Need-assembled-requires
-assembled-requires c κs = search needs
-
-slice-aggregate-compress : tie.Need-slice-aggregate-compress
-slice-aggregate-compress c = search needs
-
-compress-requires-2 : tie.Need-compress-requires-2
-compress-requires-2 c κs = search needs
 
 returns-2 : tie.Need-returns-2
 returns-2 c =
@@ -42,12 +21,12 @@ pub absorb-spec : {M : Type 1} → statement M
 absorb-spec =
     tie.close
     (tie.spec
-    add-ahead
-    add-if2
-    add-if2-2
-    compress-requires
+    (λ c. search needs)
+    (λ c. search needs)
+    (λ c. search needs)
+    (λ c κs. search needs)
     returns
-    assembled-requires
-    slice-aggregate-compress
-    compress-requires-2
+    (λ c κs. search needs)
+    (λ c. search needs)
+    (λ c κs. search needs)
     returns-2)

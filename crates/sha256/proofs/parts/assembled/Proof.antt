@@ -7,39 +7,6 @@ use Rattle.sha256.proofs.Laying.{laid-append, laid-message}
 use Rattle.sha256.proofs.parts.assembled.Statement.{statement}
 use Rattle.sha256.proofs.parts.assembled.Tie as tie
 
-slice-aggregate-gather : tie.Need-slice-aggregate-gather
-slice-aggregate-gather c = search needs
-
-gather-requires : tie.Need-gather-requires
-gather-requires c κs = search needs
-
-slice-aggregate-gather-2 : tie.Need-slice-aggregate-gather-2
-slice-aggregate-gather-2 c = search needs
-
-gather-requires-2 : tie.Need-gather-requires-2
-gather-requires-2 c κs = search needs
-
-slice-aggregate-gather-3 : tie.Need-slice-aggregate-gather-3
-slice-aggregate-gather-3 c = search needs
-
-add-gather : tie.Need-add-gather
-add-gather c = search needs
-
-gather-requires-3 : tie.Need-gather-requires-3
-gather-requires-3 c κs = search needs
-
-slice-aggregate-gather-4 : tie.Need-slice-aggregate-gather-4
-slice-aggregate-gather-4 c = search needs
-
-add-gather-2 : tie.Need-add-gather-2
-add-gather-2 c = search needs
-
-add-gather-3 : tie.Need-add-gather-3
-add-gather-3 c = search needs
-
-gather-requires-4 : tie.Need-gather-requires-4
-gather-requires-4 c κs = search needs
-
 returns : tie.Need-returns
 returns c =
     let c3 = c .before .before .before .before in
@@ -61,15 +28,15 @@ pub assembled-spec : {M : Type 1} → statement M
 assembled-spec =
     tie.close
     (tie.spec
-    slice-aggregate-gather
-    gather-requires
-    slice-aggregate-gather-2
-    gather-requires-2
-    slice-aggregate-gather-3
-    add-gather
-    gather-requires-3
-    slice-aggregate-gather-4
-    add-gather-2
-    add-gather-3
-    gather-requires-4
+    (λ c. search needs)
+    (λ c κs. search needs)
+    (λ c. search needs)
+    (λ c κs. search needs)
+    (λ c. search needs)
+    (λ c. search needs)
+    (λ c κs. search needs)
+    (λ c. search needs)
+    (λ c. search needs)
+    (λ c. search needs)
+    (λ c κs. search needs)
     returns)

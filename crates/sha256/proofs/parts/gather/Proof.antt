@@ -6,34 +6,16 @@ use Rattle.sha256.proofs.Laying.{laid-whole, laid-outside}
 use Rattle.sha256.proofs.parts.gather.Statement.{statement}
 use Rattle.sha256.proofs.parts.gather.Tie as tie
 
-add-end : tie.Need-add-end
-add-end c = search needs
-
 returns : tie.Need-returns
 returns c = (search needs, λ j h. laid-outside _ _ _ _ j h (inl (c .if1 .taken)))
 
-add-if2 : tie.Need-add-if2
-add-if2 c = search needs
-
 returns-2 : tie.Need-returns-2
 returns-2 c = (search needs, λ j h. laid-outside _ _ _ _ j h (inr (c .if2 .taken)))
-
-larger-requires : tie.Need-larger-requires
-larger-requires c κs = search needs
-
-add-smaller : tie.Need-add-smaller
-add-smaller c = search needs
-
-smaller-requires : tie.Need-smaller-requires
-smaller-requires c κs = search needs
 
 lay-requires : tie.Need-lay-requires
 lay-requires c κs =
     let p = c .smaller .ensures .2 in
     (search needs, search needs, search needs, c .before .larger .ensures .2 _ (p _ (omega arith) (omega arith)) (p _ (omega arith) (omega arith)), search needs, search needs)
-
-same-length : tie.Need-same-length
-same-length c = search needs
 
 returns-3 : tie.Need-returns-3
 returns-3 c = (
@@ -45,13 +27,13 @@ pub gather-spec : {M : Type 1} → statement M
 gather-spec =
     tie.close
     (tie.spec
-    add-end
+    (λ c. search needs)
     returns
-    add-if2
+    (λ c. search needs)
     returns-2
-    larger-requires
-    add-smaller
-    smaller-requires
+    (λ c κs. search needs)
+    (λ c. search needs)
+    (λ c κs. search needs)
     lay-requires
-    same-length
+    (λ c. search needs)
     returns-3)

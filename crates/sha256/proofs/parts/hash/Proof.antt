@@ -16,30 +16,9 @@ Inv-loop first second third tail count x₀ n₀ x n = (n ≤ count) × (x ≡ b
 abbrev μ-loop : tie.MeasureT-loop
 μ-loop first second third tail count x₀ n₀ x n = count - n
 
-add-count : tie.Need-add-count Inv-loop μ-loop
-add-count c = search needs
-
-add-count-2 : tie.Need-add-count-2 Inv-loop μ-loop
-add-count-2 c = search needs
-
-add-count-3 : tie.Need-add-count-3 Inv-loop μ-loop
-add-count-3 c = search needs
-
 loop-holds : tie.Need-loop-holds Inv-loop μ-loop
 unfolding blocks
 loop-holds c = search needs
-
-mul-absorb : tie.Need-mul-absorb Inv-loop μ-loop
-mul-absorb c = search needs
-
-absorb-requires : tie.Need-absorb-requires Inv-loop μ-loop
-absorb-requires c κs = search needs
-
-add-n : tie.Need-add-n Inv-loop μ-loop
-add-n c = search needs
-
-loop-less : tie.Need-loop-less Inv-loop μ-loop
-loop-less c = search needs
 
 loop-again : tie.Need-loop-again Inv-loop μ-loop
 loop-again c = (search needs, blocks-more _ _ _ _ _ (c .before .before .loop .inv .1) (c .absorb .ensures))
@@ -58,13 +37,13 @@ hash-spec =
     (tie.spec
     Inv-loop
     μ-loop
-    add-count
-    add-count-2
-    add-count-3
+    (λ c. search needs)
+    (λ c. search needs)
+    (λ c. search needs)
     loop-holds
-    mul-absorb
-    absorb-requires
-    add-n
-    loop-less
+    (λ c. search needs)
+    (λ c κs. search needs)
+    (λ c. search needs)
+    (λ c. search needs)
     loop-again
     returns)

@@ -20,29 +20,8 @@ abbrev μ-loop : tie.MeasureT-loop
 loop-holds : tie.Need-loop-holds Inv-loop μ-loop
 loop-holds c = (search needs, search needs, search needs, laid-none _ _ _ _ _)
 
-sub-block : tie.Need-sub-block Inv-loop μ-loop
-sub-block c = search needs
-
-shared-slice-read-block : tie.Need-shared-slice-read-block Inv-loop μ-loop
-shared-slice-read-block c = search needs
-
-sub-block-2 : tie.Need-sub-block-2 Inv-loop μ-loop
-sub-block-2 c = search needs
-
-slice-write-block : tie.Need-slice-write-block Inv-loop μ-loop
-slice-write-block c = search needs
-
-add-i : tie.Need-add-i Inv-loop μ-loop
-add-i c = search needs
-
-loop-less : tie.Need-loop-less Inv-loop μ-loop
-loop-less c = search needs
-
 loop-again : tie.Need-loop-again Inv-loop μ-loop
 loop-again c = (search needs, search needs, search needs, laid-more _ _ _ _ (c .before .before .loop .block) (c .before .before .before .args .from) (c .before .before .loop .i) _ (omega arith) (omega arith) (omega arith) (c .before .before .loop .inv .3) refl)
-
-same-length : tie.Need-same-length Inv-loop μ-loop
-same-length c = search needs
 
 returns : tie.Need-returns Inv-loop μ-loop
 returns c = let e : c .before .loop .i ≡ c .before .before .args .to = omega arith in
@@ -55,12 +34,12 @@ lay-spec =
     Inv-loop
     μ-loop
     loop-holds
-    sub-block
-    shared-slice-read-block
-    sub-block-2
-    slice-write-block
-    add-i
-    loop-less
+    (λ c. search needs)
+    (λ c. search needs)
+    (λ c. search needs)
+    (λ c. search needs)
+    (λ c. search needs)
+    (λ c. search needs)
     loop-again
-    same-length
+    (λ c. search needs)
     returns)

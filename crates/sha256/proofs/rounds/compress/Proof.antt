@@ -4,17 +4,8 @@ use Rattle.sha256.proofs.Schedules.{compress-by}
 use Rattle.sha256.proofs.rounds.compress.Statement.{statement}
 use Rattle.sha256.proofs.rounds.compress.Tie as tie
 
-load-requires : tie.Need-load-requires
-load-requires c κs = search needs
-
-rounds-requires : tie.Need-rounds-requires
-rounds-requires c κs = search needs
-
-added-requires : tie.Need-added-requires
-added-requires c κs = search needs
-
 returns : tie.Need-returns
 returns c = compress-by _ _ _ _ (c .before .before .before .load .result) _ _ (c .before .before .before .load .ensures .1) (c .before .rounds .ensures .1) (c .before .rounds .ensures .0) (c .added .ensures)
 
 pub compress-spec : {M : Type 1} → statement M
-compress-spec = tie.close (tie.spec load-requires rounds-requires added-requires returns)
+compress-spec = tie.close (tie.spec (λ c κs. search needs) (λ c κs. search needs) (λ c κs. search needs) returns)

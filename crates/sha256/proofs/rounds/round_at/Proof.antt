@@ -4,15 +4,6 @@ use Rattle.sha256.specs.Compression.{roundAt}
 use Rattle.sha256.proofs.rounds.round_at.Statement.{statement}
 use Rattle.sha256.proofs.rounds.round_at.Tie as tie
 
-mul-turned : tie.Need-mul-turned
-mul-turned c = search needs
-
-element-copy-out-turned : tie.Need-element-copy-out-turned
-element-copy-out-turned c = search needs
-
-turned-requires : tie.Need-turned-requires
-turned-requires c κs = search needs
-
 returns : tie.Need-returns
 unfolding roundAt
 returns c = cc
@@ -21,7 +12,7 @@ pub round-at-spec : {M : Type 1} → statement M
 round-at-spec =
     tie.close
     (tie.spec
-    mul-turned
-    element-copy-out-turned
-    turned-requires
+    (λ c. search needs)
+    (λ c. search needs)
+    (λ c κs. search needs)
     returns)

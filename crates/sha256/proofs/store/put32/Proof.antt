@@ -7,18 +7,6 @@ use Rattle.laws.proofs.Stores.{stored-twice}
 use Rattle.sha256.proofs.store.put32.Statement.{statement}
 use Rattle.sha256.proofs.store.put32.Tie as tie
 
-put16-requires : tie.Need-put16-requires
-put16-requires c κs = search needs
-
-add-put16 : tie.Need-add-put16
-add-put16 c = search needs
-
-put16-requires-2 : tie.Need-put16-requires-2
-put16-requires-2 c κs = search needs
-
-same-length : tie.Need-same-length
-same-length c = search needs
-
 returns : tie.Need-returns
 returns c =
     let b = c .before .before .before .before .before .before in
@@ -26,4 +14,4 @@ returns c =
     stored-twice (bytes16 (a .x / 65536)) (bytes16 (a .x % 65536)) (a .out .now) (a .at) _ (b .put16 .ensures) (c .before .before .put162 .ensures) (omega arith)
 
 pub put32-spec : {M : Type 1} → statement M
-put32-spec = tie.close (tie.spec put16-requires add-put16 put16-requires-2 same-length returns)
+put32-spec = tie.close (tie.spec (λ c κs. search needs) (λ c. search needs) (λ c κs. search needs) (λ c. search needs) returns)

@@ -4,12 +4,9 @@ use Rattle.sha256.specs.Words.{plus}
 use Rattle.sha256.proofs.word.add.Statement.{statement}
 use Rattle.sha256.proofs.word.add.Tie as tie
 
-wrapping-add-u32-requires : tie.Need-wrapping-add-u32-requires
-wrapping-add-u32-requires c κs = search needs
-
 returns : tie.Need-returns
 unfolding plus
 returns c = cc
 
 pub add-spec : {M : Type 1} → statement M
-add-spec = tie.close (tie.spec wrapping-add-u32-requires returns)
+add-spec = tie.close (tie.spec (λ c κs. search needs) returns)

@@ -4,18 +4,9 @@ use Rattle.sha256.specs.Words.{Σ0}
 use Rattle.sha256.proofs.word.big_sigma0.Statement.{statement}
 use Rattle.sha256.proofs.word.big_sigma0.Tie as tie
 
-rotr-requires : tie.Need-rotr-requires
-rotr-requires c κs = search needs
-
-rotr-requires-2 : tie.Need-rotr-requires-2
-rotr-requires-2 c κs = search needs
-
-rotr-requires-3 : tie.Need-rotr-requires-3
-rotr-requires-3 c κs = search needs
-
 returns : tie.Need-returns
 unfolding Σ0
 returns c = cc
 
 pub big-sigma0-spec : {M : Type 1} → statement M
-big-sigma0-spec = tie.close (tie.spec rotr-requires rotr-requires-2 rotr-requires-3 returns)
+big-sigma0-spec = tie.close (tie.spec (λ c κs. search needs) (λ c κs. search needs) (λ c κs. search needs) returns)

@@ -5,18 +5,9 @@ use Rattle.sha256.specs.Words.{ROTR}
 use Rattle.sha256.proofs.word.rotr.Statement.{statement}
 use Rattle.sha256.proofs.word.rotr.Tie as tie
 
-shr-result : tie.Need-shr-result
-shr-result c = search needs
-
-sub-result : tie.Need-sub-result
-sub-result c = search needs
-
-shl-result : tie.Need-shl-result
-shl-result c = search needs
-
 returns : tie.Need-returns
 unfolding ROTR
 returns c = refl
 
 pub rotr-spec : {M : Type 1} → statement M
-rotr-spec = tie.close (tie.spec shr-result sub-result shl-result returns)
+rotr-spec = tie.close (tie.spec (λ c. search needs) (λ c. search needs) (λ c. search needs) returns)

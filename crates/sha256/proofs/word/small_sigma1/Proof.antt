@@ -4,15 +4,9 @@ use Rattle.sha256.specs.Words.{σ1, SHR}
 use Rattle.sha256.proofs.word.small_sigma1.Statement.{statement}
 use Rattle.sha256.proofs.word.small_sigma1.Tie as tie
 
-rotr-requires : tie.Need-rotr-requires
-rotr-requires c κs = search needs
-
-rotr-requires-2 : tie.Need-rotr-requires-2
-rotr-requires-2 c κs = search needs
-
 returns : tie.Need-returns
 unfolding σ1 SHR
 returns c = cc
 
 pub small-sigma1-spec : {M : Type 1} → statement M
-small-sigma1-spec = tie.close (tie.spec rotr-requires rotr-requires-2 returns)
+small-sigma1-spec = tie.close (tie.spec (λ c κs. search needs) (λ c κs. search needs) returns)

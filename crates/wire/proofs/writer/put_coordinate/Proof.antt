@@ -1,5 +1,4 @@
 -- Two stores, the second where the first ends.
-use mathlib.Core.Path.{refl}
 use native.Mathlib.Omega.{arith}
 use Prim.Native.Nat.{_+_}
 use Rattle.laws.specs.Bytes.{bytes16}

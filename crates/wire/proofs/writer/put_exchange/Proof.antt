@@ -1,10 +1,9 @@
 -- Five runs, each where the one before it ends.
-use mathlib.Core.Path.{_≡_, refl, ap, _∙_}
+use mathlib.Core.Path.{refl, ap, _∙_}
 use native.Mathlib.Omega.{arith}
-use Prim.Native.Nat.{_+_}
 use mathlib.Core.List.{_++_}
 use Rattle.wire.proofs.Writing.{exchange-stored}
-use lib.ListN.{length, length-append}
+use lib.ListN.{length-append}
 use lib.Seq.{sets}
 use Rattle.laws.specs.Bytes.{bytes16, bytes32}
 use Rattle.laws.proofs.Stores.{run, then}

@@ -1,6 +1,6 @@
 -- The buffer keeps its length.
 use borrow.Author.Needs.{needs}
-use Prim.Native.Nat.{_≤_, _<_, _-_}
+use Prim.Native.Nat.{_≤_, _-_}
 use mathlib.Core.Path.{_≡_}
 use lib.ListN.{length}
 use Rattle.wire_cases.proofs.message.build_entries.Statement.{statement}
