@@ -6,7 +6,7 @@ use mathlib.Core.Bool.{Bool, false}
 use native.Mathlib.Omega.{arith}
 use native.Mathlib.Nat.{add-assoc, div-add-mod'}
 use lib.Dec.{eqb}
-use lib.ListN.{length, length-append, getD, List·getD-append}
+use lib.ListN.{length, length-append, List·getD-append}
 use lib.Seq.{getD-append-add, take-at, ext-getD}
 use Rattle.laws.specs.Bytes.{be8, be16, be32, be64, bytesAt, bytes16, bytes32, bytes64}
 use Rattle.laws.proofs.Parts.{part-back, bytesAt-take}

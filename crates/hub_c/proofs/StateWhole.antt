@@ -3,7 +3,7 @@ use Prim.Native.Nat.{ℕ, zero, suc, _+_, _*_, _/_, _%_, _≤_, _<_}
 use mathlib.Core.Path.{_≡_, refl, sym, ap, ap₂, _∙_}
 use mathlib.Core.List.{List, [], _∷_, _++_, append-assoc, append-nil}
 use native.Mathlib.Omega.{arith}
-use native.Mathlib.Nat.{add-zero, zero-add, add-suc, add-assoc, le-refl}
+use native.Mathlib.Nat.{add-zero, add-suc, add-assoc}
 use lib.ListN.{length, drop}
 use lib.Seq.{take-all}
 use Rattle.laws.specs.Bytes.{be8, be16, be32, be64, bytesAt, bytes16, bytes32, bytes64}

@@ -176,10 +176,10 @@ fn put_progress(p: Progress, out: &mut [u8])
     store16(out, 149, p.last);
 }
 
-// Puts the state of a connection.
-pub(crate) fn encode(c: Connection, out: &mut [u8])
+// Puts the state of a connection, part by part.
+fn lay(c: Connection, out: &mut [u8])
     requires { ⌜ length (now out) ≡ stateSize ⌝ }
-    ensures { λ _. ⌜ now (out .exit) ≡ stateBytes c ⌝ }
+    ensures { λ _. ⌜ (now (out .exit) ≡ stateBytes c) × (length (stateBytes c) ≡ stateSize) ⌝ }
 {
     let nonce = c.nonce;
     let x = c.x;
@@ -194,4 +194,14 @@ pub(crate) fn encode(c: Connection, out: &mut [u8])
     put_key(out, 57, y);
     put_key(out, 89, digest);
     put_progress(progress, out);
+}
+
+// Puts the state of a connection. It is laid in an array of its size first: there each store is known to have room.
+pub(crate) fn encode(c: Connection, out: &mut [u8])
+    requires { ⌜ length (now out) ≡ stateSize ⌝ }
+    ensures { λ _. ⌜ now (out .exit) ≡ stateBytes c ⌝ }
+{
+    let mut state = [0u8; STATE];
+    lay(c, &mut state);
+    bytes::copy(&state, out);
 }

@@ -51,4 +51,15 @@ returns-2 c =
     (rw l (at-settle .settle .ensures .0 ∙ ap (λ (t : Stepped). said (t .answer) .refusal) e), (rw l next, (rw l opened, (rw l joined, rw l told))))
 
 pub hub-step-spec : {M : Type 1} → statement M
-hub-step-spec = tie.close (tie.spec returns decode-requires (λ c κs. search needs) settle-requires (λ c. search needs) (λ c. search needs) (λ c. search needs) (λ c. search needs) returns-2)
+hub-step-spec =
+    tie.close
+    (tie.spec
+    returns
+    decode-requires
+    (λ c κs. search needs)
+    settle-requires
+    (λ c. search needs)
+    (λ c. search needs)
+    (λ c. search needs)
+    (λ c. search needs)
+    returns-2)

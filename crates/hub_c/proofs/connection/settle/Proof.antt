@@ -35,4 +35,13 @@ returns-2 c =
     (sym (at-if1 .if1 .left) ∙ ap (λ (t : Said). t .refusal) e, (rw (← e, eq-eqb _ _ (at-if1 .if1 .left)) (at-encode .encode .ensures), rw (← e, eq-eqb _ _ (at-if1 .if1 .left)) (at-put-triple .put-triple .ensures)))
 
 pub settle-spec : {M : Type 1} → statement M
-settle-spec = tie.close (tie.spec (λ c κs. search needs) returns encode-requires put-triple-requires (λ c. search needs) (λ c. search needs) returns-2)
+settle-spec =
+    tie.close
+    (tie.spec
+    (λ c κs. search needs)
+    returns
+    encode-requires
+    put-triple-requires
+    (λ c. search needs)
+    (λ c. search needs)
+    returns-2)

@@ -42,4 +42,16 @@ returns-3 c =
     (rw k (sym z), rw k (at-put-triple2 .put-triple2 .ensures ∙ cut-told _ (s .report .now) _ z (at-cut .cut .ensures .1) (at-cut-piece .cut-piece .ensures)))
 
 pub hub-cut-spec : {M : Type 1} → statement M
-hub-cut-spec = tie.close (tie.spec returns (λ c κs. search needs) (λ c κs. search needs) (λ c. search needs) returns-2 mul-from (λ c κs. search needs) (λ c κs. search needs) (λ c. search needs) returns-3)
+hub-cut-spec =
+    tie.close
+    (tie.spec
+    returns
+    (λ c κs. search needs)
+    (λ c κs. search needs)
+    (λ c. search needs)
+    returns-2
+    mul-from
+    (λ c κs. search needs)
+    (λ c κs. search needs)
+    (λ c. search needs)
+    returns-3)

@@ -1,6 +1,6 @@
 -- The buffers have their sizes or not; the line is that of the message.
 use Prim.Native.Nat.{ℕ}
-use mathlib.Core.List.{List, _∷_, []}
+use mathlib.Core.List.{_∷_, []}
 use native.Mathlib.Nat.{zero-add}
 use lib.ListN.{length}
 use lib.Seq.{sets}
@@ -44,4 +44,15 @@ returns-2 c =
     (rw (at-if1 .if1 .left) (ap (λ (f : Found). f .refusal) e), (rw (at-if1 .if1 .left) (p .1 ∙ sym (r .1) ∙ ap (sets line 0) t), rw (at-if1 .if1 .left) (at-put-length .put-length .ensures ∙ ap (λ (k : ℕ). k ∷ []) n)))
 
 pub hub-list-spec : {M : Type 1} → statement M
-hub-list-spec = tie.close (tie.spec returns (λ c κs. search needs) (λ c κs. search needs) (λ c κs. search needs) put-length-requires (λ c κs. search needs) (λ c. search needs) (λ c. search needs) returns-2)
+hub-list-spec =
+    tie.close
+    (tie.spec
+    returns
+    (λ c κs. search needs)
+    (λ c κs. search needs)
+    (λ c κs. search needs)
+    put-length-requires
+    (λ c κs. search needs)
+    (λ c. search needs)
+    (λ c. search needs)
+    returns-2)

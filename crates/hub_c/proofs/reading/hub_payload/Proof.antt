@@ -71,4 +71,21 @@ returns-4 c =
     (rw (at-if1 .if1 .left), rw (at-if1 .if1 .left, ← at-word .word .ensures, ← at-word2 .word2 .ensures, ← at-word3 .word3 .ensures, ← at-lacks .lacks .ensures, at-if2 .if2 .left, ← at-lacks2 .lacks2 .ensures, at-if3 .if3 .left) (at-put-triple3 .put-triple3 .ensures))
 
 pub hub-payload-spec : {M : Type 1} → statement M
-hub-payload-spec = tie.close (tie.spec returns (λ c κs. search needs) (λ c κs. search needs) (λ c κs. search needs) (λ c κs. search needs) put-triple-requires (λ c. search needs) returns-2 (λ c κs. search needs) put-triple-requires-2 (λ c. search needs) returns-3 put-triple-requires-3 (λ c. search needs) returns-4)
+hub-payload-spec =
+    tie.close
+    (tie.spec
+    returns
+    (λ c κs. search needs)
+    (λ c κs. search needs)
+    (λ c κs. search needs)
+    (λ c κs. search needs)
+    put-triple-requires
+    (λ c. search needs)
+    returns-2
+    (λ c κs. search needs)
+    put-triple-requires-2
+    (λ c. search needs)
+    returns-3
+    put-triple-requires-3
+    (λ c. search needs)
+    returns-4)

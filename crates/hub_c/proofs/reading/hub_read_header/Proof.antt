@@ -23,4 +23,12 @@ returns-2 c =
     (rw k (at-hand .hand .ensures .0 ∙ ap (λ (f : Found). f .refusal) e), rw k (at-hand .hand .ensures .1 ∙ ap (λ (f : Found). handed f (s .header .now)) e))
 
 pub hub-read-header-spec : {M : Type 1} → statement M
-hub-read-header-spec = tie.close (tie.spec returns (λ c κs. search needs) (λ c κs. search needs) (λ c κs. search needs) (λ c. search needs) returns-2)
+hub-read-header-spec =
+    tie.close
+    (tie.spec
+    returns
+    (λ c κs. search needs)
+    (λ c κs. search needs)
+    (λ c κs. search needs)
+    (λ c. search needs)
+    returns-2)

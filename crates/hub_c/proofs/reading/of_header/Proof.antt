@@ -16,4 +16,12 @@ returns-2 c =
     rw (c .is-sealed .ensures) (ap ofHeader (sym (at-read2 .read2 .given .1)))
 
 pub of-header-spec : {M : Type 1} → statement M
-of-header-spec = tie.close (tie.spec (λ c. search needs) (λ c κs. search needs) (λ c. search needs) (λ c κs. search needs) returns returns-2)
+of-header-spec =
+    tie.close
+    (tie.spec
+    (λ c. search needs)
+    (λ c κs. search needs)
+    (λ c. search needs)
+    (λ c κs. search needs)
+    returns
+    returns-2)

@@ -23,4 +23,12 @@ returns c =
     r2 .is ∙ ap (λ (b : ℕ). sets l 8 (b ∷ s .from ∷ s .size ∷ [])) (at-flag .flag .ensures)
 
 pub put-place-spec : {M : Type 1} → statement M
-put-place-spec = tie.close (tie.spec (λ c κs. search needs) (λ c κs. search needs) (λ c κs. search needs) (λ c κs. search needs) (λ c. search needs) returns)
+put-place-spec =
+    tie.close
+    (tie.spec
+    (λ c κs. search needs)
+    (λ c κs. search needs)
+    (λ c κs. search needs)
+    (λ c κs. search needs)
+    (λ c. search needs)
+    returns)

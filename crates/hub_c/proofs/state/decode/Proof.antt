@@ -17,4 +17,15 @@ returns c =
     rw (at-number64 .number64 .ensures, at-byte .byte .ensures, at-number642 .number642 .ensures, at-nonce-at .nonce-at .ensures, at-key-at .key-at .ensures, at-key-at2 .key-at2 .ensures, at-key-at3 .key-at3 .ensures, c .progress-at .ensures)
 
 pub decode-spec : {M : Type 1} → statement M
-decode-spec = tie.close (tie.spec (λ c κs. search needs) (λ c κs. search needs) (λ c κs. search needs) (λ c κs. search needs) (λ c κs. search needs) (λ c κs. search needs) (λ c κs. search needs) (λ c κs. search needs) returns)
+decode-spec =
+    tie.close
+    (tie.spec
+    (λ c κs. search needs)
+    (λ c κs. search needs)
+    (λ c κs. search needs)
+    (λ c κs. search needs)
+    (λ c κs. search needs)
+    (λ c κs. search needs)
+    (λ c κs. search needs)
+    (λ c κs. search needs)
+    returns)

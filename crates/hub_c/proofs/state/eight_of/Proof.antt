@@ -9,4 +9,12 @@ returns c =
     rw (at-four-of .four-of .ensures .0, c .four-of2 .ensures .0)
 
 pub eight-of-spec : {M : Type 1} → statement M
-eight-of-spec = tie.close (tie.spec (λ c κs. search needs) (λ c. search needs) (λ c κs. search needs) (λ c. search needs) (λ c. search needs) returns)
+eight-of-spec =
+    tie.close
+    (tie.spec
+    (λ c κs. search needs)
+    (λ c. search needs)
+    (λ c κs. search needs)
+    (λ c. search needs)
+    (λ c. search needs)
+    returns)

@@ -1,7 +1,6 @@
 -- The first i indexes are those of the state.
-use Prim.Native.Nat.{ℕ, _≤_, _<_, _-_, _/_, _%_, _^_, _+_}
+use Prim.Native.Nat.{_≤_, _-_, _+_}
 use mathlib.Core.List.{_++_}
-use lib.Dec.{eqb}
 use lib.ListN.{length, drop}
 use Rattle.hub_c.specs.State.{heardAt}
 use native.Mathlib.Omega.{arith}
@@ -40,4 +39,18 @@ returns c =
     l .inv .2 ∙ heard-all (s .s .now) _ (l .i) (omega (arith, l .inv .1)) ∙ ap (heardAt (s .s .now)) (l .inv .1)
 
 pub heard-at-spec : {M : Type 1} → statement M
-heard-at-spec = tie.close (tie.spec Inv-loop μ-loop loop-holds (λ c. search needs) (λ c κs. search needs) (λ c. search needs) (λ c κs. search needs) (λ c. search needs) (λ c. search needs) (λ c. search needs) loop-again returns)
+heard-at-spec =
+    tie.close
+    (tie.spec
+    Inv-loop
+    μ-loop
+    loop-holds
+    (λ c. search needs)
+    (λ c κs. search needs)
+    (λ c. search needs)
+    (λ c κs. search needs)
+    (λ c. search needs)
+    (λ c. search needs)
+    (λ c. search needs)
+    loop-again
+    returns)

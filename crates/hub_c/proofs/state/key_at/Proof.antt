@@ -14,4 +14,13 @@ returns c =
     at-copy .copy .ensures .1 ∙ copied-part 32 (s .at) (s .s .now) _ (start .pre) refl ∙ sym (bytesAt-part (s .s .now) (s .at) 32 (start .pre))
 
 pub key-at-spec : {M : Type 1} → statement M
-key-at-spec = tie.close (tie.spec (λ c. search needs) (λ c. search needs) (λ c. search needs) (λ c. search needs) (λ c. search needs) (λ c κs. search needs) returns)
+key-at-spec =
+    tie.close
+    (tie.spec
+    (λ c. search needs)
+    (λ c. search needs)
+    (λ c. search needs)
+    (λ c. search needs)
+    (λ c. search needs)
+    (λ c κs. search needs)
+    returns)

@@ -18,4 +18,12 @@ returns c =
     at-copy .copy .ensures .1 ∙ copied-part 8 17 (s .s .now) _ h refl ∙ sym (bytesAt-part (s .s .now) 17 8 h)
 
 pub nonce-at-spec : {M : Type 1} → statement M
-nonce-at-spec = tie.close (tie.spec (λ c. search needs) (λ c. search needs) (λ c. search needs) (λ c. search needs) (λ c κs. search needs) returns)
+nonce-at-spec =
+    tie.close
+    (tie.spec
+    (λ c. search needs)
+    (λ c. search needs)
+    (λ c. search needs)
+    (λ c. search needs)
+    (λ c κs. search needs)
+    returns)

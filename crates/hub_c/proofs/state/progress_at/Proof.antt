@@ -12,4 +12,12 @@ returns c =
     rw (at-number32 .number32 .ensures, at-heard-at .heard-at .ensures, at-number64 .number64 .ensures, at-number642 .number642 .ensures, c .number16 .ensures)
 
 pub progress-at-spec : {M : Type 1} → statement M
-progress-at-spec = tie.close (tie.spec (λ c κs. search needs) (λ c κs. search needs) (λ c κs. search needs) (λ c κs. search needs) (λ c κs. search needs) returns)
+progress-at-spec =
+    tie.close
+    (tie.spec
+    (λ c κs. search needs)
+    (λ c κs. search needs)
+    (λ c κs. search needs)
+    (λ c κs. search needs)
+    (λ c κs. search needs)
+    returns)

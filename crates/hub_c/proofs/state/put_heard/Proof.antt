@@ -1,5 +1,5 @@
 -- The first i bytes are put.
-use Prim.Native.Nat.{ℕ, _≤_, _-_, _*_, _+_}
+use Prim.Native.Nat.{ℕ, _≤_, _-_, _+_}
 use mathlib.Core.List.{_∷_, []}
 use lib.ListN.{length}
 use lib.Seq.{sets}
@@ -42,4 +42,18 @@ returns c =
     (l .inv .2 ∙ ap (λ (k : ℕ). sets (s .out .now) 125 (heardBytes (s .heard) k)) e, search needs)
 
 pub put-heard-spec : {M : Type 1} → statement M
-put-heard-spec = tie.close (tie.spec Inv-loop μ-loop loop-holds (λ c. search needs) (λ c. search needs) (λ c κs. search needs) (λ c κs. search needs) (λ c. search needs) (λ c. search needs) loop-again (λ c. search needs) returns)
+put-heard-spec =
+    tie.close
+    (tie.spec
+    Inv-loop
+    μ-loop
+    loop-holds
+    (λ c. search needs)
+    (λ c. search needs)
+    (λ c κs. search needs)
+    (λ c κs. search needs)
+    (λ c. search needs)
+    (λ c. search needs)
+    loop-again
+    (λ c. search needs)
+    returns)

@@ -37,4 +37,13 @@ returns c =
     (r4 .is ∙ ap (sets l 121) (progress-stored p), at-put-heard .put-heard .ensures .1)
 
 pub put-progress-spec : {M : Type 1} → statement M
-put-progress-spec = tie.close (tie.spec (λ c κs. search needs) (λ c κs. search needs) (λ c κs. search needs) (λ c κs. search needs) (λ c κs. search needs) (λ c. search needs) returns)
+put-progress-spec =
+    tie.close
+    (tie.spec
+    (λ c κs. search needs)
+    (λ c κs. search needs)
+    (λ c κs. search needs)
+    (λ c κs. search needs)
+    (λ c κs. search needs)
+    (λ c. search needs)
+    returns)

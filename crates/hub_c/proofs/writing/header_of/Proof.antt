@@ -20,4 +20,20 @@ returns c =
     rw (at-narrow8 .narrow8 .ensures, at-word .word .ensures, at-narrow16 .narrow16 .ensures, at-word2 .word2 .ensures, at-narrow32 .narrow32 .ensures, at-word3 .word3 .ensures, at-word4 .word4 .ensures, at-narrow162 .narrow162 .ensures, at-word5 .word5 .ensures, at-narrow163 .narrow163 .ensures, at-word6 .word6 .ensures, at-word7 .word7 .ensures, c .word8 .ensures)
 
 pub header-of-spec : {M : Type 1} → statement M
-header-of-spec = tie.close (tie.spec (λ c κs. search needs) (λ c κs. search needs) (λ c κs. search needs) (λ c κs. search needs) (λ c κs. search needs) (λ c κs. search needs) (λ c κs. search needs) (λ c κs. search needs) (λ c κs. search needs) (λ c κs. search needs) (λ c κs. search needs) (λ c κs. search needs) (λ c κs. search needs) returns)
+header-of-spec =
+    tie.close
+    (tie.spec
+    (λ c κs. search needs)
+    (λ c κs. search needs)
+    (λ c κs. search needs)
+    (λ c κs. search needs)
+    (λ c κs. search needs)
+    (λ c κs. search needs)
+    (λ c κs. search needs)
+    (λ c κs. search needs)
+    (λ c κs. search needs)
+    (λ c κs. search needs)
+    (λ c κs. search needs)
+    (λ c κs. search needs)
+    (λ c κs. search needs)
+    returns)

@@ -51,4 +51,15 @@ returns-2 c =
     (rw w (at-tell .tell .ensures .0 ∙ ap (λ (k : Wrote). k .refusal) e), (rw w o, rw w (at-tell .tell .ensures .1 ∙ ap (λ (k : Wrote). lengthAfter k (s .size .now)) e)))
 
 pub hub-write-spec : {M : Type 1} → statement M
-hub-write-spec = tie.close (tie.spec (λ c κs. search needs) returns (λ c κs. search needs) (λ c κs. search needs) (λ c κs. search needs) tell-requires (λ c. search needs) (λ c. search needs) returns-2)
+hub-write-spec =
+    tie.close
+    (tie.spec
+    (λ c κs. search needs)
+    returns
+    (λ c κs. search needs)
+    (λ c κs. search needs)
+    (λ c κs. search needs)
+    tell-requires
+    (λ c. search needs)
+    (λ c. search needs)
+    returns-2)
