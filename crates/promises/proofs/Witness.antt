@@ -1,9 +1,9 @@
--- The premises of demand 3 can be met: a Ready connection of fragment size 4, and a report of ten bytes that comes in four calls, its three
--- fragments in another order and one of them twice. Assumes nothing.
+-- The premises of demand 3 can be met: a Ready connection of fragment size 4, and a report of ten bytes that comes in five calls, its three
+-- fragments in another order, one of them twice, and something between. Assumes nothing.
 use Prim.Native.Nat.{ℕ, zero, suc, _≤_, _<_}
 use mathlib.Core.Path.{_≡_, refl}
 use mathlib.Core.List.{List, [], _∷_}
-use mathlib.Core.Bool.{Bool, true, false, _&&_}
+use mathlib.Core.Bool.{Bool, true, false, cond, _&&_}
 use native.Mathlib.Omega.{arith}
 use lib.ListN.{length, replicate}
 use lib.Dec.{ltb}
@@ -11,17 +11,24 @@ use borrow.Author.Tests.{ltb-true}
 use Rattle.laws.proofs.Bools.{and-true}
 use Rattle.wire.specs.Fields.{mostPieces}
 use Rattle.wire.specs.Chain.{entryOf, chain, mostEntries, readChain, badChain}
+use Rattle.wire.specs.Reader.{headerRows, rowsOf, refusalWith, refusalOf, readHeader}
+use Rattle.message.specs.Reading.{readMessage}
 use Rattle.seal.specs.Padding.{padding, sealedSize}
 use Rattle.seal.proofs.ByteLists.{AllBytes, nil-bytes, cons-bytes}
 use Rattle.joining.specs.Join.{expecting}
-use Rattle.joining.specs.Cut.{cutRefusal}
-use Rattle.joining.proofs.Courses.{came, LastMissing}
+use Rattle.joining.specs.Cut.{badSize, cutRefusal}
+use Rattle.joining.proofs.Courses.{Event, piece, between, came, LastMissing}
 use Rattle.hub.specs.declared.Connection.{Connection}
+use Rattle.hub.specs.declared.Stepped.{Stepped}
+use Rattle.hub.specs.Answers.{isQuiet}
+use Rattle.hub.specs.Host.{refuse}
+use Rattle.hub.specs.Step.{step}
+use Rattle.hub.proofs.Layer.{Call, Place}
 use Rattle.promises.specs.Refusals.{AreBytes}
-use Rattle.promises.specs.Reports.{Sending, began, fragments, fragment, Fair, Course, HandedOut}
-use Rattle.promises.specs.Met.{Typed, Choice, Good, callFor, calls, brought}
+use Rattle.promises.specs.Reports.{answer, Sending, began, fragments, fragment, Fair, Sent, Course, done, brings, rests, HandedOut}
+use Rattle.promises.specs.Met.{Typed, Choice, Good, callFor}
 use Rattle.promises.proofs.ReportsJoined.{demand-three}
-use Rattle.promises.proofs.Writes.{can-be-sent, any-order}
+use Rattle.promises.proofs.Writes.{can-be-sent}
 
 -- A list whose elements are tested to be bytes.
 abbrev below : List ℕ → Bool
@@ -87,26 +94,44 @@ choice-good =
       verdict = omega arith;
     }
 
--- Fragments 2, 0 and 2 have come.
-abbrev pub before : List (ℕ × Choice)
-before = (2, choice) ∷ (0, choice) ∷ (2, choice) ∷ []
+-- Something between: no bytes at all are refused, on every connection.
+abbrev pub nothing : Call
+nothing = record { message = []; keys = []; working = []; verdict = 0 }
 
-pub ten-bytes-course : Course tenBytes (began tenBytes) (calls tenBytes before) (brought before)
+refused : (c : Connection) (t : Bool) → isQuiet (cond {A = Stepped} t (refuse c 24) (refuse c 1) .answer) ≡ true
+refused c true = refl
+refused c false = refl
+
+nothing-refused : (p : Place) → isQuiet (answer p nothing) ≡ true
+unfolding step readMessage readHeader refusalOf refusalWith rowsOf headerRows
+nothing-refused p = refused (p .connection) (badSize (p .connection .size))
+
+-- Fragment 2, something between, then 0 and 2 again.
+abbrev pub before : List Call
+before = callFor tenBytes 2 choice ∷ nothing ∷ callFor tenBytes 0 choice ∷ callFor tenBytes 2 choice ∷ []
+
+abbrev pub brought : List Event
+brought = piece 2 ∷ between ∷ piece 0 ∷ piece 2 ∷ []
+
+sent : (i : ℕ) → i < 3 → Sent tenBytes i (callFor tenBytes i choice)
+sent i l = can-be-sent tenBytes ten-bytes-fair ten-bytes-typed i l choice choice-good
+
+pub ten-bytes-course : Course tenBytes (began tenBytes) before brought
 ten-bytes-course =
-    any-order tenBytes ten-bytes-fair ten-bytes-typed before
-    ((omega arith, choice-good), ((omega arith, choice-good), ((omega arith, choice-good), tt))) (began tenBytes)
+    brings {i = 2} (omega arith) (sent 2 (omega arith))
+    (rests (nothing-refused _) (brings {i = 0} (omega arith) (sent 0 (omega arith)) (brings {i = 2} (omega arith) (sent 2 (omega arith)) done)))
 
-last-missing : LastMissing (fragments tenBytes) 1 (brought before)
+last-missing : LastMissing (fragments tenBytes) 1 brought
 last-missing = (refl, others)
   where
-    others : (j : ℕ) → j < 3 → (j ≡ 1 → ⊥) → came j (brought before) ≡ true
+    others : (j : ℕ) → j < 3 → (j ≡ 1 → ⊥) → came j brought ≡ true
     others zero l n = refl
     others (suc zero) l n = absurd (n refl)
     others (suc (suc zero)) l n = refl
     others (suc (suc (suc j))) l n = absurd (omega arith)
 
 -- Fragment 1 brings the report.
-pub ten-bytes-handed-out : HandedOut tenBytes (calls tenBytes before) (brought before) 1 (callFor tenBytes 1 choice)
+pub ten-bytes-handed-out : HandedOut tenBytes before brought 1 (callFor tenBytes 1 choice)
 ten-bytes-handed-out =
-    demand-three tenBytes ten-bytes-fair .each (calls tenBytes before) (brought before) ten-bytes-course 1 (omega arith) (callFor tenBytes 1 choice)
-    (can-be-sent tenBytes ten-bytes-fair ten-bytes-typed 1 (omega arith) choice choice-good) .last last-missing
+    demand-three tenBytes ten-bytes-fair .each before brought ten-bytes-course 1 (omega arith) (callFor tenBytes 1 choice) (sent 1 (omega arith))
+    .last last-missing
