@@ -208,6 +208,8 @@ enum hub_piece_word {
 /*
  * Where in the 151 bytes of a connection what stands; numbers are big-endian, as on the wire. Every 151 bytes are a connection, and every
  * connection is 151 bytes in exactly one way. Only hub_open and hub_step need write them.
+ *
+ * Proved    ReadBack, Whole.
  */
 enum hub_state_place {
     HUB_STATE_FRAGMENT_SIZE = 0, /* 8 bytes: F */
@@ -312,7 +314,7 @@ uint8_t hub_read(const uint8_t *message, size_t message_n, const uint8_t *keys, 
  * Returns   HUB_DONE, HUB_WRONG_BUFFER (header or place).
  * On done   place holds the buffer (0 message, 1 working), the payload's start in it and its length; or 0, 0, 0 where header names a part that
  *           the buffer does not have, or by HUB_SEALED another buffer than these two.
- * Proved    the contract (`payload` in crates/message/specs/Handed.antt).
+ * Proved    PlaceHanded: it is the part that document 01's choosing function hands out (`payload` in crates/message/specs/Handed.antt).
  */
 HUB_ANSWER_MATTERS
 uint8_t hub_payload(const uint8_t *message, size_t message_n, const uint8_t *working, size_t working_n, const uint64_t *header, size_t header_n,
