@@ -24,18 +24,7 @@ use Rattle.hub.specs.Answers.{answerOf, isQuiet, isComplete}
 use Rattle.hub.specs.Hear.{pieceIn, withProgress, joined, joins, heard, reportHeard}
 use Rattle.hub.specs.Step.{afterRead, reportRead, step, reportStepped}
 use Rattle.hub.proofs.Quiet.{Still, heard-still}
-
--- What one call is given beside the connection and the report buffer.
-pub record Call : Type 0 where
-  pub message : List ℕ
-  pub keys : List ℕ
-  pub working : List ℕ
-  pub verdict : ℕ
-
--- What a call leaves behind.
-pub record Place : Type 0 where
-  pub connection : Connection
-  pub report : List ℕ
+use Rattle.hub.specs.Calls.{Call, Place}
 
 -- The call's verdict is 0 or 1, and its message is read as a Session message of this connection's session that brings the piece.
 pub record Brings (c : Connection) (p : Piece) (bytes : List ℕ) (x : Call) : Type 0 where

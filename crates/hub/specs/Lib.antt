@@ -4,3 +4,4 @@ pub mod Host
 pub mod Hear
 pub mod Step
 pub mod Refusing
+pub mod Calls

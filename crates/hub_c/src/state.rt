@@ -23,7 +23,7 @@ ghost use lib.Seq.{sets};
 ghost use Rattle.laws.specs.Bytes.{bytesAt};
 ghost use Rattle.joining.specs.Heard.{bit};
 ghost use Rattle.hub_c.specs.Sizes.{stateSize};
-ghost use Rattle.hub_c.specs.State.{bitAt, heardAt, four, eight, heardBytes, progressAt, connectionAt, progressBytes, stateBytes};
+ghost use Rattle.hub_c.specs.State.{heardAt, four, eight, heardBytes, progressAt, connectionAt, progressBytes, stateBytes};
 
 // The bytes of a state.
 pub(crate) const STATE: usize = 151;

@@ -20,8 +20,9 @@ use Rattle.joining.specs.Join.{unlike, turnRows, placeRows, joinRefusal,
 use Rattle.joining.proofs.Heards.{has-none}
 use Rattle.joining.proofs.Refusals.{fitting}
 use Rattle.joining.proofs.Arriving.{mark-known}
-use Rattle.joining.proofs.Courses.{Event, piece, came, mark-has}
-use Rattle.joining.proofs.Counting.{howMany, come-came, tally-come, or-swap}
+use Rattle.joining.proofs.Courses.{mark-has}
+use Rattle.joining.proofs.Counting.{come-came, tally-come, or-swap}
+use Rattle.joining.specs.Events.{Event, piece, came, howMany}
 
 -- The indexes accepted of the expected message, once a piece of index i got this answer: a piece that is Taken adds its own; after Complete
 -- another message is expected.

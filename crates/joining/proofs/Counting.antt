@@ -13,12 +13,8 @@ use Rattle.joining.specs.Heard.{most, bit, tally, come, has, mark}
 use Rattle.joining.proofs.Heards.{come-next, come-mark, come-full, full-come, tally-mark}
 use Rattle.joining.proofs.Coming.{Start, Fair, Lawful, pieceOf, bytesOf}
 use Rattle.joining.proofs.Arriving.{mark-known, mark-lawful}
-use Rattle.joining.proofs.Courses.{Event, piece, came, setOf, set-has, set-lawful, LastMissing, mark-has, Machine, final, Course, under, began, says-here}
-
--- How many of the pieces 0 to n - 1 have come, each counted once however often it came.
-abbrev pub howMany : ℕ → List Event → ℕ
-howMany zero es = 0
-howMany (suc n) es = howMany n es + bit (came n es)
+use Rattle.joining.proofs.Courses.{setOf, set-has, set-lawful, mark-has, Machine, final, Course, under, began, says-here}
+use Rattle.joining.specs.Events.{Event, piece, came, LastMissing, howMany}
 
 -- A set that has what has come has as many.
 pub come-came : (S : List Bool) (es : List Event) (n : ℕ) → n ≤ length S → ((j : ℕ) → has S j ≡ came j es) → come n S ≡ howMany n es

@@ -20,17 +20,7 @@ use Rattle.joining.specs.Join.{expecting, join, reportAfter}
 use Rattle.joining.proofs.Heards.{has-none, come-mark, come-full, full-come}
 use Rattle.joining.proofs.Coming.{Start, Fair, Lawful, pieceOf, bytesOf, heldAt, byteAt, bufferAt, listed-length, none-lawful, held-none, buffer-none, whole}
 use Rattle.joining.proofs.Arriving.{mark-lawful, answerAt, arrives}
-
--- What one call was: piece i of the report, or something between.
-pub data Event : Type 0 where
-  piece : ℕ → Event
-  between : Event
-
--- Piece j has come.
-abbrev pub came : ℕ → List Event → Bool
-came j [] = false
-came j (piece i ∷ es) = eqb j i || came j es
-came j (between ∷ es) = came j es
+use Rattle.joining.specs.Events.{Event, piece, between, came, LastMissing}
 
 -- The set of those that have come, from S on.
 abbrev pub marks : List Bool → List Event → List Bool
@@ -43,10 +33,6 @@ abbrev pub Under : ℕ → List Event → Type 0
 Under n [] = Unit {0}
 Under n (piece i ∷ es) = (i < n) × Under n es
 Under n (between ∷ es) = Under n es
-
--- Piece i is the only one of n that is missing.
-abbrev pub LastMissing : ℕ → ℕ → List Event → Type 0
-LastMissing n i es = (came i es ≡ false) × ((j : ℕ) → j < n → (j ≡ i → ⊥) → came j es ≡ true)
 
 or-true : (b : Bool) → (b || true) ≡ true
 or-true true = refl

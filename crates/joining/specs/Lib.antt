@@ -2,3 +2,4 @@ pub mod Heard
 pub mod Report
 pub mod Cut
 pub mod Join
+pub mod Events

@@ -22,7 +22,8 @@ use Rattle.message.specs.Writing.{finishedLength, lengthOf, writeRefusal
 use Rattle.message.proofs.Handing.{whole, of-working, of-message}
 use Rattle.message.proofs.Written.{Allowed, allowed}
 use Rattle.message.proofs.WrittenLengths.{length-messageBytes}
-use Rattle.message.proofs.WrittenBack.{InWidth, payload-plain, sealed-header, opened-written, payload-sealed, opens}
+use Rattle.message.proofs.WrittenBack.{payload-plain, sealed-header, opened-written, payload-sealed, opens}
+use Rattle.message.specs.Widths.{InWidth}
 
 -- A sealed part that was opened into the working buffer.
 module _ (keys m : List ℕ) (start : ℕ) (working : List ℕ) (e : openRefusal keys m start (length working) ≡ 0) where

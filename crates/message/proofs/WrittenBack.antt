@@ -37,17 +37,7 @@ use Rattle.message.specs.Reading.{opened, plainRead, sealedRead, behindH
 use Rattle.message.specs.Writing.{finishedLength, lengthOf, writeRefusal, beforePayload, messageBytes}
 use Rattle.message.proofs.WrittenSizes.{chain-short}
 use Rattle.message.proofs.Written.{Allowed, allowed, length-header, length-short}
-
--- Every field is a number of its width.
-pub record InWidth (h : Header) : Type 0 where
-  pub kind : h .kind < 256
-  pub flags : h .flags < 65536
-  pub sequence : h .sequence < 4294967296
-  pub request : h .request < 18446744073709551616
-  pub index : h .index < 65536
-  pub count : h .count < 65536
-  pub session : h .session < 18446744073709551616
-  pub channel : h .channel < 18446744073709551616
+use Rattle.message.specs.Widths.{InWidth}
 
 header-bytes : (h : Header) (n : ℕ) → InWidth h → n < 65536 → AllBytes (headerBytes h n)
 unfolding headerBytes

@@ -1,3 +1,4 @@
 pub mod Reading
 pub mod Handed
 pub mod Writing
+pub mod Widths

@@ -1,6 +1,6 @@
 -- Demand 2's count: joining counts the indexes accepted, and nothing but joining touches what is remembered of them. Assumes nothing.
 use Prim.Native.Nat.{ℕ}
-use mathlib.Core.Path.{_≡_, refl, sym, ap, _∙_}
+use mathlib.Core.Path.{_≡_, sym, ap}
 use mathlib.Core.List.{List, [], _∷_}
 use Rattle.laws.specs.Bytes.{be16}
 use Rattle.wire.specs.Payload.{connectType, readRequest}
@@ -12,21 +12,21 @@ use Rattle.joining.specs.declared.Progress.{Progress}
 use Rattle.joining.specs.declared.Arrival.{Arrival}
 use Rattle.joining.specs.declared.Arrival.the-variants as arrival
 use Rattle.joining.specs.Join.{join}
-use Rattle.joining.proofs.Courses.{Event}
 use Rattle.joining.proofs.Accepting as joining
 use Rattle.joining.proofs.Accepting.{Holds, nothing-holds, join-counts}
 use Rattle.hub.specs.declared.Connection.{Connection}
 use Rattle.hub.specs.declared.Stepped.{Stepped}
-use Rattle.hub.specs.declared.Answer.the-variants.{Refused, Reply, Again, Failure, Taken, Repeat, Complete}
+use Rattle.hub.specs.declared.Answer.the-variants.{Refused, Taken, Repeat, Complete}
 use Rattle.hub.specs.Answers.{answerOf}
 use Rattle.hub.specs.Host.{hostRows, host, refuse}
 use Rattle.hub.specs.Hear.{certificate, connect, pieceIn, heard}
 use Rattle.hub.specs.Step.{step}
-use Rattle.hub.proofs.Layer.{Call, Place}
 use Rattle.promises.specs.Reports.{after, answer, afterAll}
 use Rattle.promises.specs.Counted.{indexIn, accepted, acceptedAll, Counts, HeardCount}
 use Rattle.promises.proofs.Ways.{first-has, heard-has, step-read}
 use Rattle.promises.proofs.ReadAgain.{read-header}
+use Rattle.joining.specs.Events.{Event}
+use Rattle.hub.specs.Calls.{Call, Place}
 
 -- Joining's answer as the step's.
 lifted : (h : Progress) (a : Arrival) (i : ℕ) (es : List Event) → Holds h (joining.accepted a i es) × joining.Counts a i es

@@ -1,6 +1,6 @@
 -- Two values that equal a third are equal. Assumes nothing.
-use mathlib.Core.Path.{_≡_, sym, _∙_}
-use Rattle.promises.specs.Determinacy.{Determined, OneResult, OneOutcome}
+use mathlib.Core.Path.{sym, _∙_}
+use Rattle.promises.specs.Determinacy.{OneResult, OneOutcome}
 
 pub one-result : OneResult
 one-result A value r s p q = p ∙ sym q

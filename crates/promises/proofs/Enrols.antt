@@ -1,8 +1,8 @@
 -- The premises of `RepeatedStep` can be met: three messages, as the writer writes them, enrol a gateway. Assumes nothing.
 use Prim.Native.Nat.{ℕ, _≤_, _<_}
-use mathlib.Core.Path.{_≡_, refl, sym, ap, _∙_}
+use mathlib.Core.Path.{_≡_, refl, ap, _∙_}
 use mathlib.Core.List.{List, [], _∷_, _++_}
-use mathlib.Core.Bool.{Bool, true, false, not, _&&_, and-false}
+use mathlib.Core.Bool.{false, not, and-false}
 use native.Mathlib.Omega.{arith}
 use lib.ListN.{length, replicate}
 use Rattle.wire.specs.Fields.{badKind, badFlags, badPiece, mostPieces, isSealed}
@@ -12,22 +12,22 @@ use Rattle.wire.specs.declared.header.Header.{Header}
 use Rattle.sha256.specs.Digests.{digest}
 use Rattle.seal.specs.Padding.{padding, sealedSize}
 use Rattle.message.specs.Writing.{finishedLength, lengthOf, writeRefusal, messageBytes}
-use Rattle.message.proofs.WrittenBack.{InWidth}
 use Rattle.joining.specs.Cut.{badSize}
 use Rattle.hub.specs.declared.Connection.{Connection}
 use Rattle.hub.specs.declared.Stepped.{Stepped}
 use Rattle.hub.specs.declared.Answer.the-variants.{Reply}
 use Rattle.hub.specs.Opening.{blank}
 use Rattle.hub.specs.Host.{host, stepped, requested, judged}
-use Rattle.hub.specs.Hear.{certificate, connect, isForeign, joins, heard, reportHeard}
-use Rattle.hub.proofs.Layer.{Call, Place}
+use Rattle.hub.specs.Hear.{certificate, connect, isForeign, heard, reportHeard}
 use Rattle.promises.specs.Refusals.{AreBytes}
 use Rattle.promises.specs.Written.{Wrote}
 use Rattle.promises.specs.Reports.{after, answer}
-use Rattle.promises.specs.Met.{opening, Enrolled, CanEnrol}
+use Rattle.promises.specs.Met.{Enrolled, CanEnrol}
 use Rattle.promises.proofs.ReadBack.{steps-by-state}
 use Rattle.promises.proofs.Writes.{wrote}
 use Rattle.promises.proofs.Witness.{are-bytes}
+use Rattle.message.specs.Widths.{InWidth}
+use Rattle.hub.specs.Calls.{Call, Place}
 
 abbrev header : ℕ → Header
 header flags = record { kind = 2; flags = flags; sequence = 0; request = 0; index = 0; count = 1; session = 7; channel = 0 }

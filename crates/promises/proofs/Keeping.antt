@@ -1,8 +1,8 @@
 -- What an enrolment step remembers is never overwritten until a step names Failure, which only a verdict of 0 makes it do. Assumes nothing.
-use Prim.Native.Nat.{ℕ, _≤_, _<_}
+use Prim.Native.Nat.{ℕ, _≤_}
 use mathlib.Core.Path.{_≡_, refl}
 use mathlib.Core.List.{List}
-use mathlib.Core.Bool.{true, false, _&&_}
+use mathlib.Core.Bool.{_&&_}
 use native.Mathlib.Omega.{arith}
 use lib.Dec.{eqb}
 use borrow.Author.Tests.{eqb-true}
@@ -15,13 +15,11 @@ use Rattle.joining.specs.declared.Arrival.the-variants as arrival
 use Rattle.joining.specs.Join.{join}
 use Rattle.hub.specs.declared.Connection.{Connection}
 use Rattle.hub.specs.declared.Stepped.{Stepped}
-use Rattle.hub.specs.declared.Answer.{Answer}
 use Rattle.hub.specs.declared.Answer.the-variants.{Refused, Reply, Again, Failure, Taken, Repeat, Complete}
 use Rattle.hub.specs.Answers.{answerOf}
 use Rattle.hub.specs.Host.{hostRows, host, refuse, judged}
 use Rattle.hub.specs.Hear.{certificate, connect, pieceIn}
 use Rattle.hub.specs.Step.{step}
-use Rattle.hub.proofs.Layer.{Call, Place}
 use Rattle.promises.specs.Enrolment.{OnlyByZero}
 use Rattle.promises.proofs.Ways.{first-has, heard-has, step-has}
 

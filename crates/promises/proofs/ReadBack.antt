@@ -1,16 +1,15 @@
 -- Demand 2's messages: what the writer's answer and output say gives message's theorems their premises. Assumes nothing.
 use Prim.Native.Nat.{ℕ, _+_, _≤_}
-use mathlib.Core.Path.{_≡_, refl, sym, ap, _∙_}
-use mathlib.Core.List.{List, _++_}
-use mathlib.Core.Bool.{Bool, true, false, cond, _||_}
+use mathlib.Core.Path.{_≡_, refl, _∙_}
+use mathlib.Core.List.{List}
+use mathlib.Core.Bool.{Bool, true, false}
 use native.Mathlib.Omega.{arith}
-use lib.ListN.{length, take, drop}
+use lib.ListN.{length, drop}
 use lib.Seq.{take-at}
-use lib.Dec.{ltb, eqb}
+use lib.Dec.{eqb}
 use borrow.Author.Tests.{eqb-true, le-ltb}
 use Rattle.wire.specs.Fields.{isSealed}
 use Rattle.wire.specs.declared.header.Header.{Header}
-use Rattle.wire.specs.declared.writer.Written.the-variants.{Refused, Bytes}
 use Rattle.seal.proofs.ByteLists.{AllBytes}
 use Rattle.message.specs.Writing.{lengthOf, writeRefusal, messageBytes, writeAnswer, writtenInto}
 use Rattle.message.proofs.WrittenLengths.{length-messageBytes}

@@ -1,50 +1,35 @@
 -- Demand 1 for reader, step and cutter: each call's refusal is the first number of its table, and laws' both directions do the rest.
 -- Assumes nothing.
-use Prim.Native.Nat.{ℕ, _+_, _-_, _*_, _%_, _≤_, _<_}
+use Prim.Native.Nat.{ℕ, _-_, _≤_}
 use mathlib.Core.Path.{_≡_, refl, sym, ap, _∙_}
-use mathlib.Core.List.{List, [], _∷_, _++_}
-use mathlib.Core.Bool.{Bool, true, false, cond, not, _&&_, _||_, true≢false}
+use mathlib.Core.List.{List}
+use mathlib.Core.Bool.{Bool, true, false, cond, not}
 use native.Mathlib.Omega.{arith}
-use lib.ListN.{length, take, drop}
-use lib.Dec.{ltb, leb, eqb}
-use borrow.Author.Tests.{eqb-true, eqb-false, eq-eqb, le-ltb, lt-leb}
-use Rattle.laws.specs.Bytes.{be8, be16, be32}
+use lib.ListN.{length}
+use lib.Dec.{ltb, eqb}
+use borrow.Author.Tests.{eqb-true, le-ltb, lt-leb}
+use Rattle.laws.specs.Bytes.{be16, be32}
 use Rattle.laws.specs.Rows.{first, orElse, leads}
 use Rattle.laws.specs.Same.{same}
 use Rattle.laws.proofs.Firsts.{first-append, first-leads, leads-first}
-use Rattle.wire.specs.Fields.{isSealed, tagSize, mostPieces}
-use Rattle.wire.specs.Chain.{leaves, isBroken}
-use Rattle.wire.specs.Payload.{badPayload, connectType, readRequest}
+use Rattle.wire.specs.Fields.{isSealed}
+use Rattle.wire.specs.Chain.{leaves}
 use Rattle.wire.specs.Reader.{headerOf, chainOf, headerRows, rowsOf, refusalWith, refusalOf, readHeader}
 use Rattle.wire.specs.declared.header.Header.{Header}
 use Rattle.wire.proofs.Reading.{read-good}
 use Rattle.wire.proofs.Sound as wire
-use Rattle.sha256.specs.Digests.{digest}
 use Rattle.seal.specs.Keys.{tagOf}
 use Rattle.seal.specs.Padding.{badPlain}
-use Rattle.seal.specs.Opening.{bodyOf, tagIn, sealedPart, plainOf, noPart, partRefusal, openRefusal}
-use Rattle.message.specs.Reading.{opened, unless, plainRead, sealedRead, readMessage, workingAfter}
+use Rattle.seal.specs.Opening.{bodyOf, tagIn, sealedPart, noPart, partRefusal, openRefusal}
+use Rattle.message.specs.Reading.{opened, unless, plainRead, sealedRead, readMessage}
 use Rattle.message.specs.Writing.{writeRefusal}
 use Rattle.message.specs.Handed.{payload}
 use Rattle.message.specs.declared.reading.MessageRead.{MessageRead}
 use Rattle.message.specs.declared.reading.MessageRead.the-variants as read
-use Rattle.joining.specs.declared.Progress.{Progress}
-use Rattle.joining.specs.declared.Piece.{Piece}
-use Rattle.joining.specs.declared.Joined.{Joined}
-use Rattle.joining.specs.Heard.{most, has}
-use Rattle.joining.specs.Cut.{badSize, cutRefusal}
-use Rattle.joining.specs.Join.{badIndex, unlike, misfit, conflict, completes, taken, joinRefusal, join}
-use Rattle.hub.specs.declared.Connection.{Connection}
-use Rattle.hub.specs.declared.Stepped.{Stepped}
-use Rattle.hub.specs.declared.Answer.{Answer}
-use Rattle.hub.specs.declared.Answer.the-variants.{Refused, Reply, Again, Failure, Taken, Repeat, Complete}
-use Rattle.hub.specs.Answers.{valuesOf, answerOf}
-use Rattle.hub.specs.Host.{hostRows, firstRow, host, refuse}
-use Rattle.hub.specs.Hear.{certificate, connect, pieceIn, joined, isForeign, joins, heard}
-use Rattle.hub.specs.Step.{afterRead, step, reportStepped}
-use Rattle.hub.proofs.Layer.{step-still}
+use Rattle.joining.specs.Cut.{cutRefusal}
+use Rattle.hub.specs.declared.Answer.the-variants.{Refused}
 use Rattle.promises.specs.Examples.{numberOf}
-use Rattle.promises.specs.Refusals.{AreBytes, sealed, start, payloadIn, headerTable, openingTable, readerTable, _⇔_, ReaderExact, anyOf, enrols, hostTable, handed, stepTable, StepExact, LeavesAlone, cutTable, CutterExact, writerTable, WriterExact}
+use Rattle.promises.specs.Refusals.{AreBytes, sealed, start, headerTable, openingTable, readerTable, _⇔_, ReaderExact, cutTable, CutterExact, writerTable, WriterExact}
 
 -- A table's answer is n if and only if row n is the first that applies.
 exact : (rows : List (ℕ × Bool)) (n : ℕ) → (n ≡ 0 → ⊥) → (first rows ≡ n) ⇔ leads n rows

@@ -15,17 +15,18 @@ use Rattle.message.specs.declared.reading.MessageRead.the-variants as read
 use Rattle.joining.specs.Cut.{badSize}
 use Rattle.hub.specs.declared.Connection.{Connection}
 use Rattle.hub.specs.declared.Stepped.{Stepped}
-use Rattle.hub.specs.declared.Answer.the-variants.{Refused, Reply, Again, Failure}
+use Rattle.hub.specs.declared.Answer.the-variants.{Refused, Reply, Again}
 use Rattle.hub.specs.Answers.{isQuiet}
 use Rattle.hub.specs.Step.{step}
-use Rattle.hub.proofs.Layer.{Call, Place, step-still}
+use Rattle.hub.proofs.Layer.{step-still}
 use Rattle.promises.specs.Written.{ReadAs}
 use Rattle.promises.specs.Reports.{after, answer, afterAll}
-use Rattle.promises.specs.Enrolment.{NoFailure, SentAgain, RepeatedStep}
+use Rattle.promises.specs.Enrolment.{NoFailure, RepeatedStep}
 use Rattle.promises.proofs.ReadBack.{step-hears}
 use Rattle.promises.proofs.ReadAgain.{read-again}
 use Rattle.promises.proofs.Keeping.{step-kept}
 use Rattle.promises.proofs.Known.{Known, still-known, again, heard-replied}
+use Rattle.hub.specs.Calls.{Call, Place}
 
 -- A step that answered with a reply had a fragment size, a verdict and a message that was read.
 pub record Heard (c : Connection) (m keys w : List ℕ) (v : ℕ) : Type 0 where

@@ -1,28 +1,27 @@
 -- Demand 3: the step is the machine over which joining proved it for any number of pieces. Assumes nothing.
-use Prim.Native.Nat.{ℕ, _*_, _≤_, _<_}
+use Prim.Native.Nat.{ℕ, _*_, _<_}
 use mathlib.Core.Path.{_≡_, refl, sym, ap, _∙_}
 use mathlib.Core.List.{List, [], _∷_}
-use mathlib.Core.Bool.{Bool, true, false, cond, _||_, true≢false}
+use mathlib.Core.Bool.{true, false, _||_, true≢false}
 use native.Mathlib.Omega.{arith}
 use lib.ListN.{length, take}
-use lib.Dec.{eqb, ltb, leb}
+use lib.Dec.{ltb, leb}
 use borrow.Author.Tests.{lt-leb}
 use Rattle.laws.proofs.Bools.{or-false}
 use Rattle.joining.specs.Heard.{most}
-use Rattle.joining.specs.Report.{part}
-use Rattle.joining.specs.Cut.{badSize, pieceCount, cutRefusal, cutCount, cutPiece}
-use Rattle.joining.proofs.Cuts.{passed, Cuttable, cuttable}
+use Rattle.joining.specs.Cut.{badSize, pieceCount, cutRefusal, cutCount}
+use Rattle.joining.proofs.Cuts.{passed, cuttable}
 use Rattle.joining.proofs.Coming as coming
 use Rattle.joining.proofs.Courses as joining
 use Rattle.joining.proofs.Counting.{all-told, told-again, told-taken}
-use Rattle.joining.proofs.Courses.{Event, piece, between, came, LastMissing, Machine, final, ends-at, only-the-set, handed-out, as-sent, at-no-other, late-copy}
-use Rattle.hub.specs.declared.Connection.{Connection}
-use Rattle.hub.specs.declared.Answer.{Answer}
+use Rattle.joining.proofs.Courses.{Machine, final, only-the-set, handed-out, as-sent, at-no-other, late-copy}
 use Rattle.hub.specs.declared.Answer.the-variants.{Refused, Reply, Again, Failure, Taken, Repeat, Complete}
-use Rattle.hub.specs.Answers.{isQuiet, isComplete}
-use Rattle.hub.proofs.Layer.{Call, Place, Brings, hub}
+use Rattle.hub.specs.Answers.{isComplete}
+use Rattle.hub.proofs.Layer.{Brings, hub}
 use Rattle.promises.specs.Reports.{after, answer, afterAll, Sending, began, fragments, Fair, fragment, headerFor, Sent, Course, done, brings, rests, OnlyWhatCame, HandedOut, Brought, DemandThree, NotBetween}
 use Rattle.promises.proofs.ReadBack.{reads-back}
+use Rattle.joining.specs.Events.{Event, piece, LastMissing}
+use Rattle.hub.specs.Calls.{Call, Place}
 
 -- What the cutter does not refuse at piece 0 it refuses at no piece under the count.
 module _ (F L : ℕ) (e : cutRefusal F L 0 ≡ 0) where

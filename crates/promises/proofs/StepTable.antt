@@ -1,13 +1,12 @@
 -- Demand 1 for the step: its table is that of 25 and 24, the reader's, and the host's. Assumes nothing.
-use Prim.Native.Nat.{ℕ, _+_, _*_, _≤_, _<_}
+use Prim.Native.Nat.{ℕ, _+_, _*_}
 use mathlib.Core.Path.{_≡_, refl, sym, ap, _∙_}
 use mathlib.Core.List.{List, [], _∷_, _++_}
 use mathlib.Core.Bool.{Bool, true, false, cond, not, _&&_, _||_}
-use native.Mathlib.Omega.{arith}
 use lib.ListN.{length}
-use lib.Dec.{ltb, leb, eqb}
+use lib.Dec.{ltb, eqb}
 use borrow.Author.Tests.{eqb-true, le-ltb, lt-leb}
-use Rattle.laws.specs.Rows.{first, orElse, leads}
+use Rattle.laws.specs.Rows.{first, orElse}
 use Rattle.laws.proofs.Firsts.{first-append, first-leads, leads-first}
 use Rattle.wire.specs.Payload.{connectType, readRequest}
 use Rattle.wire.specs.Reader.{headerOf, refusalOf}
@@ -15,7 +14,6 @@ use Rattle.wire.specs.declared.header.Header.{Header}
 use Rattle.wire.proofs.Sound as wire
 use Rattle.sha256.specs.Digests.{digest}
 use Rattle.message.specs.Reading.{unless, readMessage, workingAfter}
-use Rattle.message.specs.declared.reading.MessageRead.{MessageRead}
 use Rattle.message.specs.declared.reading.MessageRead.the-variants as read
 use Rattle.joining.specs.declared.Progress.{Progress}
 use Rattle.joining.specs.declared.Piece.{Piece}
@@ -32,7 +30,7 @@ use Rattle.hub.specs.Host.{hostRows, firstRow, host, refuse}
 use Rattle.hub.specs.Hear.{certificate, connect, pieceIn, joined, isForeign, joins, heard}
 use Rattle.hub.specs.Step.{afterRead, step}
 use Rattle.hub.proofs.Layer.{step-still}
-use Rattle.promises.specs.Refusals.{AreBytes, readerTable, openingTable, _⇔_, anyOf, enrols, hostTable, handed, stepTable, StepExact, LeavesAlone}
+use Rattle.promises.specs.Refusals.{AreBytes, readerTable, openingTable, anyOf, hostTable, handed, stepTable, StepExact, LeavesAlone}
 use Rattle.promises.proofs.RefusalTables.{reader-first, whatIsRead, read-by-table}
 
 -- The number of a step's refusal, 0 where it does not refuse.

@@ -17,18 +17,18 @@ use Rattle.seal.specs.Padding.{padding, sealedSize}
 use Rattle.seal.proofs.ByteLists.{AllBytes, nil-bytes, cons-bytes}
 use Rattle.joining.specs.Join.{expecting}
 use Rattle.joining.specs.Cut.{badSize, cutRefusal}
-use Rattle.joining.proofs.Courses.{Event, piece, between, came, LastMissing}
 use Rattle.hub.specs.declared.Connection.{Connection}
 use Rattle.hub.specs.declared.Stepped.{Stepped}
 use Rattle.hub.specs.Answers.{isQuiet}
 use Rattle.hub.specs.Host.{refuse}
 use Rattle.hub.specs.Step.{step}
-use Rattle.hub.proofs.Layer.{Call, Place}
 use Rattle.promises.specs.Refusals.{AreBytes}
 use Rattle.promises.specs.Reports.{answer, Sending, began, fragments, fragment, Fair, Sent, Course, done, brings, rests, HandedOut}
 use Rattle.promises.specs.Met.{Typed, Choice, Good, callFor}
 use Rattle.promises.proofs.ReportsJoined.{demand-three}
 use Rattle.promises.proofs.Writes.{can-be-sent}
+use Rattle.joining.specs.Events.{Event, piece, between, came, LastMissing}
+use Rattle.hub.specs.Calls.{Call, Place}
 
 -- A list whose elements are tested to be bytes.
 abbrev below : List ℕ → Bool

@@ -5,13 +5,13 @@ use mathlib.Core.List.{List, [], _∷_, _++_}
 use mathlib.Core.Bool.{Bool, true, false, cond, not, _&&_, _||_}
 use lib.ListN.{length, drop}
 use lib.Dec.{ltb, eqb}
-use borrow.Author.Tests.{eqb-true, eqb-false, eq-eqb, ne-eqb}
+use borrow.Author.Tests.{eqb-true, eqb-false, ne-eqb}
 use Rattle.laws.specs.Bytes.{be16}
-use Rattle.laws.specs.Rows.{first, orElse, leads, quiet}
+use Rattle.laws.specs.Rows.{first, orElse}
 use Rattle.laws.specs.Same.{same}
 use Rattle.laws.proofs.Firsts.{first-append, leads-first, quiet-first}
 use Rattle.wire.specs.Fields.{isSealed}
-use Rattle.wire.specs.Reader.{headerOf, refusalOf, readHeader}
+use Rattle.wire.specs.Reader.{refusalOf, readHeader}
 use Rattle.wire.proofs.Reading.{read-good}
 use Rattle.seal.specs.Keys.{tagOf}
 use Rattle.seal.specs.Padding.{badPlain}

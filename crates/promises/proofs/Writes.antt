@@ -1,36 +1,31 @@
 -- What the writer does not refuse it writes; and every fragment of a report is of that kind. Assumes nothing.
 use Prim.Native.Nat.{ℕ, _+_, _*_, _≤_, _<_}
-use mathlib.Core.Path.{_≡_, refl, sym, ap, _∙_}
-use mathlib.Core.List.{List, [], _∷_, _++_}
-use mathlib.Core.Bool.{Bool, true, false, cond, not, _&&_, _||_, and-false}
+use mathlib.Core.Path.{_≡_, refl, sym}
+use mathlib.Core.List.{List, [], _∷_}
+use mathlib.Core.Bool.{Bool, true, false, and-false}
 use native.Mathlib.Omega.{arith}
 use lib.ListN.{length, take, drop, replicate, length-replicate}
 use lib.Seq.{take-at}
-use lib.Dec.{ltb, leb, eqb}
 use borrow.Author.Tests.{eq-eqb, ne-eqb, le-ltb, lt-leb}
-use Rattle.laws.specs.Rows.{first}
 use Rattle.laws.proofs.Firsts.{quiet-first}
 use Rattle.wire.specs.Fields.{badKind, badFlags, badPiece, isSealed, mostPieces}
-use Rattle.wire.specs.Chain.{badChain}
 use Rattle.wire.specs.Payload.{badPayload}
 use Rattle.wire.specs.declared.header.Header.{Header}
-use Rattle.wire.specs.declared.writer.Written.the-variants.{Refused, Bytes}
-use Rattle.seal.proofs.ByteLists.{AllBytes, take-bytes, drop-bytes}
+use Rattle.wire.specs.declared.writer.Written.the-variants.{Bytes}
+use Rattle.seal.proofs.ByteLists.{take-bytes, drop-bytes}
 use Rattle.message.specs.Writing.{lengthOf, writeRows, writeRefusal, messageBytes, writeAnswer, writtenInto}
-use Rattle.message.proofs.WrittenBack.{InWidth}
 use Rattle.message.proofs.WrittenLengths.{length-messageBytes}
 use Rattle.joining.specs.Heard.{most, bit}
 use Rattle.joining.specs.Report.{part}
-use Rattle.joining.specs.Cut.{pieceCount, cutRefusal, cutCount, cutPiece}
+use Rattle.joining.specs.Cut.{cutCount}
 use Rattle.joining.proofs.Cuts.{Cuttable, cuttable, not-over}
-use Rattle.joining.proofs.Courses.{Event}
-use Rattle.hub.proofs.Layer.{Call, Place}
 use Rattle.promises.specs.Refusals.{AreBytes}
 use Rattle.promises.specs.Written.{Wrote}
-use Rattle.promises.specs.Reports.{after, Sending, fragments, fragment, headerFor, Fair, Sent, Course, done, brings}
-use Rattle.promises.specs.Met.{Typed, Choice, Good, flagsOf, callFor, CanBeSent, calls, brought, AllGood, AnyOrder}
+use Rattle.promises.specs.Reports.{after, Sending, fragments, fragment, headerFor, Fair, Sent, done, brings}
+use Rattle.promises.specs.Met.{Typed, Choice, Good, flagsOf, callFor, CanBeSent, AnyOrder}
 use Rattle.promises.proofs.ReadBack.{all-bytes}
 use Rattle.promises.proofs.ReportsJoined.{each-cut, each-count}
+use Rattle.message.specs.Widths.{InWidth}
 
 -- A call of the writer with an output that is just long enough.
 module _ (h : Header) (chain bytes keys : List ℕ) (widths : InWidth h) (of-chain : AreBytes chain) (of-bytes : AreBytes bytes) (of-keys : AreBytes keys)

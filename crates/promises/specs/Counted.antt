@@ -6,12 +6,11 @@ use mathlib.Core.List.{List, [], _∷_}
 use mathlib.Core.Bool.{true, false}
 use Rattle.laws.specs.Bytes.{be16}
 use Rattle.joining.specs.Heard.{most, none}
-use Rattle.joining.proofs.Courses.{Event, piece, came}
-use Rattle.joining.proofs.Counting.{howMany}
 use Rattle.hub.specs.declared.Answer.{Answer}
 use Rattle.hub.specs.declared.Answer.the-variants.{Refused, Reply, Again, Failure, Taken, Repeat, Complete}
-use Rattle.hub.proofs.Layer.{Call, Place}
 use Rattle.promises.specs.Reports.{after, answer, afterAll}
+use Rattle.joining.specs.Events.{Event, piece, came, howMany}
+use Rattle.hub.specs.Calls.{Call, Place}
 
 -- FragmentIndex, in its place on the wire.
 abbrev pub indexIn : Call → ℕ

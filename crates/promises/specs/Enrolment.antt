@@ -7,9 +7,9 @@ use mathlib.Core.Bool.{true}
 use lib.ListN.{length}
 use Rattle.seal.specs.Opening.{sealedPart}
 use Rattle.hub.specs.declared.Answer.the-variants.{Reply, Again, Failure}
-use Rattle.hub.proofs.Layer.{Call, Place}
 use Rattle.promises.specs.Refusals.{sealed, start}
 use Rattle.promises.specs.Reports.{after, answer, afterAll}
+use Rattle.hub.specs.Calls.{Call, Place}
 
 -- "until a verdict of 0": no step of the course named Failure,
 abbrev pub NoFailure : Place → List Call → Type 0

@@ -10,12 +10,12 @@ use Rattle.seal.specs.Padding.{sealedSize}
 use Rattle.message.specs.Writing.{messageBytes}
 use Rattle.joining.specs.Heard.{bit}
 use Rattle.joining.specs.Cut.{badSize}
-use Rattle.joining.proofs.Courses.{Event, piece}
 use Rattle.hub.specs.declared.Answer.the-variants.{Reply}
 use Rattle.hub.specs.Opening.{blank}
-use Rattle.hub.proofs.Layer.{Call, Place}
 use Rattle.promises.specs.Refusals.{AreBytes}
 use Rattle.promises.specs.Reports.{after, answer, Sending, fragments, fragment, headerFor, Fair, Sent, Course}
+use Rattle.joining.specs.Events.{Event, piece}
+use Rattle.hub.specs.Calls.{Call, Place}
 
 -- What the types of the calls say of a report that is sent, and 64 key bytes.
 pub record Typed (s : Sending) : Type 0 where

@@ -7,7 +7,7 @@ use mathlib.Core.Bool.{Bool, true, false, cond, not, _&&_, _||_}
 use lib.ListN.{length, take, drop}
 use lib.Dec.{ltb, leb, eqb}
 use Rattle.laws.specs.Bytes.{be8, be16, be32}
-use Rattle.laws.specs.Rows.{first, leads, quiet}
+use Rattle.laws.specs.Rows.{leads, quiet}
 use Rattle.laws.specs.Same.{same}
 use Rattle.wire.specs.Fields.{badKind, badFlags, badPiece, isSealed, tagSize}
 use Rattle.wire.specs.Chain.{leaves, isBroken, badChain}

@@ -3,23 +3,22 @@
 use Prim.Native.Nat.{ℕ, _+_, _≤_, _<_}
 use mathlib.Core.Path.{_≡_}
 use mathlib.Core.List.{List, [], _∷_}
-use mathlib.Core.Bool.{Bool, true, false}
+use mathlib.Core.Bool.{true, false}
 use lib.ListN.{length, take}
 use Rattle.wire.specs.declared.header.Header.{Header}
 use Rattle.seal.specs.Padding.{sealedSize}
 use Rattle.joining.specs.Heard.{most, none}
 use Rattle.joining.specs.Cut.{pieceCount, cutRefusal, cutCount, cutPiece}
 use Rattle.joining.specs.Join.{expecting}
-use Rattle.joining.proofs.Courses.{Event, piece, between, came, LastMissing}
-use Rattle.joining.proofs.Counting.{howMany}
 use Rattle.hub.specs.declared.Connection.{Connection}
 use Rattle.hub.specs.declared.Answer.{Answer}
 use Rattle.hub.specs.declared.Answer.the-variants.{Refused, Taken, Repeat, Complete}
 use Rattle.hub.specs.Answers.{isQuiet, isComplete}
 use Rattle.hub.specs.Hear.{withProgress}
 use Rattle.hub.specs.Step.{step, reportStepped}
-use Rattle.hub.proofs.Layer.{Call, Place}
 use Rattle.promises.specs.Written.{Wrote}
+use Rattle.joining.specs.Events.{Event, piece, between, came, LastMissing, howMany}
+use Rattle.hub.specs.Calls.{Call, Place}
 
 -- What one call of the step leaves: the next connection and the report buffer.
 abbrev pub after : Place → Call → Place

@@ -13,12 +13,12 @@ use Rattle.message.specs.Reading.{readMessage, workingAfter}
 use Rattle.message.specs.Handed.{payload}
 use Rattle.message.specs.Writing.{writeAnswer, writtenInto}
 use Rattle.message.specs.declared.reading.MessageRead.the-variants.{Read}
-use Rattle.message.proofs.WrittenBack.{InWidth}
 use Rattle.joining.specs.Cut.{badSize}
 use Rattle.hub.specs.declared.Connection.{Connection}
 use Rattle.hub.specs.Hear.{heard, reportHeard}
 use Rattle.hub.specs.Step.{step, reportStepped}
 use Rattle.promises.specs.Refusals.{AreBytes}
+use Rattle.message.specs.Widths.{InWidth}
 
 -- The writer, called with these fields, this chain, payload and keys, answered a length, and `message` is so many bytes of its output. (The
 -- fields have their widths and the lists are bytes: what the call's types say.)

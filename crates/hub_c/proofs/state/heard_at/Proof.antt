@@ -1,5 +1,5 @@
 -- The first i indexes are those of the state.
-use Prim.Native.Nat.{_≤_, _-_, _+_}
+use Prim.Native.Nat.{_≤_, _-_}
 use mathlib.Core.List.{_++_}
 use lib.ListN.{length, drop}
 use Rattle.hub_c.specs.State.{heardAt}
