@@ -18,6 +18,10 @@
 
 #define PAYLOAD 1000
 
+/* Payload sizes: sealed parts of 1, 2, 3 and 63 blocks, with and without padding. */
+static const size_t sizes[] = {0, 11, 12, 13, 28, 29, 44, 999, PAYLOAD};
+#define SIZES (sizeof sizes / sizeof sizes[0])
+
 static uint8_t keys[HUB_KEYS], working[2048], message[2048], payload[PAYLOAD], out[2048], a[HUB_DIGEST], b[HUB_DIGEST];
 static uint64_t header[HUB_HEADER], fields[HUB_FIELDS], length[HUB_LENGTH];
 static const uint8_t end[2];
@@ -55,15 +59,14 @@ static void must(int holds, const char *what)
     }
 }
 
-static size_t write_message(uint64_t index, uint64_t count)
+static size_t write_message(size_t payload_n)
 {
     uint8_t number;
 
     fields[HUB_TYPE] = HUB_TYPE_SESSION;
     fields[HUB_FLAGS] = HUB_SEAL;
-    fields[HUB_INDEX] = index;
-    fields[HUB_COUNT] = count;
-    number = hub_write(fields, HUB_FIELDS, end, sizeof end, payload, PAYLOAD, keys, HUB_KEYS, out, sizeof out, length, HUB_LENGTH);
+    fields[HUB_COUNT] = 1;
+    number = hub_write(fields, HUB_FIELDS, end, sizeof end, payload, payload_n, keys, HUB_KEYS, out, sizeof out, length, HUB_LENGTH);
     must(number == HUB_DONE, "hub_write refuses");
     return (size_t)length[0];
 }
@@ -101,9 +104,13 @@ static void tag(void)
 
 static void write_secret(void)
 {
+    size_t i, message_n;
+
     hide(keys, sizeof keys);
-    write_message(0, 1);
-    must(hidden_bits(out + 42, 64) == 512 && hidden_bits(out + length[0] - 32, 32) == 256, "what is sealed is not secret");
+    for (i = 0; i < SIZES; i++) {
+        message_n = write_message(sizes[i]);
+        must(hidden_bits(out + 42, 16) == 128 && hidden_bits(out + message_n - 32, 32) == 256, "what is sealed is not secret");
+    }
 }
 
 /*
@@ -111,14 +118,18 @@ static void write_secret(void)
  */
 static void receive(size_t from, size_t n)
 {
-    size_t message_n = write_message(0, 2);
+    size_t i, message_n;
     uint8_t number;
 
-    memcpy(message, out, message_n);
-    hide(keys + from, n);
-    number = hub_read(message, message_n, keys, HUB_KEYS, working, sizeof working, header, HUB_HEADER);
-    show(&number, 1);
-    must(number == HUB_DONE, "hub_read refuses");
+    for (i = 0; i < SIZES; i++) {
+        show(keys, sizeof keys);
+        message_n = write_message(sizes[i]);
+        memcpy(message, out, message_n);
+        hide(keys + from, n);
+        number = hub_read(message, message_n, keys, HUB_KEYS, working, sizeof working, header, HUB_HEADER);
+        show(&number, 1);
+        must(number == HUB_DONE, "hub_read refuses");
+    }
 }
 
 int main(int argc, char **argv)

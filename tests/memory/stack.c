@@ -1,6 +1,7 @@
 /*
  * The stack of each call: it runs on a stack that was painted before, and what is no longer painted was used. What a call of an empty
- * function uses is taken off. Each call is tried on its dearest inputs, painted in two colours.
+ * function uses is taken off. Each call is tried on inputs that are meant to be its dearest, painted in two colours. It is a measurement: what a
+ * call reserves and never writes is not seen.
  */
 #include <stdio.h>
 #include <stdlib.h>
@@ -177,7 +178,7 @@ int main(void)
     keys_n = sizeof keys;
     long_chain();
     payload_n = F;
-    printf("memory: stack of each call in bytes, painted, its return address included, the most over its dearest inputs:\n");
+    printf("memory: stack of each call in bytes, painted, its return address included, the most over the inputs tried:\n");
     row("hub_version", used(do_version), 8192);
     row("hub_digest", measure(do_digest, HUB_DONE), 8192);
     row("hub_hmac", most(measure(do_hmac, HUB_DONE), measure(do_hmac_long, HUB_DONE)), 8192);
