@@ -61,9 +61,8 @@ fn bad_index(count: usize, index: usize) -> bool
     (PIECES < count) | (count <= index)
 }
 
-// The heard set is lent beside what else is remembered: read in place it is not copied at each call.
-
-// 21 applies: count or channel is unlike that of the first piece taken.
+// 21 applies: count or channel is unlike that of the first piece taken. Here and below the heard set is lent beside the rest of what is
+// remembered: read in place, it is not copied at each call.
 fn unlike(held: Progress, heard: &[bool; PIECES], piece: Piece) -> bool
     requires { ⌜ (now heard ≡ held .heard) × (length (now heard) ≡ most) ⌝ }
     ensures { λ r. ⌜ r ≡ unlike held piece ⌝ }
@@ -266,6 +265,7 @@ impl Progress {
                 answer: Arrival::Refused(refused),
             };
         }
+        // A piece that has come is in the set already: with it there are as many.
         let index = piece.index;
         let marked = heard::mark(heard, index);
         let next = marked.heard;
