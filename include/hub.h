@@ -297,7 +297,7 @@ uint8_t hub_read_header(const uint8_t *message, size_t message_n, uint64_t *head
  *           (HUB_SEALED 1). The first bytes of working hold the opened sealed part: payload size (4 bytes), payload, padding; the rest is
  *           unchanged. A plain message leaves all of it unchanged.
  * On refusal 14 of a sealed message working holds the opened sealed part likewise. All else is as it was.
- * Proved    ReaderExact, WorkingBuffer.
+ * Proved    ReaderExact, WorkingBuffer, ReadsBack.
  */
 HUB_ANSWER_MATTERS
 uint8_t hub_read(const uint8_t *message, size_t message_n, const uint8_t *keys, size_t keys_n, uint8_t *working, size_t working_n, uint64_t *header,
@@ -333,7 +333,7 @@ uint8_t hub_payload(const uint8_t *message, size_t message_n, const uint8_t *wor
  *
  * Returns   HUB_DONE, HUB_WRONG_BUFFER (fields or length; a SequenceNumber over 2^32 - 1), then 5, 6, 7, 8, 10 (sealed messages), 14, 20, 22 in this order.
  * On done   the first length[0] bytes of out are the message; the rest of out is unchanged.
- * Proved    WriterExact; that hub_read gives it back: read-sealed, payload-sealed, read-plain (crates/message/proofs/WrittenBack.antt).
+ * Proved    WriterExact; ReadsBack: hub_read gives the same fields and payload back.
  */
 HUB_ANSWER_MATTERS
 uint8_t hub_write(const uint64_t *fields, size_t fields_n, const uint8_t *chain, size_t chain_n, const uint8_t *payload, size_t payload_n,
@@ -374,7 +374,7 @@ uint8_t hub_open(uint64_t fragment_size, uint8_t *state, size_t state_n);
  *           HUB_AGAIN and HUB_REPEAT state too. The first bytes of working hold the opened sealed part of a sealed message.
  * On refusal state, report and answer are as they were. So is working for 1 to 13, 24 and 25; for the others its first bytes hold the opened
  *           sealed part of a sealed message.
- * Proved    StepExact, LeavesAlone, WorkingBuffer, RepeatedStep, OnlyWhatCame, HandedOut, NotBetween.
+ * Proved    StepExact, LeavesAlone, WorkingBuffer, StepsByState, RepeatedStep, HeardCount, DemandThree.
  */
 HUB_ANSWER_MATTERS
 uint8_t hub_step(uint8_t *state, size_t state_n, const uint8_t *message, size_t message_n, const uint8_t *keys, size_t keys_n, uint8_t *working,
