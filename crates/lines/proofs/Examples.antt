@@ -2,7 +2,6 @@
 use mathlib.Core.Path.{_≡_, refl}
 use mathlib.Core.List.{[]}
 use mathlib.Core.Bool.{true}
-use Rattle.laws.specs.Rows.{first}
 use Rattle.wire.specs.Examples.{p1}
 use Rattle.wire.specs.Chain.{entryOf, chain, mostEntries, readChain}
 use Rattle.wire.specs.Fields.{badKind, badFlags, badPiece, mostPieces, isSealed, tagSize}

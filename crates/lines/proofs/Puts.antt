@@ -1,13 +1,12 @@
 -- A text that is put, with room and without. Assumes nothing.
 use Prim.Native.Nat.{ℕ, _+_, _≤_, _<_}
 use mathlib.Core.Path.{_≡_, refl}
-use mathlib.Core.List.{List, [], _∷_, _++_}
-use native.Mathlib.Omega.{arith}
+use mathlib.Core.List.{List, [], _∷_}
 use borrow.Author.Tests.{lt-ltb, le-ltb}
 use lib.ListN.{length, set}
 use lib.Seq.{sets}
 use Rattle.laws.proofs.Stores.{stored-twice}
-use Rattle.lines.specs.Text.{digits, places, field, named, put, putEnd}
+use Rattle.lines.specs.Text.{digits, places, field, put, putEnd}
 use Rattle.lines.proofs.Digits.{length-digits}
 
 module _ (need at : ℕ) (text out : List ℕ) where

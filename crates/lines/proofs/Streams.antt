@@ -4,14 +4,13 @@ use mathlib.Core.Path.{_≡_, refl}
 use mathlib.Core.List.{List}
 use mathlib.Core.Bool.{Bool, true, false, not, cond}
 use native.Mathlib.Omega.{arith}
-use borrow.Author.Tests.{leb-true, leb-false, ltb-false}
+use borrow.Author.Tests.{leb-true}
 use lib.ListN.{length}
 use lib.Dec.{ltb, leb, eqb}
 use Rattle.laws.specs.Bytes.{be8, be16}
 use Rattle.laws.proofs.Numbers.{be16-below}
 use Rattle.wire.specs.Reader.{wanted}
 use Rattle.lines.specs.Stream.{ahead}
-use Rattle.lines.specs.declared.stream.Next.{Next}
 use Rattle.lines.specs.declared.stream.Next.the-variants.{Message, More, End}
 
 either : (b : Bool) (x y n : ℕ) → x < n → y < n → cond b x y < n

@@ -1,7 +1,6 @@
 // Text that is put into a buffer at a place: numbers in decimal, and a name with a number.
 use super::places::places;
 ghost use mathlib.Core.Path.{_≡_};
-ghost use mathlib.Core.List.{_∷_, []};
 ghost use Prim.Native.Nat.{_+_, _%_, _≤_};
 ghost use lib.ListN.{length};
 ghost use lib.Dec.{ltb};

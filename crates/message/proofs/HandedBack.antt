@@ -2,25 +2,24 @@
 -- Assumes nothing.
 use Prim.Native.Nat.{ℕ, _+_, _-_, _≤_, _<_}
 use mathlib.Core.Path.{_≡_, refl, sym, ap, _∙_}
-use mathlib.Core.List.{List, _++_}
-use mathlib.Core.Bool.{Bool, true, false}
+use mathlib.Core.List.{List}
+use mathlib.Core.Bool.{true, false}
 use native.Mathlib.Omega.{arith}
 use borrow.Author.Tests.{le-ltb}
 use lib.ListN.{length, take, drop}
 use Rattle.laws.specs.Bytes.{be32}
 use Rattle.wire.specs.Fields.{isSealed}
-use Rattle.wire.specs.Reader.{readHeader}
 use Rattle.wire.specs.declared.header.Header.{Header}
 use Rattle.seal.specs.Padding.{sealedSize, payloadOf}
 use Rattle.seal.specs.Opening.{openRefusal, openedInto}
 use Rattle.seal.proofs.ByteLists.{AllBytes}
 use Rattle.seal.proofs.Padded.{told-plainText}
-use Rattle.seal.proofs.Accepted.{Accepted, accepted, told-after, fits-after, payload-after}
-use Rattle.message.specs.Handed.{partOf, payload}
+use Rattle.seal.proofs.Accepted.{accepted, told-after, fits-after, payload-after}
+use Rattle.message.specs.Handed.{payload}
 use Rattle.message.specs.Reading.{opened, workingAfter}
-use Rattle.message.specs.Writing.{finishedLength, lengthOf, writeRefusal, messageBytes}
+use Rattle.message.specs.Writing.{finishedLength, writeRefusal, messageBytes}
 use Rattle.message.proofs.Handing.{whole, of-working, of-message}
-use Rattle.message.proofs.Written.{Allowed, allowed}
+use Rattle.message.proofs.Written.{allowed}
 use Rattle.message.proofs.WrittenLengths.{length-messageBytes}
 use Rattle.message.proofs.WrittenBack.{payload-plain, sealed-header, opened-written, payload-sealed, opens}
 use Rattle.message.specs.Widths.{InWidth}

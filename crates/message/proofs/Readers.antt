@@ -1,18 +1,16 @@
 -- The way through the reader: each return is the row that led there. Assumes nothing.
 use Prim.Native.Nat.{ℕ, _+_, _-_, _≤_}
-use mathlib.Core.Path.{_≡_, refl, sym, ap, _∙_}
+use mathlib.Core.Path.{_≡_, sym, ap, _∙_}
 use mathlib.Core.List.{List}
-use mathlib.Core.Bool.{Bool, true, false, cond}
+use mathlib.Core.Bool.{Bool, true, false}
 use native.Mathlib.Omega.{arith}
 use lib.ListN.{length, take, drop}
-use lib.Dec.{eqb}
-use borrow.Author.Tests.{eq-eqb, ne-eqb}
+use borrow.Author.Tests.{ne-eqb}
 use Rattle.laws.specs.Bytes.{be32}
-use Rattle.wire.specs.Fields.{isSealed, tagSize}
+use Rattle.wire.specs.Fields.{isSealed}
 use Rattle.wire.specs.Payload.{badPayload}
 use Rattle.wire.specs.Reader.{readHeader}
 use Rattle.wire.specs.declared.header.Header.{Header}
-use Rattle.wire.specs.declared.header.HeaderRead.{HeaderRead}
 use Rattle.wire.specs.declared.header.HeaderRead.the-variants as head
 use Rattle.wire.proofs.Sound.{read-sound}
 use Rattle.seal.specs.Padding.{payloadOf}

@@ -1,26 +1,20 @@
 -- What the writer wrote the reader reads back: the same fields, and the payload's bytes where it says they are. Assumes nothing.
-use Prim.Native.Nat.{ℕ, _+_, _-_, _%_, _≤_, _<_}
-use mathlib.Core.Path.{_≡_, refl, sym, ap, _∙_}
-use mathlib.Core.List.{List, [], _∷_, _++_, append-assoc, append-nil}
+use Prim.Native.Nat.{ℕ, _+_, _≤_, _<_}
+use mathlib.Core.Path.{_≡_, sym, ap, _∙_}
+use mathlib.Core.List.{List, [], _++_, append-assoc, append-nil}
 use mathlib.Core.Bool.{Bool, true, false, cond, true≢false}
 use native.Mathlib.Omega.{arith}
-use borrow.Author.Tests.{eq-eqb}
 use lib.ListN.{length, take, drop, length-append}
-use lib.Seq.{take-at, drop-at, take-length}
-use lib.Dec.{eqb}
-use Rattle.laws.specs.Bytes.{be32, bytes16, bytes32, bytes64}
-use Rattle.laws.specs.Rows.{first, orElse}
-use Rattle.wire.specs.Refusals.{wrongPayload}
-use Rattle.wire.specs.Fields.{isSealed, tagSize}
+use lib.Seq.{drop-at, take-length}
+use Rattle.wire.specs.Fields.{isSealed}
 use Rattle.wire.specs.Payload.{badPayload}
 use Rattle.wire.specs.Reader.{readHeader}
 use Rattle.wire.specs.Writer.{headerBytes}
 use Rattle.wire.specs.declared.header.Header.{Header}
-use Rattle.wire.specs.declared.header.HeaderRead.{HeaderRead}
 use Rattle.wire.specs.declared.header.HeaderRead.the-variants as head
 use Rattle.wire.proofs.Chains.{chain-long}
 use Rattle.wire.proofs.Sound.{sealed-tag, plain-tag}
-use Rattle.wire.proofs.ReadBack.{Accepted, size, message, read-back}
+use Rattle.wire.proofs.ReadBack.{size, message, read-back}
 use Rattle.aes.specs.Key.{expandKey}
 use Rattle.aes.specs.Cbc.{cbcEncrypt}
 use Rattle.seal.specs.Keys.{encryptionKey, vector, tagOf}
@@ -31,9 +25,8 @@ use Rattle.seal.proofs.ByteLists.{AllBytes, append-bytes, cons-bytes, nil-bytes
 use Rattle.seal.proofs.Padded.{sealedSize-blocks, told-plainText, payload-plainText}
 use Rattle.seal.proofs.Seals.{length-sealed, length-tag}
 use Rattle.seal.proofs.Unsealed.{in-parts, opened-back, opens-back}
-use Rattle.message.specs.declared.reading.MessageRead.{MessageRead}
 use Rattle.message.specs.declared.reading.MessageRead.the-variants.{Read}
-use Rattle.message.specs.Reading.{opened, plainRead, sealedRead, behindHeader, readMessage}
+use Rattle.message.specs.Reading.{opened, plainRead, sealedRead, readMessage}
 use Rattle.message.specs.Writing.{finishedLength, lengthOf, writeRefusal, beforePayload, messageBytes}
 use Rattle.message.proofs.WrittenSizes.{chain-short}
 use Rattle.message.proofs.Written.{Allowed, allowed, length-header, length-short}

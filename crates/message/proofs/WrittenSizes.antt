@@ -1,12 +1,12 @@
 -- A chain that the writer accepts has at most 8 × 257 + 2 bytes, and a payload at most 16,384. Assumes nothing.
-use Prim.Native.Nat.{ℕ, zero, suc, _+_, _-_, _*_, _≤_, _<_}
-use mathlib.Core.Path.{_≡_, refl, sym, _∙_}
+use Prim.Native.Nat.{ℕ, zero, suc, _+_, _*_, _≤_}
+use mathlib.Core.Path.{_≡_, refl, sym}
 use mathlib.Core.Logic.{_⊎_, inl, inr, ⊎-elim}
 use mathlib.Core.List.{List, [], _∷_}
 use mathlib.Core.Bool.{Bool, true, false, cond, not, _&&_, _||_, true≢false}
 use native.Mathlib.Omega.{arith}
 use borrow.Author.Tests.{ltb-false, leb-true, eqb-true, eq-eqb, not-false}
-use lib.ListN.{length, getD, drop, length-drop}
+use lib.ListN.{length, drop, length-drop}
 use lib.Dec.{ltb, leb, eqb}
 use Rattle.laws.specs.Bytes.{be8, be16, be32}
 use Rattle.laws.proofs.Bools.{or-false, and-true, and-false-right}
@@ -15,7 +15,7 @@ use Rattle.wire.specs.Chain.{entryOf, follow, chain, readChain, mostEntries, le
 use Rattle.wire.specs.Payload.{starts, exchanges, isPresenceRequest, isConnectionRequest, isConnectionResponse, isDeviceAuthentication, isDoneRequest, isDoneResponse, hasShape, shapes, isShaped, sealedAs, badPayload}
 use Rattle.wire.specs.declared.chain.Chain.{Chain}
 use Rattle.wire.specs.declared.chain.Entry.{Entry}
-use Rattle.wire.specs.declared.chain.Chain.the-variants.{Leaves, Broken}
+use Rattle.wire.specs.declared.chain.Chain.the-variants.{Broken}
 use Rattle.wire.specs.declared.chain.Entry.the-variants.{End, Spans, Wrong}
 use Rattle.wire.proofs.Sound.{kinds}
 use Rattle.seal.proofs.ByteLists.{AllBytes, drop-bytes}

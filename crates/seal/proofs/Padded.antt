@@ -1,15 +1,15 @@
 -- Laws of the padding rule, for all who seal and open: a change of the rule is proved here and nowhere else. Assumes nothing.
-use Prim.Native.Nat.{ℕ, _+_, _-_, _*_, _/_, _%_, _≤_, _<_, _^_}
-use mathlib.Core.Path.{_≡_, refl, _∙_, ap, ap₂, sym}
-use mathlib.Core.List.{List, _∷_, _++_, []}
+use Prim.Native.Nat.{ℕ, _+_, _-_, _%_, _≤_, _<_, _^_}
+use mathlib.Core.Path.{_≡_, refl, ap}
+use mathlib.Core.List.{List}
 use mathlib.Core.Bool.{Bool, not, true, false, _||_}
 use native.Mathlib.Omega.{arith}
 use native.Mathlib.Nat.{div-add-mod'}
 use lib.Dec.{eqb}
-use lib.ListN.{length, take, drop, getD, replicate, length-append, length-replicate}
+use lib.ListN.{length, take, drop, replicate, length-append, length-replicate}
 use lib.Seq.{drop-drop, getD-take, take-at, drop-at}
-use borrow.Author.Tests.{eq-eqb, ne-eqb, eqb-true}
-use Rattle.laws.specs.Bytes.{be32, bytes32}
+use borrow.Author.Tests.{eq-eqb, eqb-true}
+use Rattle.laws.specs.Bytes.{be32}
 use Rattle.laws.specs.Same.{same}
 use Rattle.laws.proofs.Sames.{same-refl}
 use Rattle.seal.specs.Padding.{padding, sealedSize, paddingBytes, plainText, badPlain, payloadOf, badBlocks}

@@ -1,15 +1,14 @@
 -- The way through `seal`: part and tag, one behind the other, make the sealed message. Assumes nothing.
 use Prim.Native.Nat.{ℕ, _+_, _-_, _%_, _≤_, _<_}
-use mathlib.Core.Path.{_≡_, refl, sym, ap, _∙_}
+use mathlib.Core.Path.{_≡_, refl, sym, _∙_}
 use mathlib.Core.List.{List, [], _∷_, _++_, append-assoc}
 use native.Mathlib.Omega.{arith}
 use borrow.Rule.Slice.PartMut.{putMid}
 use lib.ListN.{length, take, drop, length-append, length-drop}
-use lib.Seq.{sets, sets-eq, length-take-le, take-at, drop-at, drop-drop, take-append-le}
-use borrow.Author.Tests.{lt-ltb, le-ltb, eq-eqb, ne-eqb, ltb-false, eqb-true, not-false}
+use lib.Seq.{sets, sets-eq, length-take-le, take-at, drop-at, drop-drop}
+use borrow.Author.Tests.{eq-eqb, ne-eqb, ltb-false, eqb-true, not-false}
 use lib.Dec.{ltb, eqb}
 use mathlib.Core.Bool.{not, cond}
-use Rattle.laws.specs.Bytes.{bytesAt}
 use Rattle.laws.proofs.Parts.{bytesAt-take}
 use Rattle.laws.proofs.Firsts.{first-quiet}
 use Rattle.sha256.proofs.Lengths.{length-hmac}

@@ -1,23 +1,18 @@
 -- Opening what was sealed gives it back: the tag is over the same bytes, the vector of the same header, and decryption undoes encryption.
 -- Assumes nothing.
-use Prim.Native.Nat.{ℕ, _+_, _-_, _*_, _/_, _%_, _≤_, _<_}
+use Prim.Native.Nat.{ℕ, _+_, _-_, _/_, _%_, _≤_, _<_}
 use mathlib.Core.Path.{_≡_, refl, sym, ap, _∙_}
-use mathlib.Core.List.{List, [], _∷_, _++_, append-assoc}
-use mathlib.Core.Bool.{not}
+use mathlib.Core.List.{List, _++_, append-assoc}
 use native.Mathlib.Omega.{arith}
 use borrow.Author.Tests.{le-ltb, lt-leb, eq-eqb}
-use lib.ListN.{length, take, drop, replicate, length-append, length-drop}
+use lib.ListN.{length, take, drop, length-append, length-drop}
 use lib.Seq.{take-at, drop-at, length-take-le}
-use lib.Dec.{ltb, leb, eqb}
-use Rattle.laws.specs.Bytes.{bytesAt, bytes32}
-use Rattle.laws.specs.Same.{same}
 use Rattle.laws.proofs.Parts.{length-bytesAt}
 use Rattle.laws.proofs.Sames.{same-refl}
 use Rattle.aes.specs.State.{Block}
 use Rattle.aes.specs.Key.{expandKey}
-use Rattle.aes.specs.Cipher.{cipher}
 use Rattle.aes.specs.Cbc.{cbcEncrypt}
-use Rattle.aes.proofs.Schedule.{Keys, expandKey-keys}
+use Rattle.aes.proofs.Schedule.{expandKey-keys}
 use Rattle.aes.proofs.Undo.{cipher-block}
 use Rattle.aes.proofs.Chain.{Blocks, cbcDecrypt-cbcEncrypt}
 use Rattle.seal.specs.Keys.{encryptionKey, vectorKey, vectorBlock, vector, tagOf}

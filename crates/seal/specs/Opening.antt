@@ -1,7 +1,7 @@
 -- Opening: the refusals 10 to 13 of a sealed message whose sealed part starts at a place, and what the working buffer then holds.
 use Prim.Native.Nat.{ℕ, _-_, _%_}
 use mathlib.Core.List.{List, [], _∷_, _++_}
-use mathlib.Core.Bool.{Bool, not, cond, _||_}
+use mathlib.Core.Bool.{not, cond, _||_}
 use lib.ListN.{length, take, drop}
 use lib.Dec.{ltb, leb, eqb}
 use Rattle.laws.specs.Rows.{first, orElse}

@@ -1,5 +1,4 @@
 -- Between two turns the run is that of the definition, with the turns that are left.
-use Prim.Native.Nat.{_≤_}
 use mathlib.Core.Path.{_≡_, refl}
 use native.Mathlib.Omega.{arith}
 use lib.ListN.{length}
@@ -14,34 +13,19 @@ Inv-loop stream ended out₀ run₀ turns₀ out run turns = Reached stream ende
 abbrev μ-loop : tie.MeasureT-loop
 μ-loop stream ended out₀ run₀ turns₀ out run turns = turns
 
-add-turns : tie.Need-add-turns Inv-loop μ-loop
-add-turns c = search needs
-
 loop-holds : tie.Need-loop-holds Inv-loop μ-loop
 loop-holds c = (reached-first _ _ _, refl)
 
 turn-requires : tie.Need-turn-requires Inv-loop μ-loop
 turn-requires c κs = reached-within _ _ _ (c .before .before .before .loop .inv .0)
 
-sub-turns : tie.Need-sub-turns Inv-loop μ-loop
-sub-turns c = search needs
-
-loop-less : tie.Need-loop-less Inv-loop μ-loop
-loop-less c = search needs
-
 loop-again : tie.Need-loop-again Inv-loop μ-loop
 loop-again c =
     let l = c .before .before .before .before .before .before .loop in
     (reached-more _ _ _ (l .inv .0) _ _ (c .before .before .before .before .before .loop-test .taken) (c .before .before .before .before .if1 .taken) (c .before .before .turn .ensures .0) (c .before .before .turn .ensures .1), search needs)
 
-same-length : tie.Need-same-length Inv-loop μ-loop
-same-length c = search needs
-
 returns : tie.Need-returns Inv-loop μ-loop
 returns c = reached-stop _ _ _ (c .before .before .loop .inv .0) (c .if1 .left)
-
-same-length-2 : tie.Need-same-length-2 Inv-loop μ-loop
-same-length-2 c = search needs
 
 returns-2 : tie.Need-returns-2 Inv-loop μ-loop
 returns-2 c = reached-last _ _ _ (c .before .loop .inv .0) (omega arith)
@@ -52,13 +36,13 @@ list-spec =
     (tie.spec
     Inv-loop
     μ-loop
-    add-turns
+    (λ c. search needs)
     loop-holds
     turn-requires
-    sub-turns
-    loop-less
+    (λ c. search needs)
+    (λ c. search needs)
     loop-again
-    same-length
+    (λ c. search needs)
     returns
-    same-length-2
+    (λ c. search needs)
     returns-2)

@@ -1,7 +1,7 @@
 -- Five fields, each where the one before it ends.
 use Prim.Native.Nat.{_+_}
 use mathlib.Core.Path.{_≡_}
-use mathlib.Core.List.{[], _++_}
+use mathlib.Core.List.{_++_}
 use native.Mathlib.Omega.{arith}
 use lib.ListN.{length, length-append}
 use Rattle.laws.proofs.Stores.{run, then}
@@ -10,33 +10,6 @@ use Rattle.lines.specs.Listing.{headerLine}
 use borrow.Author.Needs.{needs}
 use Rattle.lines.proofs.listing.put_header.Statement.{statement}
 use Rattle.lines.proofs.listing.put_header.Tie as tie
-
-cast-put-field : tie.Need-cast-put-field
-cast-put-field c = search needs
-
-put-field-requires : tie.Need-put-field-requires
-put-field-requires c κs = search needs
-
-put-field-requires-2 : tie.Need-put-field-requires-2
-put-field-requires-2 c κs = search needs
-
-cast-put-field-2 : tie.Need-cast-put-field-2
-cast-put-field-2 c = search needs
-
-put-field-requires-3 : tie.Need-put-field-requires-3
-put-field-requires-3 c κs = search needs
-
-cast-put-field-3 : tie.Need-cast-put-field-3
-cast-put-field-3 c = search needs
-
-put-field-requires-4 : tie.Need-put-field-requires-4
-put-field-requires-4 c κs = search needs
-
-put-field-requires-5 : tie.Need-put-field-requires-5
-put-field-requires-5 c κs = search needs
-
-same-length : tie.Need-same-length
-same-length c = search needs
 
 returns : tie.Need-returns
 unfolding headerLine
@@ -65,13 +38,13 @@ pub put-header-spec : {M : Type 1} → statement M
 put-header-spec =
     tie.close
     (tie.spec
-    cast-put-field
-    put-field-requires
-    put-field-requires-2
-    cast-put-field-2
-    put-field-requires-3
-    cast-put-field-3
-    put-field-requires-4
-    put-field-requires-5
-    same-length
+    (λ c. search needs)
+    (λ c κs. search needs)
+    (λ c κs. search needs)
+    (λ c. search needs)
+    (λ c κs. search needs)
+    (λ c. search needs)
+    (λ c κs. search needs)
+    (λ c κs. search needs)
+    (λ c. search needs)
     returns)

@@ -1,5 +1,5 @@
 -- There is room or not; the line goes by the answer.
-use Prim.Native.Nat.{_+_, _≤_, _<_}
+use Prim.Native.Nat.{_+_, _≤_}
 use mathlib.Core.Path.{sym, _∙_}
 use native.Mathlib.Omega.{arith}
 use borrow.Author.Tests.{ltb-true, ltb-false}
@@ -11,38 +11,20 @@ use borrow.Author.Needs.{needs}
 use Rattle.lines.proofs.listing.put_line.Statement.{statement}
 use Rattle.lines.proofs.listing.put_line.Tie as tie
 
-lacks-requires : tie.Need-lacks-requires
-lacks-requires c κs = search needs
-
 returns : tie.Need-returns
 returns c =
     let a = c .before .before .before .args in
     no-room 64 (a .at) (lineOf (a .answer) (a .size)) (a .out .now) (ltb-true _ _ (sym (c .before .lacks .ensures) ∙ c .if1 .taken))
-
-enum-known-answer : tie.Need-enum-known-answer
-enum-known-answer c = search needs
-
-slice-aggregate-put-name : tie.Need-slice-aggregate-put-name
-slice-aggregate-put-name c = search needs
-
-cast-put-name : tie.Need-cast-put-name
-cast-put-name c = search needs
 
 put-name-requires : tie.Need-put-name-requires
 put-name-requires c κs =
     let h : c .before .before .before .before .before .before .before .before .args .at + 64 ≤ length (c .before .before .before .before .before .before .before .before .args .out .now) = ltb-false _ _ (sym (c .before .before .before .before .before .before .lacks .ensures) ∙ c .before .before .before .before .before .if1 .left) in
     omega arith
 
-enum-known-answer-2 : tie.Need-enum-known-answer-2
-enum-known-answer-2 c = search needs
-
 put-header-requires : tie.Need-put-header-requires
 put-header-requires c κs =
     let h : c .before .before .before .before .before .before .before .args .at + 64 ≤ length (c .before .before .before .before .before .before .before .args .out .now) = ltb-false _ _ (sym (c .before .before .before .before .before .lacks .ensures) ∙ c .before .before .before .before .if1 .left) in
     omega arith
-
-same-length : tie.Need-same-length
-same-length c = search needs
 
 returns-2 : tie.Need-returns-2
 unfolding lineOf
@@ -52,9 +34,6 @@ returns-2 c =
     let p = c .before .before .put-name .ensures in
     let r = room 64 (a .at) (named refusedName _) (a .out .now) h in
     rw (c .before .before .before .before .before .before .answer .given .1) (p .0 ∙ r .0, p .1 ∙ r .1)
-
-same-length-2 : tie.Need-same-length-2
-same-length-2 c = search needs
 
 returns-3 : tie.Need-returns-3
 unfolding lineOf
@@ -69,15 +48,15 @@ pub put-line-spec : {M : Type 1} → statement M
 put-line-spec =
     tie.close
     (tie.spec
-    lacks-requires
+    (λ c κs. search needs)
     returns
-    enum-known-answer
-    slice-aggregate-put-name
-    cast-put-name
+    (λ c. search needs)
+    (λ c. search needs)
+    (λ c. search needs)
     put-name-requires
-    enum-known-answer-2
+    (λ c. search needs)
     put-header-requires
-    same-length
+    (λ c. search needs)
     returns-2
-    same-length-2
+    (λ c. search needs)
     returns-3)

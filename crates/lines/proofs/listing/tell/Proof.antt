@@ -1,25 +1,10 @@
 -- The line is put behind what is written.
-use mathlib.Core.Path.{_≡_, sym, _∙_}
+use mathlib.Core.Path.{sym, _∙_}
 use Rattle.lines.specs.Listing.{lineOf}
 use Rattle.lines.proofs.Puts.{room}
 use borrow.Author.Needs.{needs}
 use Rattle.lines.proofs.listing.tell.Statement.{statement}
 use Rattle.lines.proofs.listing.tell.Tie as tie
-
-read-header-requires : tie.Need-read-header-requires
-read-header-requires c κs = search needs
-
-put-line-requires : tie.Need-put-line-requires
-put-line-requires c κs = search needs
-
-is-refused-requires : tie.Need-is-refused-requires
-is-refused-requires c κs = search needs
-
-add-t11 : tie.Need-add-t11
-add-t11 c = search needs
-
-same-length : tie.Need-same-length
-same-length c = search needs
 
 returns : tie.Need-returns
 returns c =
@@ -34,9 +19,9 @@ pub tell-spec : {M : Type 1} → statement M
 tell-spec =
     tie.close
     (tie.spec
-    read-header-requires
-    put-line-requires
-    is-refused-requires
-    add-t11
-    same-length
+    (λ c κs. search needs)
+    (λ c κs. search needs)
+    (λ c κs. search needs)
+    (λ c. search needs)
+    (λ c. search needs)
     returns)

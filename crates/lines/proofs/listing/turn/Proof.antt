@@ -1,6 +1,6 @@
 -- The turn by its cases: no room, and what the stream begins with.
-use Prim.Native.Nat.{_+_, _-_, _≤_, _<_}
-use mathlib.Core.Path.{_≡_, refl, sym, _∙_}
+use Prim.Native.Nat.{_+_, _-_, _≤_}
+use mathlib.Core.Path.{_≡_, sym, _∙_}
 use native.Mathlib.Omega.{arith}
 use borrow.Author.Tests.{ltb-false}
 use lib.ListN.{length, drop}
@@ -12,44 +12,11 @@ use borrow.Author.Needs.{needs}
 use Rattle.lines.proofs.listing.turn.Statement.{statement}
 use Rattle.lines.proofs.listing.turn.Tie as tie
 
-lacks-requires : tie.Need-lacks-requires
-lacks-requires c κs = search needs
-
-stopped-requires : tie.Need-stopped-requires
-stopped-requires c κs = search needs
-
 returns : tie.Need-returns
 returns c =
     let a = c .before .before .before .before .before .args in
     let e = step-full (drop (a .run .read) (a .stream .now)) (a .ended) (length (a .out .now)) (a .run .written) (sym (c .before .before .lacks .ensures) ∙ c .before .if1 .taken) in
     (rw e (c .stopped .ensures), rw e)
-
-sub-ahead : tie.Need-sub-ahead
-sub-ahead c = search needs
-
-part-ahead-start : tie.Need-part-ahead-start
-part-ahead-start c = search needs
-
-part-ahead-end : tie.Need-part-ahead-end
-part-ahead-end c = search needs
-
-ahead-requires : tie.Need-ahead-requires
-ahead-requires c κs = search needs
-
-enum-known-found : tie.Need-enum-known-found
-enum-known-found c = search needs
-
-cast-end : tie.Need-cast-end
-cast-end c = search needs
-
-add-end : tie.Need-add-end
-add-end c = search needs
-
-sub-tell : tie.Need-sub-tell
-sub-tell c = search needs
-
-part-tell-start : tie.Need-part-tell-start
-part-tell-start c = search needs
 
 part-tell-end : tie.Need-part-tell-end
 part-tell-end c =
@@ -63,21 +30,6 @@ tell-requires c κs =
     let found : ahead (drop (a .run .read) (a .stream .now)) (a .ended) ≡ Message (c .before .before .before .found .given .0 .0) = rw part-from at (sym (c .before .before .before .before .before .ahead .ensures) ∙ c .before .before .before .found .given .1) in
     let room : a .run .written + 64 ≤ length (a .out .now) = ltb-false _ _ (sym (c .before .before .before .before .before .before .before .before .lacks .ensures) ∙ c .before .before .before .before .before .before .before .if1 .left) in
     (omega (arith, found-within (a .stream .now) (a .run .read) (c .before .before .before .found .given .0 .0) (a .ended) (omega arith) found), room)
-
-enum-told : tie.Need-enum-told
-enum-told c = search needs
-
-stopped-requires-2 : tie.Need-stopped-requires-2
-stopped-requires-2 c κs = search needs
-
-enum-told-2 : tie.Need-enum-told-2
-enum-told-2 c = search needs
-
-stopped-requires-3 : tie.Need-stopped-requires-3
-stopped-requires-3 c κs = search needs
-
-same-length : tie.Need-same-length
-same-length c = search needs
 
 returns-2 : tie.Need-returns-2
 returns-2 c =
@@ -106,25 +58,25 @@ pub turn-spec : {M : Type 1} → statement M
 turn-spec =
     tie.close
     (tie.spec
-    lacks-requires
-    stopped-requires
+    (λ c κs. search needs)
+    (λ c κs. search needs)
     returns
-    sub-ahead
-    part-ahead-start
-    part-ahead-end
-    ahead-requires
-    enum-known-found
-    cast-end
-    add-end
-    sub-tell
-    part-tell-start
+    (λ c. search needs)
+    (λ c. search needs)
+    (λ c. search needs)
+    (λ c κs. search needs)
+    (λ c. search needs)
+    (λ c. search needs)
+    (λ c. search needs)
+    (λ c. search needs)
+    (λ c. search needs)
     part-tell-end
     tell-requires
-    enum-told
-    stopped-requires-2
-    enum-told-2
-    stopped-requires-3
-    same-length
+    (λ c. search needs)
+    (λ c κs. search needs)
+    (λ c. search needs)
+    (λ c κs. search needs)
+    (λ c. search needs)
     returns-2
     returns-3
     returns-4)

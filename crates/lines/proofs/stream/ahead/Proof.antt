@@ -1,5 +1,4 @@
 -- By the tests. What is taken fits sixteen bits, as MessageLength does.
-use mathlib.Core.Path.{refl}
 use denote.Ref.{now}
 use native.Mathlib.Omega.{arith}
 use borrow.Author.Tests.{lt-leb, eq-eqb, ne-eqb}
@@ -9,9 +8,6 @@ use Rattle.lines.proofs.Streams.{wanted-below}
 use borrow.Author.Needs.{needs}
 use Rattle.lines.proofs.stream.ahead.Statement.{statement}
 use Rattle.lines.proofs.stream.ahead.Tie as tie
-
-wanted-requires : tie.Need-wanted-requires
-wanted-requires c κs = search needs
 
 cast-t6 : tie.Need-cast-t6
 cast-t6 c = omega (arith, c .before .wanted .ensures, wanted-below (now (c .before .before .before .args .stream)) (λ i. c .before .before .shared-slice-known .given i .fits))
@@ -37,4 +33,4 @@ returns-4 c = rw (← c .before .before .before .wanted .ensures, lt-leb _ _ (c 
 
 pub ahead-spec : {M : Type 1} → statement M
 ahead-spec =
-    tie.close (tie.spec wanted-requires cast-t6 returns returns-2 returns-3 cast-t7 returns-4)
+    tie.close (tie.spec (λ c κs. search needs) cast-t6 returns returns-2 returns-3 cast-t7 returns-4)

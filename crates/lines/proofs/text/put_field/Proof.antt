@@ -7,9 +7,6 @@ use Rattle.lines.proofs.Puts.{field-put}
 use Rattle.lines.proofs.text.put_field.Statement.{statement}
 use Rattle.lines.proofs.text.put_field.Tie as tie
 
-places-requires : tie.Need-places-requires
-places-requires c κs = search needs
-
 put-digits-requires : tie.Need-put-digits-requires
 put-digits-requires c κs = omega (arith, few-places (c .before .before .before .args .number))
 
@@ -21,9 +18,6 @@ slice-write-out c = rw (c .before .before .put-digits .ensures, length-sets) (om
 
 add-result : tie.Need-add-result
 add-result c = omega (arith, few-places (c .before .before .before .before .before .before .args .number))
-
-same-length : tie.Need-same-length
-same-length c = search needs
 
 returns : tie.Need-returns
 returns c =
@@ -40,10 +34,10 @@ pub put-field-spec : {M : Type 1} → statement M
 put-field-spec =
     tie.close
     (tie.spec
-    places-requires
+    (λ c κs. search needs)
     put-digits-requires
     add-end
     slice-write-out
     add-result
-    same-length
+    (λ c. search needs)
     returns)

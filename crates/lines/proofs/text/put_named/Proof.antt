@@ -15,12 +15,6 @@ returns c =
     let a = c .before .before .before .args in
     no-room (length (a .name .now) + 11) (a .at) (named (a .name .now) (a .number)) (a .out .now) (omega arith)
 
-sub-lacks : tie.Need-sub-lacks
-sub-lacks c = search needs
-
-lacks-requires : tie.Need-lacks-requires
-lacks-requires c κs = search needs
-
 returns-2 : tie.Need-returns-2
 returns-2 c =
     let a = c .before .before .before .before .before .args in
@@ -33,9 +27,6 @@ put-name-requires c κs =
     let h : a .at + length (a .name .now) ≤ length (a .out .now) - 11 = ltb-false _ _ (sym (c .before .before .lacks .ensures) ∙ c .before .if2 .left) in
     omega arith
 
-same-length : tie.Need-same-length
-same-length c = search needs
-
 returns-3 : tie.Need-returns-3
 returns-3 c =
     let a = c .before .before .before .before .before .before .before .before .before .args in
@@ -46,4 +37,4 @@ returns-3 c =
 pub put-named-spec : {M : Type 1} → statement M
 put-named-spec =
     tie.close
-    (tie.spec returns sub-lacks lacks-requires returns-2 put-name-requires same-length returns-3)
+    (tie.spec returns (λ c. search needs) (λ c κs. search needs) returns-2 put-name-requires (λ c. search needs) returns-3)

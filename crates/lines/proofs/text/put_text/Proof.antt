@@ -9,9 +9,6 @@ use borrow.Author.Needs.{needs}
 use Rattle.lines.proofs.text.put_text.Statement.{statement}
 use Rattle.lines.proofs.text.put_text.Tie as tie
 
-lacks-requires : tie.Need-lacks-requires
-lacks-requires c κs = search needs
-
 returns : tie.Need-returns
 returns c =
     let a = c .before .before .before .before .args in
@@ -29,9 +26,6 @@ add-result c =
     let h : a .at + length (a .text .now) ≤ length (a .out .now) = ltb-false _ _ (sym (c .before .before .before .before .before .lacks .ensures) ∙ c .before .before .before .before .if1 .left) in
     omega arith
 
-same-length : tie.Need-same-length
-same-length c = search needs
-
 returns-2 : tie.Need-returns-2
 returns-2 c =
     let a = c .before .before .before .before .before .before .before .before .args in
@@ -41,4 +35,4 @@ returns-2 c =
 
 pub put-text-spec : {M : Type 1} → statement M
 put-text-spec =
-    tie.close (tie.spec lacks-requires returns put-bytes-requires add-result same-length returns-2)
+    tie.close (tie.spec (λ c κs. search needs) returns put-bytes-requires add-result (λ c. search needs) returns-2)

@@ -1,5 +1,5 @@
 -- By what the header's reader answered. Assumes nothing.
-use mathlib.Core.Path.{_≡_, sym, _∙_}
+use mathlib.Core.Path.{sym, _∙_}
 use Rattle.message.proofs.Readers.{header-refused, plain-fits, read-plainly, read-sealedly}
 use borrow.Author.Needs.{needs}
 use Rattle.message.proofs.reading.read.Statement.{statement}

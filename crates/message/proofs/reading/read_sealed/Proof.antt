@@ -1,6 +1,4 @@
 -- What was opened stands in the working buffer, and its payload is judged there. Assumes nothing.
-use mathlib.Core.Path.{_≡_, sym, ap, _∙_}
-use native.Mathlib.Omega.{arith}
 use Rattle.message.proofs.Readers.{not-opened, payload-fits, sealed-refused, sealed-accepted}
 use borrow.Author.Needs.{needs}
 use Rattle.message.proofs.reading.read_sealed.Statement.{statement}

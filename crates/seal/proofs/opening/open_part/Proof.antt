@@ -1,5 +1,5 @@
 -- Keys and vector are the definition's, so what is judged and written is the opened sealed part. Assumes nothing.
-use mathlib.Core.Path.{_≡_, _∙_, sym}
+use mathlib.Core.Path.{_∙_, sym}
 use Rattle.seal.proofs.Opened.{part-12, part-13, part-opened, opens, judged, decrypted}
 use borrow.Author.Needs.{needs}
 use Rattle.seal.proofs.opening.open_part.Statement.{statement}

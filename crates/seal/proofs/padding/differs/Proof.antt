@@ -1,8 +1,8 @@
 -- Going down from the block's end, the bytes looked at are `drop i block`: one byte more is one `∷` more on both sides of `same`.
 -- Assumes nothing.
-use mathlib.Core.Path.{_≡_, refl}
-use mathlib.Core.Bool.{Bool, not, true, false, _&&_, _||_}
-use Prim.Native.Nat.{ℕ, _≤_, _<_, _-_, suc}
+use mathlib.Core.Path.{_≡_}
+use mathlib.Core.Bool.{not}
+use Prim.Native.Nat.{_≤_, _-_}
 use native.Mathlib.Omega.{arith}
 use borrow.Author.Needs.{needs}
 use lib.ListN.{length, drop, replicate, drop-of-length-le}

@@ -2,7 +2,7 @@
 use native.Mathlib.Omega.{arith}
 use Prim.Native.Nat.{_+_}
 use borrow.Author.Tests.{lt-ltb, le-ltb, eq-eqb, ne-eqb}
-use Rattle.seal.specs.Padding.{sealedSize, padding}
+use Rattle.seal.specs.Padding.{sealedSize}
 use Rattle.seal.specs.Sealed.{sealRefusal}
 use Rattle.seal.proofs.Padded.{padding-le}
 use borrow.Author.Needs.{needs}
