@@ -2,11 +2,10 @@
 use mathlib.Core.Path.{_≡_, sym, ap, _∙_, subst}
 use mathlib.Core.Bool.{Bool}
 use mathlib.Core.List.{List}
-use Prim.Native.Nat.{ℕ, _+_, _%_, _≤_, _<_}
+use Prim.Native.Nat.{ℕ, _+_, _%_, _<_}
 use native.Mathlib.Omega.{arith}
 use lib.Dec.{eqb, eqb→eq, lit<}
-use lib.ListN.{getD, length, take, drop, length-drop}
-use lib.Seq.{length-take-le, getD-take, getD-drop}
+use lib.ListN.{getD, length}
 use Rattle.field.specs.Xor.{xor}
 use Rattle.field.specs.Sbox.{invSbox}
 use Rattle.field.specs.Mix.{row, mixed, unmixed}
@@ -37,12 +36,6 @@ block-is f s e h = sym (run-is 0 f 16 s e (λ i g. sym (h i g)))
 
 pub block-same : (f g : ℕ → ℕ) → ((i : ℕ) → i < 16 → f i ≡ g i) → block f ≡ block g
 block-same f g h = block-is f (block g) (block-length g) (λ i b. h i b ∙ sym (block-at g i b))
-
--- sixteen bytes out of a list
-pub block-cut : (s : List ℕ) (at : ℕ) → at + 16 ≤ length s → block (λ i. getD s (at + i) 0) ≡ take 16 (drop at s)
-block-cut s at h =
-    block-is _ (take 16 (drop at s)) (length-take-le 16 (drop at s) (simp length-drop (omega arith)))
-    (λ i g. sym (getD-take 16 (drop at s) i 0 g ∙ getD-drop at s i 0))
 
 -- ---- AddRoundKey
 

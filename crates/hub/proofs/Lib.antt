@@ -3,4 +3,3 @@ pub mod Hearing
 pub mod Quiet
 pub mod Stepping
 pub mod Layer
-pub mod Refusing

@@ -3,5 +3,4 @@ pub mod Opening
 pub mod Host
 pub mod Hear
 pub mod Step
-pub mod Refusing
 pub mod Calls

@@ -20,7 +20,7 @@ use Rattle.joining.specs.Join.{unlike, turnRows, placeRows, joinRefusal,
 use Rattle.joining.proofs.Heards.{has-none}
 use Rattle.joining.proofs.Refusals.{fitting}
 use Rattle.joining.proofs.Arriving.{mark-known}
-use Rattle.joining.proofs.Courses.{mark-has}
+use Rattle.joining.proofs.Come.{mark-has}
 use Rattle.joining.proofs.Counting.{come-came, tally-come, or-swap}
 use Rattle.joining.specs.Events.{Event, piece, came, howMany}
 

@@ -13,7 +13,8 @@ use Rattle.joining.specs.Heard.{most, bit, tally, come, has, mark}
 use Rattle.joining.proofs.Heards.{come-next, come-mark, come-full, full-come, tally-mark}
 use Rattle.joining.proofs.Coming.{Start, Fair, Lawful, pieceOf, bytesOf}
 use Rattle.joining.proofs.Arriving.{mark-known, mark-lawful}
-use Rattle.joining.proofs.Courses.{setOf, set-has, set-lawful, mark-has, Machine, final, Course, under, began, says-here}
+use Rattle.joining.proofs.Come.{setOf, set-has, set-lawful, mark-has}
+use Rattle.joining.proofs.Courses.{Machine, final, Course, under, began, says-here}
 use Rattle.joining.specs.Events.{Event, piece, came, LastMissing, howMany}
 
 -- A set that has what has come has as many.

@@ -1,14 +1,14 @@
 -- Demand 3 in the abstract: over any machine that joins the pieces of a report and leaves all alone at what comes between, and over any
 -- course of pieces, in any order, with repeats. Assumes nothing.
-use Prim.Native.Nat.{ℕ, _+_, _≤_, _<_}
+use Prim.Native.Nat.{ℕ, _+_, _<_}
 use mathlib.Core.Path.{_≡_, refl, sym, ap, ap₂, _∙_}
 use mathlib.Core.List.{List, [], _∷_}
-use mathlib.Core.Bool.{Bool, true, false, _||_, true≢false}
+use mathlib.Core.Bool.{Bool, true, false, true≢false}
 use native.Mathlib.Omega.{arith}
-use native.Mathlib.Decide.{ℕ-discrete, decLt}
+use native.Mathlib.Decide.{ℕ-discrete}
 use lib.Dec.{eqb}
-use lib.ListN.{length, take, length-set, length-replicate}
-use lib.Seq.{getD-set-same, getD-set-other, ext-getD}
+use lib.ListN.{length, take}
+use lib.Seq.{getD-set-same, getD-set-other}
 use borrow.Author.Tests.{eq-eqb, ne-eqb, eqb-true}
 use Rattle.joining.specs.declared.Progress.{Progress}
 use Rattle.joining.specs.declared.Piece.{Piece}
@@ -17,78 +17,11 @@ use Rattle.joining.specs.declared.Arrival.{Arrival}
 use Rattle.joining.specs.declared.Arrival.the-variants.{Refused, Taken, Repeat, Complete}
 use Rattle.joining.specs.Heard.{most, tally, come, has, mark, none}
 use Rattle.joining.specs.Join.{expecting, join, reportAfter}
-use Rattle.joining.proofs.Heards.{has-none, come-mark, come-full, full-come}
+use Rattle.joining.proofs.Heards.{come-mark, come-full, full-come}
 use Rattle.joining.proofs.Coming.{Start, Fair, Lawful, pieceOf, bytesOf, heldAt, byteAt, bufferAt, listed-length, none-lawful, held-none, buffer-none, whole}
 use Rattle.joining.proofs.Arriving.{mark-lawful, answerAt, arrives}
 use Rattle.joining.specs.Events.{Event, piece, between, came, LastMissing}
-
--- The set of those that have come, from S on.
-abbrev pub marks : List Bool → List Event → List Bool
-marks S [] = S
-marks S (piece i ∷ es) = marks (mark S i) es
-marks S (between ∷ es) = marks S es
-
--- Every piece named is one of n.
-abbrev pub Under : ℕ → List Event → Type 0
-Under n [] = Unit {0}
-Under n (piece i ∷ es) = (i < n) × Under n es
-Under n (between ∷ es) = Under n es
-
-or-true : (b : Bool) → (b || true) ≡ true
-or-true true = refl
-or-true false = refl
-
-or-false : (b : Bool) → (b || false) ≡ b
-or-false true = refl
-or-false false = refl
-
-or-assoc : (a b c : Bool) → ((a || b) || c) ≡ (a || (b || c))
-or-assoc true b c = refl
-or-assoc false b c = refl
-
-pub mark-has : (S : List Bool) (i j : ℕ) → i < length S → has (mark S i) j ≡ (has S j || eqb j i)
-mark-has S i j l = go (ℕ-discrete j i)
-  where
-    go : Dec (j ≡ i) → has (mark S i) j ≡ (has S j || eqb j i)
-    go (yes e) = rw (e, eq-eqb i i refl) (getD-set-same S i true false l ∙ sym (or-true (has S i)))
-    go (no d) = rw (ne-eqb j i d) (getD-set-other S i j true false d ∙ sym (or-false (has S j)))
-
--- The set has what it had and what has come.
-marks-has : (n : ℕ) (S : List Bool) (es : List Event) → n ≤ length S → Under n es → (j : ℕ) → has (marks S es) j ≡ (has S j || came j es)
-marks-has n S [] m u j = sym (or-false (has S j))
-marks-has n S (piece i ∷ es) m u j =
-    marks-has n (mark S i) es (rw (length-set S i true) m) (u .1) j
-    ∙ ap (λ (b : Bool). b || came j es) (mark-has S i j (omega (arith, u .0)))
-    ∙ or-assoc (has S j) (eqb j i) (came j es)
-marks-has n S (between ∷ es) m u j = marks-has n S es m u j
-
-marks-lawful : (s : Start) (f : Fair s) (S : List Bool) → Lawful s S → (es : List Event) → Under (s .count) es → Lawful s (marks S es)
-marks-lawful s f S w [] u = w
-marks-lawful s f S w (piece i ∷ es) u = marks-lawful s f (mark S i) (mark-lawful s f S w i (u .0)) es (u .1)
-marks-lawful s f S w (between ∷ es) u = marks-lawful s f S w es u
-
--- The set of what has come.
-abbrev pub setOf : List Event → List Bool
-setOf es = marks (none most) es
-
-module _ (s : Start) (f : Fair s) where
-  pub set-lawful : (es : List Event) → Under (s .count) es → Lawful s (setOf es)
-  set-lawful es u = marks-lawful s f (none most) (none-lawful s f) es u
-
-  pub set-has : (es : List Event) → Under (s .count) es → (j : ℕ) → has (setOf es) j ≡ came j es
-  set-has es u j =
-      marks-has (s .count) (none most) es (rw (length-replicate most false) (f .cut .most)) u j
-      ∙ ap (λ (b : Bool). b || came j es) (has-none most j)
-
-  -- The set depends on nothing but what has come.
-  pub set-only : (es es′ : List Event) → Under (s .count) es → Under (s .count) es′ → ((j : ℕ) → j < s .count → came j es ≡ came j es′)
-      → setOf es ≡ setOf es′
-  set-only es es′ u u′ e =
-      ext-getD false (setOf es) (setOf es′) (set-lawful es u .long ∙ sym (set-lawful es′ u′ .long)) (λ j h. go j (decLt j (s .count)))
-    where
-      go : (j : ℕ) → Dec (j < s .count) → has (setOf es) j ≡ has (setOf es′) j
-      go j (yes l) = set-has es u j ∙ e j l ∙ sym (set-has es′ u′ j)
-      go j (no l) = set-lawful es u .below j (omega arith) ∙ sym (set-lawful es′ u′ .below j (omega arith))
+use Rattle.joining.proofs.Come.{marks, Under, setOf, set-lawful, set-has, set-only}
 
 -- The machine, as far as demand 3 looks at it: states C, inputs X, answers A.
 pub record Machine (F : ℕ) : Type 1 where

@@ -8,6 +8,7 @@ pub mod Coming
 pub mod Buffers
 pub mod Passing
 pub mod Arriving
+pub mod Come
 pub mod Courses
 pub mod Still
 pub mod Counting

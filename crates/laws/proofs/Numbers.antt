@@ -3,10 +3,10 @@ use Prim.Native.Nat.{ℕ, _+_, _<_}
 use mathlib.Core.Path.{_≡_, subst, _∙_}
 use mathlib.Core.List.{List, _++_}
 use native.Mathlib.Omega.{arith}
-use native.Mathlib.Nat.{add-zero, add-assoc, div-add-mod'}
+use native.Mathlib.Nat.{add-zero, add-assoc}
 use lib.ListN.{length}
 use lib.Seq.{getD-append-add}
-use Rattle.laws.specs.Bytes.{be8, be16, be32, be64, bytes16, bytes32, bytes64}
+use Rattle.laws.specs.Bytes.{be8, be16, be32}
 
 module _ (m : List ℕ) (bytes : (i : ℕ) → be8 m i < 256) where
   pub be16-below : (at : ℕ) → be16 m at < 65536
@@ -14,18 +14,6 @@ module _ (m : List ℕ) (bytes : (i : ℕ) → be8 m i < 256) where
 
   pub be32-below : (at : ℕ) → be32 m at < 4294967296
   be32-below at = omega (arith, be16-below at, be16-below (at + 2))
-
-  pub be64-below : (at : ℕ) → be64 m at < 18446744073709551616
-  be64-below at = omega (arith, be32-below at, be32-below (at + 4))
-
-pub be16-bytes16 : (x : ℕ) (rest : List ℕ) → be16 (bytes16 x ++ rest) 0 ≡ x
-be16-bytes16 x rest = simp div-add-mod'
-
-pub be32-bytes32 : (x : ℕ) (rest : List ℕ) → be32 (bytes32 x ++ rest) 0 ≡ x
-be32-bytes32 x rest = simp div-add-mod'
-
-pub be64-bytes64 : (x : ℕ) (rest : List ℕ) → be64 (bytes64 x ++ rest) 0 ≡ x
-be64-bytes64 x rest = simp div-add-mod'
 
 -- Numbers behind the first part of a list.
 module _ (a b : List ℕ) where

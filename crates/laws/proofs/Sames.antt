@@ -22,9 +22,6 @@ same→eq (x ∷ xs) (y ∷ ys) e =
     let both = and-true (eqb x y) (same xs ys) e in
     ap₂ (λ (z : ℕ) (zs : List ℕ). z ∷ zs) (eqb-true x y (both .0)) (same→eq xs ys (both .1))
 
-pub eq→same : (xs ys : List ℕ) → xs ≡ ys → same xs ys ≡ true
-eq→same xs ys e = rw e (same-refl ys)
-
 pub ne→same : (xs ys : List ℕ) → (xs ≡ ys → ⊥) → same xs ys ≡ false
 ne→same xs ys n = go (same xs ys) refl
   where

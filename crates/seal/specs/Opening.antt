@@ -6,6 +6,7 @@ use lib.ListN.{length, take, drop}
 use lib.Dec.{ltb, leb, eqb}
 use Rattle.laws.specs.Rows.{first, orElse}
 use Rattle.laws.specs.Same.{same}
+use Rattle.wire.specs.Refusals.{tooShort, wrongLength, wrongSealedSize, wrongKeys, wrongTag, shortWorking, wrongPadding}
 use Rattle.aes.specs.Key.{expandKey}
 use Rattle.aes.specs.Cbc.{cbcDecrypt}
 use Rattle.seal.specs.Keys.{encryptionKey, vector, tagOf}
@@ -31,23 +32,23 @@ plainOf keys m sealed = cbcDecrypt (expandKey (encryptionKey keys)) (vector keys
 -- reader of headers has passed.
 unfoldable pub noPart : ℕ → ℕ → ℕ
 noPart given start = first
-    ((1, ltb given 42)
-    ∷ (3, ltb 65535 given)
-    ∷ (9, leb (given - 32) start || not (eqb ((given - 32 - start) % 16) 0))
+    ((tooShort, ltb given 42)
+    ∷ (wrongLength, ltb 65535 given)
+    ∷ (wrongSealedSize, leb (given - 32) start || not (eqb ((given - 32 - start) % 16) 0))
     ∷ [])
 
 -- The table's rows 12 and 13, of a sealed part and a working buffer of `room` bytes.
 unfoldable pub partRefusal : List ℕ → List ℕ → List ℕ → ℕ → ℕ
 partRefusal keys m sealed room = first
-    ((12, ltb room (length sealed))
-    ∷ (13, badPlain (plainOf keys m sealed))
+    ((shortWorking, ltb room (length sealed))
+    ∷ (wrongPadding, badPlain (plainOf keys m sealed))
     ∷ [])
 
 -- The table's rows 10 to 13, the first that applies.
 unfoldable pub openRefusal : List ℕ → List ℕ → ℕ → ℕ → ℕ
 openRefusal keys m start room = orElse (noPart (length m) start) (orElse (first
-    ((10, not (eqb (length keys) 64))
-    ∷ (11, not (same (tagOf keys (bodyOf m)) (tagIn m)))
+    ((wrongKeys, not (eqb (length keys) 64))
+    ∷ (wrongTag, not (same (tagOf keys (bodyOf m)) (tagIn m)))
     ∷ []))
     (partRefusal keys m (sealedPart m start) room))
 

@@ -5,6 +5,7 @@ use mathlib.Core.Bool.{not, cond}
 use lib.ListN.{length, take, drop}
 use lib.Dec.{ltb, eqb}
 use Rattle.laws.specs.Rows.{first}
+use Rattle.wire.specs.Refusals.{tooShort, wrongLength, wrongKeys, noRoom}
 use Rattle.aes.specs.Key.{expandKey}
 use Rattle.aes.specs.Cbc.{cbcEncrypt}
 use Rattle.seal.specs.Keys.{encryptionKey, vector, tagOf}
@@ -22,10 +23,10 @@ sealedMessage keys before payload = sealedBody keys before payload ++ tagOf keys
 -- longest message has 65,535 bytes, so 65,503 may stand before its tag.
 unfoldable pub sealRefusal : ℕ → ℕ → ℕ → ℕ → ℕ
 sealRefusal keys start size room = first
-    ((1, ltb start 42)
-    ∷ (3, ltb 65503 (start + sealedSize size))
-    ∷ (10, not (eqb keys 64))
-    ∷ (22, ltb room (start + sealedSize size + 32))
+    ((tooShort, ltb start 42)
+    ∷ (wrongLength, ltb 65503 (start + sealedSize size))
+    ∷ (wrongKeys, not (eqb keys 64))
+    ∷ (noRoom, ltb room (start + sealedSize size + 32))
     ∷ [])
 
 -- The output afterwards: untouched by a refusal; else the sealed message, and what stood behind it.

@@ -6,7 +6,7 @@ use mathlib.Core.List.{List}
 use mathlib.Core.Bool.{Bool, true, false, not, _&&_, _||_, true≢false}
 use native.Mathlib.Omega.{arith}
 use native.Mathlib.Nat.{mod-lt, zero-lt-suc}
-use borrow.Author.Tests.{ltb-false, leb-false, eqb-true, eqb-false, not-false, eq-eqb, ne-eqb}
+use borrow.Author.Tests.{ltb-false, leb-false, eqb-true, eqb-false, not-false, eq-eqb}
 use lib.ListN.{length}
 use lib.Dec.{ltb, leb, eqb}
 use Rattle.laws.specs.Bytes.{be8, be16}
@@ -49,10 +49,6 @@ module _ (kind index count : ℕ) (e : badPiece kind index count ≡ false) wher
       let z = eqb-false count 0 (tests-of-7 .0) in
       record { some = omega arith; few = ltb-false mostPieces count (tests-of-7 .1); under = leb-false count index (tests-of-7 .2) }
 
-  -- Outside Session there is one piece.
-  pub one-piece : (kind ≡ 4 → ⊥) → count ≡ 1
-  one-piece n = eqb-true count 1 (not-false _ (and-false-right (not (eqb kind 4)) _ (tests-of-7 .3) (rw (ne-eqb kind 4 n))))
-
 module _ (kind flags : ℕ) (e : badFlags kind flags ≡ false) where
   tests-of-6 : (ltb 15 flags ≡ false) × (not (eqb (hmacFlag flags) (encryptedFlag flags)) ≡ false) × ((eqb kind 1 && isSealed flags) ≡ false)
       × ((eqb kind 4 && not (isSealed flags)) ≡ false)
@@ -60,17 +56,8 @@ module _ (kind flags : ℕ) (e : badFlags kind flags ≡ false) where
   tests-of-6 =
       or4-false (ltb 15 flags) (not (eqb (hmacFlag flags) (encryptedFlag flags))) (eqb kind 1 && isSealed flags) (eqb kind 4 && not (isSealed flags)) e
 
-  pub small-flags : flags ≤ 15
-  small-flags = ltb-false 15 flags (tests-of-6 .0)
-
   alike : hmacFlag flags ≡ encryptedFlag flags
   alike = eqb-true (hmacFlag flags) (encryptedFlag flags) (not-false _ (tests-of-6 .1))
-
-  pub discovery-plain : kind ≡ 1 → isSealed flags ≡ false
-  discovery-plain k = and-false-right _ _ (tests-of-6 .2) (eq-eqb kind 1 k)
-
-  pub session-sealed : kind ≡ 4 → isSealed flags ≡ true
-  session-sealed k = not-false _ (and-false-right _ _ (tests-of-6 .3) (eq-eqb kind 4 k))
 
 pub sealed-tag : (flags : ℕ) → isSealed flags ≡ true → tagSize flags ≡ 32
 unfolding isSealed tagSize
@@ -164,21 +151,6 @@ read-sound m h start size r = by (refusalOf m) (eqb (refusalOf m) 0) refl refl
 most : (m : List ℕ) → refusalOf m ≤ 9
 unfolding refusalOf refusalWith rowsOf headerRows
 most m = first-upTo 9 (rowsOf m (headerOf m) (chainOf m)) refl
-
--- The numbers of `read_header` are 1 to 9.
-pub refused-number : (m : List ℕ) (n : ℕ) → readHeader m ≡ Refused n → (1 ≤ n) × (n ≤ 9)
-refused-number m n r = by (refusalOf m) (eqb (refusalOf m) 0) refl refl
-  where
-    by : (k : ℕ) (b : Bool) → refusalOf m ≡ k → eqb k 0 ≡ b → (1 ≤ n) × (n ≤ 9)
-    by k true e p =
-        let g = read-good m (e ∙ eqb-true k 0 p) in
-        let z : _≡_ {A = ℕ} 0 1 = cc in
-        absurd (omega arith)
-    by k false e p =
-        let g = read-refused m k (sym e) (eqb-false k 0 p) in
-        let same : k ≡ n = cc in
-        let some = eqb-false k 0 p in
-        (omega arith, omega (arith, most m))
 
 -- The way through `read_header`: each call answers its part of the definition.
 module _ (m : List ℕ) (h : Header) (tag : ℕ) (k : Chain) (n : ℕ)
