@@ -40,15 +40,6 @@ returns-2 c =
 
 pub advance-spec : {M : Type 1} → statement M
 advance-spec =
-    tie.close
-    (tie.spec
-    (λ c κs. search needs)
-    completes-requires
-    (λ c. search needs)
-    mul-length
-    (λ c. search needs)
-    add-length
-    (λ c. search needs)
-    (λ c κs. search needs)
-    returns
-    returns-2)
+    tie.close (tie.spec
+    (λ c κs. search needs) completes-requires (λ c. search needs) mul-length (λ c. search needs) add-length
+    (λ c. search needs) (λ c κs. search needs) returns returns-2)

@@ -39,16 +39,6 @@ returns-3 c =
 
 pub conflict-spec : {M : Type 1} → statement M
 conflict-spec =
-    tie.close
-    (tie.spec
-    element-copy-out-if1
-    returns
-    (λ c κs. search needs)
-    returns-2
-    (λ c. search needs)
-    (λ c. search needs)
-    (λ c. search needs)
-    (λ c. search needs)
-    (λ c. search needs)
-    (λ c κs. search needs)
-    returns-3)
+    tie.close (tie.spec
+    element-copy-out-if1 returns (λ c κs. search needs) returns-2 (λ c. search needs) (λ c. search needs)
+    (λ c. search needs) (λ c. search needs) (λ c. search needs) (λ c κs. search needs) returns-3)

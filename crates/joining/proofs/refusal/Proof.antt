@@ -107,17 +107,6 @@ returns-6 c =
 
 pub refusal-spec : {M : Type 1} → statement M
 refusal-spec =
-    tie.close
-    (tie.spec
-    (λ c κs. search needs)
-    returns
-    (λ c κs. search needs)
-    returns-2
-    misfit-requires
-    returns-3
-    mul-if4
-    add-if4
-    returns-4
-    conflict-requires
-    returns-5
-    returns-6)
+    tie.close (tie.spec
+    (λ c κs. search needs) returns (λ c κs. search needs) returns-2 misfit-requires returns-3 mul-if4 add-if4
+    returns-4 conflict-requires returns-5 returns-6)

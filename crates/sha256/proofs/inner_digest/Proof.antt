@@ -7,10 +7,4 @@ returns : tie.Need-returns
 returns c = cc
 
 pub inner-digest-spec : {M : Type 1} → statement M
-inner-digest-spec =
-    tie.close
-    (tie.spec
-    (λ c κs. search needs)
-    (λ c. search needs)
-    (λ c κs. search needs)
-    returns)
+inner-digest-spec = tie.close (tie.spec (λ c κs. search needs) (λ c. search needs) (λ c κs. search needs) returns)

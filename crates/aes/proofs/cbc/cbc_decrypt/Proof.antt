@@ -41,15 +41,6 @@ returns-3 c =
 
 pub cbc-decrypt-spec : {M : Type 1} → statement M
 cbc-decrypt-spec =
-    tie.close
-    (tie.spec
-    returns
-    returns-2
-    (λ c κs. search needs)
-    (λ c κs. search needs)
-    (λ c κs. search needs)
-    inverse-keys-requires
-    (λ c κs. search needs)
-    decrypt-blocks-requires
-    (λ c. search needs)
-    returns-3)
+    tie.close (tie.spec
+    returns returns-2 (λ c κs. search needs) (λ c κs. search needs) (λ c κs. search needs) inverse-keys-requires
+    (λ c κs. search needs) decrypt-blocks-requires (λ c. search needs) returns-3)

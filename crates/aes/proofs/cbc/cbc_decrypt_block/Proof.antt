@@ -13,10 +13,4 @@ returns c =
     ∙ one-decrypted (a .keys .now) (a .t3) (search needs) (a .previous)
 
 pub cbc-decrypt-block-spec : {M : Type 1} → statement M
-cbc-decrypt-block-spec =
-    tie.close
-    (tie.spec
-    (λ c. search needs)
-    (λ c. search needs)
-    (λ c κs. search needs)
-    returns)
+cbc-decrypt-block-spec = tie.close (tie.spec (λ c. search needs) (λ c. search needs) (λ c κs. search needs) returns)

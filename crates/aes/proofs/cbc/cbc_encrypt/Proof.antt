@@ -28,14 +28,6 @@ returns-3 c =
 
 pub cbc-encrypt-spec : {M : Type 1} → statement M
 cbc-encrypt-spec =
-    tie.close
-    (tie.spec
-    returns
-    returns-2
-    (λ c κs. search needs)
-    (λ c. search needs)
-    (λ c. search needs)
-    (λ c. search needs)
-    (λ c κs. search needs)
-    (λ c. search needs)
-    returns-3)
+    tie.close (tie.spec
+    returns returns-2 (λ c κs. search needs) (λ c. search needs) (λ c. search needs) (λ c. search needs)
+    (λ c κs. search needs) (λ c. search needs) returns-3)

@@ -23,12 +23,6 @@ returns-2 c =
 
 pub cbc-encrypt-in-place-spec : {M : Type 1} → statement M
 cbc-encrypt-in-place-spec =
-    tie.close
-    (tie.spec
-    returns
-    (λ c κs. search needs)
-    (λ c κs. search needs)
-    (λ c κs. search needs)
-    encrypt-buffer-requires
-    (λ c. search needs)
-    returns-2)
+    tie.close (tie.spec
+    returns (λ c κs. search needs) (λ c κs. search needs) (λ c κs. search needs) encrypt-buffer-requires
+    (λ c. search needs) returns-2)

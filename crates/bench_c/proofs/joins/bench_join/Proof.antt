@@ -22,11 +22,4 @@ returns-2 c =
     rw (← (k .before .not-one .ensures), k .if1 .left) (c .before .before .join-all .ensures)
 
 pub bench-join-spec : {M : Type 1} → statement M
-bench-join-spec =
-    tie.close
-    (tie.spec
-    (λ c κs. search needs)
-    returns
-    join-all-requires
-    (λ c. search needs)
-    returns-2)
+bench-join-spec = tie.close (tie.spec (λ c κs. search needs) returns join-all-requires (λ c. search needs) returns-2)

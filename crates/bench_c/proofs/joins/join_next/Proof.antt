@@ -13,10 +13,5 @@ returns c = rw (← (c .before .before .before .before .part-at .ensures)) (c .b
 
 pub join-next-spec : {M : Type 1} → statement M
 join-next-spec =
-    tie.close
-    (tie.spec
-    mul-part-at
-    (λ c κs. search needs)
-    (λ c κs. search needs)
-    (λ c. search needs)
-    returns)
+    tie.close (tie.spec
+    mul-part-at (λ c κs. search needs) (λ c κs. search needs) (λ c. search needs) returns)

@@ -52,14 +52,6 @@ returns-2 c =
 
 pub hub-step-spec : {M : Type 1} → statement M
 hub-step-spec =
-    tie.close
-    (tie.spec
-    returns
-    decode-requires
-    (λ c κs. search needs)
-    settle-requires
-    (λ c. search needs)
-    (λ c. search needs)
-    (λ c. search needs)
-    (λ c. search needs)
-    returns-2)
+    tie.close (tie.spec
+    returns decode-requires (λ c κs. search needs) settle-requires (λ c. search needs) (λ c. search needs)
+    (λ c. search needs) (λ c. search needs) returns-2)

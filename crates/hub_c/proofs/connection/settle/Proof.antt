@@ -36,12 +36,6 @@ returns-2 c =
 
 pub settle-spec : {M : Type 1} → statement M
 settle-spec =
-    tie.close
-    (tie.spec
-    (λ c κs. search needs)
-    returns
-    encode-requires
-    put-triple-requires
-    (λ c. search needs)
-    (λ c. search needs)
+    tie.close (tie.spec
+    (λ c κs. search needs) returns encode-requires put-triple-requires (λ c. search needs) (λ c. search needs)
     returns-2)

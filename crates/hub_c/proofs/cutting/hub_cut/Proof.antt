@@ -43,15 +43,6 @@ returns-3 c =
 
 pub hub-cut-spec : {M : Type 1} → statement M
 hub-cut-spec =
-    tie.close
-    (tie.spec
-    returns
-    (λ c κs. search needs)
-    (λ c κs. search needs)
-    (λ c. search needs)
-    returns-2
-    mul-from
-    (λ c κs. search needs)
-    (λ c κs. search needs)
-    (λ c. search needs)
-    returns-3)
+    tie.close (tie.spec
+    returns (λ c κs. search needs) (λ c κs. search needs) (λ c. search needs) returns-2 mul-from
+    (λ c κs. search needs) (λ c κs. search needs) (λ c. search needs) returns-3)

@@ -45,14 +45,6 @@ returns-2 c =
 
 pub hub-list-spec : {M : Type 1} → statement M
 hub-list-spec =
-    tie.close
-    (tie.spec
-    returns
-    (λ c κs. search needs)
-    (λ c κs. search needs)
-    (λ c κs. search needs)
-    put-length-requires
-    (λ c κs. search needs)
-    (λ c. search needs)
-    (λ c. search needs)
-    returns-2)
+    tie.close (tie.spec
+    returns (λ c κs. search needs) (λ c κs. search needs) (λ c κs. search needs) put-length-requires
+    (λ c κs. search needs) (λ c. search needs) (λ c. search needs) returns-2)

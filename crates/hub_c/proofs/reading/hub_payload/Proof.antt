@@ -72,20 +72,7 @@ returns-4 c =
 
 pub hub-payload-spec : {M : Type 1} → statement M
 hub-payload-spec =
-    tie.close
-    (tie.spec
-    returns
-    (λ c κs. search needs)
-    (λ c κs. search needs)
-    (λ c κs. search needs)
-    (λ c κs. search needs)
-    put-triple-requires
-    (λ c. search needs)
-    returns-2
-    (λ c κs. search needs)
-    put-triple-requires-2
-    (λ c. search needs)
-    returns-3
-    put-triple-requires-3
-    (λ c. search needs)
-    returns-4)
+    tie.close (tie.spec
+    returns (λ c κs. search needs) (λ c κs. search needs) (λ c κs. search needs) (λ c κs. search needs)
+    put-triple-requires (λ c. search needs) returns-2 (λ c κs. search needs) put-triple-requires-2 (λ c. search needs)
+    returns-3 put-triple-requires-3 (λ c. search needs) returns-4)

@@ -52,14 +52,6 @@ returns-2 c =
 
 pub hub-write-spec : {M : Type 1} → statement M
 hub-write-spec =
-    tie.close
-    (tie.spec
-    (λ c κs. search needs)
-    returns
-    (λ c κs. search needs)
-    (λ c κs. search needs)
-    (λ c κs. search needs)
-    tell-requires
-    (λ c. search needs)
-    (λ c. search needs)
-    returns-2)
+    tie.close (tie.spec
+    (λ c κs. search needs) returns (λ c κs. search needs) (λ c κs. search needs) (λ c κs. search needs) tell-requires
+    (λ c. search needs) (λ c. search needs) returns-2)

@@ -68,18 +68,6 @@ returns-3 c =
 
 pub join-spec : {M : Type 1} → statement M
 join-spec =
-    tie.close
-    (tie.spec
-    refusal-requires
-    (λ c. search needs)
-    returns
-    mark-requires
-    (λ c. search needs)
-    array-read-if2
-    (λ c. search needs)
-    returns-2
-    mul-store
-    store-requires
-    advance-requires
-    (λ c. search needs)
-    returns-3)
+    tie.close (tie.spec
+    refusal-requires (λ c. search needs) returns mark-requires (λ c. search needs) array-read-if2 (λ c. search needs)
+    returns-2 mul-store store-requires advance-requires (λ c. search needs) returns-3)

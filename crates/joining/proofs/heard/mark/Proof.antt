@@ -93,20 +93,6 @@ returns c =
 
 pub mark-spec : {M : Type 1} → statement M
 mark-spec =
-    tie.close
-    (tie.spec
-    Inv-loop
-    μ-loop
-    sub-turn
-    cast-turn
-    loop-holds
-    array-read-is-heard
-    (λ c. search needs)
-    array-write-next
-    (λ c. search needs)
-    add-all
-    add-turn
-    add-i
-    loop-less
-    loop-again
-    returns)
+    tie.close (tie.spec
+    Inv-loop μ-loop sub-turn cast-turn loop-holds array-read-is-heard (λ c. search needs) array-write-next
+    (λ c. search needs) add-all add-turn add-i loop-less loop-again returns)

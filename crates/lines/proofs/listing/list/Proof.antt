@@ -32,17 +32,6 @@ returns-2 c = reached-last _ _ _ (c .before .loop .inv .0) (omega arith)
 
 pub list-spec : {M : Type 1} → statement M
 list-spec =
-    tie.close
-    (tie.spec
-    Inv-loop
-    μ-loop
-    (λ c. search needs)
-    loop-holds
-    turn-requires
-    (λ c. search needs)
-    (λ c. search needs)
-    loop-again
-    (λ c. search needs)
-    returns
-    (λ c. search needs)
-    returns-2)
+    tie.close (tie.spec
+    Inv-loop μ-loop (λ c. search needs) loop-holds turn-requires (λ c. search needs) (λ c. search needs) loop-again
+    (λ c. search needs) returns (λ c. search needs) returns-2)

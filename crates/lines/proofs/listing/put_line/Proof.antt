@@ -46,17 +46,6 @@ returns-3 c =
 
 pub put-line-spec : {M : Type 1} → statement M
 put-line-spec =
-    tie.close
-    (tie.spec
-    (λ c κs. search needs)
-    returns
-    (λ c. search needs)
-    (λ c. search needs)
-    (λ c. search needs)
-    put-name-requires
-    (λ c. search needs)
-    put-header-requires
-    (λ c. search needs)
-    returns-2
-    (λ c. search needs)
-    returns-3)
+    tie.close (tie.spec
+    (λ c κs. search needs) returns (λ c. search needs) (λ c. search needs) (λ c. search needs) put-name-requires
+    (λ c. search needs) put-header-requires (λ c. search needs) returns-2 (λ c. search needs) returns-3)

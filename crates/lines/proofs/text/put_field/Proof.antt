@@ -32,12 +32,5 @@ returns c =
 
 pub put-field-spec : {M : Type 1} → statement M
 put-field-spec =
-    tie.close
-    (tie.spec
-    (λ c κs. search needs)
-    put-digits-requires
-    add-end
-    slice-write-out
-    add-result
-    (λ c. search needs)
-    returns)
+    tie.close (tie.spec
+    (λ c κs. search needs) put-digits-requires add-end slice-write-out add-result (λ c. search needs) returns)

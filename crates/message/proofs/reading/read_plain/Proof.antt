@@ -12,12 +12,6 @@ returns-2 c = plain-accepted _ _ _ _ _ (c .before .bad-payload .ensures) (c .if1
 
 pub read-plain-spec : {M : Type 1} → statement M
 read-plain-spec =
-    tie.close
-    (tie.spec
-    (λ c. search needs)
-    (λ c. search needs)
-    (λ c. search needs)
-    (λ c. search needs)
-    (λ c κs. search needs)
-    returns
+    tie.close (tie.spec
+    (λ c. search needs) (λ c. search needs) (λ c. search needs) (λ c. search needs) (λ c κs. search needs) returns
     returns-2)

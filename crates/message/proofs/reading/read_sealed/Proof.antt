@@ -41,19 +41,7 @@ returns-3 c =
 
 pub read-sealed-spec : {M : Type 1} → statement M
 read-sealed-spec =
-    tie.close
-    (tie.spec
-    (λ c κs. search needs)
-    (λ c. search needs)
-    returns
-    (λ c κs. search needs)
-    (λ c. search needs)
-    (λ c. search needs)
-    (λ c. search needs)
-    (λ c. search needs)
-    part-bad-payload-end
-    (λ c κs. search needs)
-    (λ c. search needs)
-    returns-2
-    (λ c. search needs)
-    returns-3)
+    tie.close (tie.spec
+    (λ c κs. search needs) (λ c. search needs) returns (λ c κs. search needs) (λ c. search needs) (λ c. search needs)
+    (λ c. search needs) (λ c. search needs) part-bad-payload-end (λ c κs. search needs) (λ c. search needs) returns-2
+    (λ c. search needs) returns-3)

@@ -78,17 +78,6 @@ returns-4 c =
 
 pub open-spec : {M : Type 1} → statement M
 open-spec =
-    tie.close
-    (tie.spec
-    (λ c κs. search needs)
-    returns
-    returns-2
-    wrong-tag-requires
-    returns-3
-    sub-end
-    sub-open-part
-    part-open-part-start
-    (λ c. search needs)
-    open-part-requires
-    (λ c. search needs)
-    returns-4)
+    tie.close (tie.spec
+    (λ c κs. search needs) returns returns-2 wrong-tag-requires returns-3 sub-end sub-open-part part-open-part-start
+    (λ c. search needs) open-part-requires (λ c. search needs) returns-4)

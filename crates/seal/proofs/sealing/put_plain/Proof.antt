@@ -35,16 +35,6 @@ returns c =
 
 pub put-plain-spec : {M : Type 1} → statement M
 put-plain-spec =
-    tie.close
-    (tie.spec
-    (λ c. search needs)
-    (λ c κs. search needs)
-    (λ c κs. search needs)
-    (λ c. search needs)
-    (λ c. search needs)
-    put-requires
-    put-requires-2
-    (λ c. search needs)
-    fill-requires
-    (λ c. search needs)
-    returns)
+    tie.close (tie.spec
+    (λ c. search needs) (λ c κs. search needs) (λ c κs. search needs) (λ c. search needs) (λ c. search needs)
+    put-requires put-requires-2 (λ c. search needs) fill-requires (λ c. search needs) returns)

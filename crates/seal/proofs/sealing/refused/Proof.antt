@@ -72,16 +72,6 @@ returns-7 c =
 
 pub refused-spec : {M : Type 1} → statement M
 refused-spec =
-    tie.close
-    (tie.spec
-    returns
-    returns-2
-    returns-3
-    (λ c. search needs)
-    (λ c κs. search needs)
-    add-end
-    returns-4
-    returns-5
-    (λ c. search needs)
-    returns-6
-    returns-7)
+    tie.close (tie.spec
+    returns returns-2 returns-3 (λ c. search needs) (λ c κs. search needs) add-end returns-4 returns-5
+    (λ c. search needs) returns-6 returns-7)

@@ -33,11 +33,5 @@ returns-2 c =
 
 pub digest-behind-spec : {M : Type 1} → statement M
 digest-behind-spec =
-    tie.close
-    (tie.spec
-    (λ c κs. search needs)
-    (λ c κs. search needs)
-    (λ c κs. search needs)
-    finish-requires
-    returns
-    returns-2)
+    tie.close (tie.spec
+    (λ c κs. search needs) (λ c κs. search needs) (λ c κs. search needs) finish-requires returns returns-2)

@@ -25,15 +25,6 @@ returns-3 c = (
 
 pub gather-spec : {M : Type 1} → statement M
 gather-spec =
-    tie.close
-    (tie.spec
-    (λ c. search needs)
-    returns
-    (λ c. search needs)
-    returns-2
-    (λ c κs. search needs)
-    (λ c. search needs)
-    (λ c κs. search needs)
-    lay-requires
-    (λ c. search needs)
-    returns-3)
+    tie.close (tie.spec
+    (λ c. search needs) returns (λ c. search needs) returns-2 (λ c κs. search needs) (λ c. search needs)
+    (λ c κs. search needs) lay-requires (λ c. search needs) returns-3)

@@ -8,8 +8,7 @@ use Rattle.sha256.proofs.rounds.constants.Tie as tie
 pub constants-spec : {M : Type 1} → statement M
 unfolding K256
 constants-spec =
-    tie.close
-    (tie.spec
+    tie.close (tie.spec
     (λ c. constants-turn _ 0 _ _ _ _ (c .before .pre .0) (c .match .keys1) (refl, refl, refl, refl))
     (λ c. constants-turn _ 1 _ _ _ _ (c .before .pre .0) (c .match .keys2) (refl, refl, refl, refl))
     (λ c. constants-turn _ 2 _ _ _ _ (c .before .pre .0) (c .match .keys3) (refl, refl, refl, refl))

@@ -9,10 +9,4 @@ unfolding roundAt
 returns c = cc
 
 pub round-at-spec : {M : Type 1} → statement M
-round-at-spec =
-    tie.close
-    (tie.spec
-    (λ c. search needs)
-    (λ c. search needs)
-    (λ c κs. search needs)
-    returns)
+round-at-spec = tie.close (tie.spec (λ c. search needs) (λ c. search needs) (λ c κs. search needs) returns)

@@ -13,12 +13,6 @@ returns c = padding-by _ _ _ _ _ (c .before .put64 .ensures) (c .before .before 
 
 pub padding-of-spec : {M : Type 1} → statement M
 padding-of-spec =
-    tie.close
-    (tie.spec
-    (λ c. search needs)
-    (λ c. search needs)
-    (λ c κs. search needs)
-    (λ c. search needs)
-    (λ c. search needs)
-    (λ c κs. search needs)
-    returns)
+    tie.close (tie.spec
+    (λ c. search needs) (λ c. search needs) (λ c κs. search needs) (λ c. search needs) (λ c. search needs)
+    (λ c κs. search needs) returns)

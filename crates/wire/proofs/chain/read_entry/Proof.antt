@@ -38,16 +38,6 @@ returns-6 c = search tests
 
 pub read-entry-spec : {M : Type 1} → statement M
 read-entry-spec =
-    tie.close
-    (tie.spec
-    returns
-    (λ c. search needs)
-    (λ c. search needs)
-    cast-size
-    returns-2
-    returns-3
-    returns-4
-    add-if5
-    returns-5
-    (λ c. search needs)
-    returns-6)
+    tie.close (tie.spec
+    returns (λ c. search needs) (λ c. search needs) cast-size returns-2 returns-3 returns-4 add-if5 returns-5
+    (λ c. search needs) returns-6)

@@ -47,19 +47,6 @@ returns-10 c = rw (← c .before .is-sealed .ensures, ← c .before .before .bef
 
 pub judge-spec : {M : Type 1} → statement M
 judge-spec =
-    tie.close
-    (tie.spec
-    returns
-    returns-2
-    returns-3
-    returns-4
-    (λ c κs. search needs)
-    returns-5
-    (λ c κs. search needs)
-    returns-6
-    (λ c κs. search needs)
-    returns-7
-    returns-8
-    (λ c κs. search needs)
-    returns-9
-    returns-10)
+    tie.close (tie.spec
+    returns returns-2 returns-3 returns-4 (λ c κs. search needs) returns-5 (λ c κs. search needs) returns-6
+    (λ c κs. search needs) returns-7 returns-8 (λ c κs. search needs) returns-9 returns-10)

@@ -22,14 +22,6 @@ returns-2 c = rw (c .leaves .ensures) (accepted _ _ _ _ _ (c .before .before .be
 
 pub read-header-spec : {M : Type 1} → statement M
 read-header-spec =
-    tie.close
-    (tie.spec
-    (λ c κs. search needs)
-    (λ c κs. search needs)
-    chain-of-requires
-    (λ c κs. search needs)
-    returns
-    (λ c κs. search needs)
-    sub-t9
-    sub-t10
-    returns-2)
+    tie.close (tie.spec
+    (λ c κs. search needs) (λ c κs. search needs) chain-of-requires (λ c κs. search needs) returns
+    (λ c κs. search needs) sub-t9 sub-t10 returns-2)

@@ -12,11 +12,5 @@ returns c = let s = c .before .before .before .before .before .before .before .b
 
 pub put-coordinate-spec : {M : Type 1} → statement M
 put-coordinate-spec =
-    tie.close
-    (tie.spec
-    (λ c κs. search needs)
-    (λ c. search needs)
-    (λ c. search needs)
-    (λ c κs. search needs)
-    (λ c. search needs)
-    returns)
+    tie.close (tie.spec
+    (λ c κs. search needs) (λ c. search needs) (λ c. search needs) (λ c κs. search needs) (λ c. search needs) returns)
