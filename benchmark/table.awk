@@ -15,9 +15,22 @@ BEGIN {
         best[key, $3] = $4 + 0
 }
 
+# A whole number with its digits in threes.
+function grouped(n) {
+    n = sprintf("%.0f", n)
+    while (n ~ /[0-9][0-9][0-9][0-9]($|,)/)
+        n = in_threes(n)
+    return n
+}
+
+function in_threes(n,    at) {
+    at = index(n, ",") ? index(n, ",") - 1 : length(n)
+    return substr(n, 1, at - 3) "," substr(n, at - 2)
+}
+
 # A time in nanoseconds, with a decimal where it is short.
 function shown(ns) {
-    return ns < 100 ? sprintf("%.1f", ns) : sprintf("%.0f", ns)
+    return ns < 100 ? sprintf("%.1f", ns) : grouped(ns)
 }
 
 # Ours ÷ theirs in speed, or "" where one was not timed.
@@ -27,13 +40,14 @@ function ratio(operation, size, name) {
     return sprintf("%.2f", best[operation, size, name] / best[operation, size, "ours"])
 }
 
-function goal(text, value, low) {
-    printf "%-74s %.2f, %s\n", text, value, (value >= low ? "met" : sprintf("missed by %.0f %%", 100 * (low - value) / low))
+# A row of the goals: what must not be lower.
+function goal(text, value, low, aim) {
+    printf "| %s | %s%s | %.2f | %s |\n", text, low, aim, value, (value >= low ? "met" : sprintf("missed by %.0f %%", 100 * (low - value) / low))
 }
 
 # The same for what must not cost more.
 function limit(text, value, high) {
-    printf "%-74s %.2f, %s\n", text, value, (value <= high ? "met" : sprintf("missed by %.0f %%", 100 * (value - high) / high))
+    printf "| %s | at most %s | %.2f | %s |\n", text, high, value, (value <= high ? "met" : sprintf("missed by %.0f %%", 100 * (value - high) / high))
 }
 
 function least(operation, size,    i, r, low) {
@@ -52,7 +66,7 @@ function table(    i, k, n, part, line) {
     for (i = 1; i <= rows; i++) {
         split(row[i], part, SUBSEP)
         n = best[row[i], "ours"]
-        line = sprintf("| %s | %s | %s | %s |", part[1], part[2], shown(n), part[1] == "listing" ? "" : sprintf("%.0f", part[2] * 1000 / n))
+        line = sprintf("| %s | %s | %s | %s |", part[1], grouped(part[2]), shown(n), part[1] == "listing" ? "" : grouped(part[2] * 1000 / n))
         for (k = 1; k <= 6; k++)
             line = line " " ((row[i], peer[k]) in best ? sprintf("%s (%s)", shown(best[row[i], peer[k]]), ratio(part[1], part[2], peer[k])) : "") " |"
         print line
@@ -73,7 +87,7 @@ function growth(    i, k, part, slope, far) {
             far = part[1] SUBSEP 16384
             if ((row[i], name) in best) {
                 slope = (best[far, name] - best[row[i], name]) / (16384 - 64)
-                printf " %.0f + %.3f n |", best[row[i], name] - 64 * slope, slope
+                printf " %s + %.3f n |", grouped(best[row[i], name] - 64 * slope), slope
             } else
                 printf " |"
         }
@@ -84,24 +98,26 @@ function growth(    i, k, part, slope, far) {
 function goals(    masked, both, i, many, name) {
     masked = "OpenSSL masked"
     many = split("CBC encryption,CBC decryption,SHA-256,HMAC,seal,open,step", name, ",")
-    goal("CBC encryption, 16 KiB, ÷ OpenSSL masked (goal 1.0)", ratio(name[1], 16384, masked), 1)
-    goal("CBC decryption, 16 KiB, ÷ OpenSSL masked (goal 0.85, aim 1.0)", ratio(name[2], 16384, masked), 0.85)
+    print "| Ratio | goal | here | |"
+    print "|---|---|---|---|"
+    goal("CBC encryption, 16 KiB, ÷ OpenSSL masked", ratio(name[1], 16384, masked), 1)
+    goal("CBC decryption, 16 KiB, ÷ OpenSSL masked", ratio(name[2], 16384, masked), 0.85, ", aim 1")
     for (i = 3; i <= 4; i++) {
-        goal(name[i] ", 16 KiB, ÷ OpenSSL masked (goal 0.8)", ratio(name[i], 16384, masked), 0.8)
-        goal(name[i] ", 16 KiB, ÷ libtomcrypt (goal 1.0)", ratio(name[i], 16384, "libtomcrypt"), 1)
-        goal(name[i] ", 16 KiB, ÷ mbedTLS (goal 1.0)", ratio(name[i], 16384, "mbedTLS"), 1)
+        goal(name[i] ", 16 KiB, ÷ OpenSSL masked", ratio(name[i], 16384, masked), 0.8)
+        goal(name[i] ", 16 KiB, ÷ libtomcrypt", ratio(name[i], 16384, "libtomcrypt"), 1)
+        goal(name[i] ", 16 KiB, ÷ mbedTLS", ratio(name[i], 16384, "mbedTLS"), 1)
     }
     for (i = 5; i <= 6; i++)
-        goal(name[i] ", 16 KiB, ÷ OpenSSL masked (goal 0.9, aim 1.0)", ratio(name[i], 16384, masked), 0.9)
+        goal(name[i] ", 16 KiB, ÷ OpenSSL masked", ratio(name[i], 16384, masked), 0.9, ", aim 1")
     for (i = 1; i <= many; i++)
         if (i < 3 || i == 5 || i == 6)
-            goal(name[i] ", 16 KiB, ÷ the fastest other portable peer (goal 1.0)", least(name[i], 16384), 1)
+            goal(name[i] ", 16 KiB, ÷ the fastest other portable peer", least(name[i], 16384), 1)
     for (i = 1; i <= many; i++)
-        goal(name[i] ", 64 bytes, ÷ OpenSSL masked (goal 1.0)", ratio(name[i], 64, masked), 1)
+        goal(name[i] ", 64 bytes, ÷ OpenSSL masked", ratio(name[i], 64, masked), 1)
     both = best["open", 16384, "ours"] + best["join", 16384, "memcpy"]
-    limit("step, 16 KiB, time ÷ that of open and memcpy (goal at most 1.05)", best["step", 16384, "ours"] / both, 1.05)
-    limit("joining a piece of 16 KiB, time ÷ C (goal at most 1.15)", 1 / ratio("join", 16384, "C"), 1.15)
-    limit("listing, time ÷ C (goal at most 1.5)", 1 / ratio("listing", 200000, "C"), 1.5)
+    limit("step, 16 KiB, time ÷ that of open and memcpy", best["step", 16384, "ours"] / both, 1.05)
+    limit("joining a piece of 16 KiB, time ÷ C", 1 / ratio("join", 16384, "C"), 1.15)
+    limit("listing, time ÷ C", 1 / ratio("listing", 200000, "C"), 1.5)
 }
 
 END {

@@ -1,10 +1,11 @@
+/* SPDX-License-Identifier: MPL-2.0 */
 /*
  * hub.h: the hub of Hlidunsk for C and C++.
  *
  * The library enrols gateways and joins their reports, over the Connected Devices Platform protocol (MS-CDP) as docs/01-scope.md, here called
  * document 01, describes it. Every function below is proved to do exactly what its contract in crates/hub_c says, on every input; the
  * sentences of this header are those contracts in words. What "proved" rests on is in docs/TRUST.md. This header itself is not proved: that
- * it fits the library is tested (tests/boundary), millions of calls against an independent second implementation.
+ * it fits the library is tested (tests/boundary), over a million steps against an independent second implementation.
  *
  *
  * MESSAGES, PIECES, REPORTS
@@ -44,8 +45,9 @@
  *
  *     message   one whole message.
  *     keys      the 64 key bytes. Another size is HUB_WRONG_KEYS, where a message is sealed; a plain message does not look at them.
- *     working   room into which a sealed message is opened: HUB_MOST_SEALED bytes are enough for every message, for a piece of F bytes
- *               F + 19. It holds secrets afterwards: erase it if you must. Its content before a call does not matter.
+ *     working   room into which a sealed message is opened: HUB_MOST_SEALED bytes are enough for every message. A piece of F bytes needs
+ *               F + 19, an enrolment 2,576. It holds secrets afterwards: erase it if you must. Its content before a call does not
+ *               matter.
  *     report    where a report is put together: 64 times F bytes are enough for every report. Leave it alone between steps until the report is
  *               complete: what is in it is compared with pieces that come twice.
  *     out       where a message is written: HUB_MOST_MESSAGE bytes are enough for every message that hub_write makes.
@@ -59,14 +61,14 @@
  * Where a call does not return HUB_DONE every buffer is exactly as it was before, each byte of it, but for what the call's "On refusal" names.
  * A buffer declared const is never changed. What is not named as written is not written.
  *
- * "Proved" names the statement in docs/PROMISES.md, beyond the call's contract, that says the same for a reader. A contract fixes the answer and every byte
- * of every buffer: OneResult and OneOutcome.
+ * "Proved" names the statement in docs/PROMISES.md, beyond the call's contract, that says the same for a reader. A contract fixes the
+ * answer and every byte of every buffer: OneResult and OneOutcome.
  *
  *
  * SECRETS AND TIME
  *
- * hub_hmac and hub_same_tag make no branch and no memory access that depends on the bytes they are given; this is tested with valgrind (tests/memory) and
- * not proved. AES reads tables at places that depend on keys and data, so hub_read, hub_write and hub_step are NOT constant-time: see
+ * hub_hmac and hub_same_tag make no branch and no memory access that depends on the bytes they are given; this is tested with valgrind
+ * (tests/memory) and not proved. AES reads tables at places that depend on keys and data, so hub_read, hub_write and hub_step are NOT constant-time: see
  * docs/SECURITY.md. Copies on the stack are not erased. Stack: see the table in docs/PERFORMANCE.md.
  */
 #ifndef HLIDUNSK_HUB_H
@@ -123,23 +125,24 @@ enum hub_refusal {
     HUB_WRONG_SEALED_SIZE = 9,    /* sealed part empty or no multiple of 16 */
     HUB_WRONG_KEYS = 10,          /* keys not 64 bytes */
     HUB_WRONG_TAG = 11,           /* tag differs */
-    HUB_WORKING_TOO_SHORT = 12,   /* working buffer shorter than the sealed part */
+    HUB_SHORT_WORKING = 12,       /* working buffer shorter than the sealed part */
     HUB_WRONG_PADDING = 13,       /* size or padding not as the rule gives */
     HUB_WRONG_PAYLOAD = 14,       /* Discovery or Connect payload not as document 01 says */
     HUB_NOT_ALLOWED = 15,         /* message not allowed in this state */
     HUB_OTHER_SESSION = 16,       /* state not 0 and another SessionID */
-    HUB_NUMBER_BELOW = 17,        /* SequenceNumber below the expected one */
-    HUB_NUMBER_ABOVE = 18,        /* SequenceNumber above the expected one */
-    HUB_NUMBER_UNUSED = 19,       /* SequenceNumber is 2^32 - 1 */
+    HUB_PAST_SEQUENCE = 17,       /* SequenceNumber below the expected one */
+    HUB_FUTURE_SEQUENCE = 18,     /* SequenceNumber above the expected one */
+    HUB_LAST_SEQUENCE = 19,       /* SequenceNumber is 2^32 - 1 */
     HUB_WRONG_PIECE_SIZE = 20,    /* piece not F bytes and not last; last over F; last empty with count over 1;
                                      in hub_write: Session payload over 16,384 */
-    HUB_UNLIKE_FIRST = 21,        /* count or channel unlike the first piece taken of this message */
+    HUB_UNLIKE_FIRST_PIECE = 21,  /* count or channel unlike the first piece taken of this message */
     HUB_NO_ROOM = 22,             /* F times index + piece length exceeds the report buffer; or out too small */
-    HUB_CONFLICT = 23,            /* index already heard, and the bytes differ from the report buffer's there, or
+    HUB_UNLIKE_REPEAT = 23,       /* index already heard, and the bytes differ from the report buffer's there, or
                                      the length from the one taken */
     HUB_WRONG_FRAGMENT_SIZE = 24, /* F outside 1 to 16,384 */
     HUB_WRONG_VERDICT = 25,       /* verdict not 0 or 1 */
-    HUB_WRONG_BUFFER = 255        /* a buffer of fixed size has another size; not a number of document 01 */
+    HUB_WRONG_BUFFER = 255        /* a buffer of fixed size has another size, or hub_write's SequenceNumber
+                                     more than 32 bits; not a number of document 01 */
 };
 
 /* Places of the words of a header: HUB_FIELDS of them are given to hub_write, HUB_HEADER come from hub_read_header and hub_read. */
@@ -189,8 +192,9 @@ enum hub_answer_word {
 
 /* The kinds of a step's answers. */
 enum hub_kind {
-    HUB_REPLY = 1,   /* send the Connect payload of this type: 1 (Connection Response), 3 (Device Authentication Response),
-                        7 (Authentication Done Response, with Status 0) */
+    HUB_REPLY = 1,   /* send the Connect payload of this type: 1 (Connection Response; Result, nonce and key in it are the caller's),
+                        3 (Device Authentication Response, with the hub's own certificate), 7 (Authentication Done Response, with
+                        Status 0) */
     HUB_AGAIN = 2,   /* the message came before and nothing has changed; send the same reply again */
     HUB_FAILURE = 3, /* the verdict was 0: send Authentication Failure, which the caller makes without hub_write */
     HUB_TAKEN = 4,   /* a new piece is in the report buffer; others are missing */
@@ -278,8 +282,9 @@ uint8_t hub_same_tag(const uint8_t *a, size_t a_n, const uint8_t *b, size_t b_n)
  * header    HUB_HEADER words.
  *
  * Returns   HUB_DONE, HUB_WRONG_BUFFER (header), then 1 to 9 in this order.
- * On done   header holds the fields, and by HUB_FROM and HUB_SIZE where in the message the payload lies or, for a sealed message, its sealed part.
- * Proved    ReaderExact (rows 1 to 9).
+ * On done   header holds the fields, and by HUB_FROM and HUB_SIZE where in the message the payload lies or, for a sealed message, its sealed
+ *           part.
+ * Proved    the contract (`readHeader` in crates/wire/specs/Reader.antt, whose rows are ReaderExact's 1 to 9).
  */
 HUB_ANSWER_MATTERS
 uint8_t hub_read_header(const uint8_t *message, size_t message_n, uint64_t *header, size_t header_n);
@@ -297,7 +302,7 @@ uint8_t hub_read_header(const uint8_t *message, size_t message_n, uint64_t *head
  *           (HUB_SEALED 1). The first bytes of working hold the opened sealed part: payload size (4 bytes), payload, padding; the rest is
  *           unchanged. A plain message leaves all of it unchanged.
  * On refusal 14 of a sealed message working holds the opened sealed part likewise. All else is as it was.
- * Proved    ReaderExact, WorkingBuffer, ReadsBack.
+ * Proved    ReaderExact, ReadsBack; what working holds is the contract (`workingAfter` in crates/message/specs/Reading.antt).
  */
 HUB_ANSWER_MATTERS
 uint8_t hub_read(const uint8_t *message, size_t message_n, const uint8_t *keys, size_t keys_n, uint8_t *working, size_t working_n, uint64_t *header,
@@ -323,7 +328,9 @@ uint8_t hub_payload(const uint8_t *message, size_t message_n, const uint8_t *wor
 /*
  * Writes a message; sealed where both bits of HUB_SEAL are set in its flags.
  *
- * fields    HUB_FIELDS words, see hub_header_word. A word that does not fit its field is refused like a wrong value of it.
+ * fields    HUB_FIELDS words, see hub_header_word. A type, flags, index or count that does not fit its field is refused with
+ *           5, 6 or 7; a SequenceNumber that does not fit is HUB_WRONG_BUFFER. The vector is made of SessionID, SequenceNumber, index and
+ *           count: never give a sender two sealed messages with the same four under the same keys.
  * chain     the additional headers with their end: the two bytes 0, 0 where there are none.
  * payload   the payload. A Session message's is any 0 to 16,384 bytes; the others' have the shapes of document 01.
  * keys      the 64 key bytes; a plain message does not look at them.
@@ -331,7 +338,8 @@ uint8_t hub_payload(const uint8_t *message, size_t message_n, const uint8_t *wor
  *           (payload + 4 rounded up to a multiple of 16). It may overlap no other buffer.
  * length    HUB_LENGTH words.
  *
- * Returns   HUB_DONE, HUB_WRONG_BUFFER (fields or length; a SequenceNumber over 2^32 - 1), then 5, 6, 7, 8, 10 (sealed messages), 14, 20, 22 in this order.
+ * Returns   HUB_DONE, HUB_WRONG_BUFFER (fields or length; a SequenceNumber over 2^32 - 1), then 5, 6, 7, 8, 10 (sealed messages), 14, 20, 22
+ *           in this order.
  * On done   the first length[0] bytes of out are the message; the rest of out is unchanged.
  * Proved    WriterExact; ReadsBack: hub_read gives the same fields and payload back.
  */
@@ -358,12 +366,12 @@ uint8_t hub_open(uint64_t fragment_size, uint8_t *state, size_t state_n);
  *
  * state     HUB_STATE bytes: the connection.
  * message   the message, as it came.
- * keys      the 64 key bytes of this gateway. Until they are agreed on give none (a null pointer, 0): a plain message does not look at them, and a
- *           sealed one is refused with 10.
+ * keys      the 64 key bytes of this gateway. Until they are agreed on give none (a null pointer, 0): a plain message does not look at
+ *           them, and a sealed one is refused with 10.
  * working   at least as long as the message's sealed part.
  * report    the report buffer of this connection.
- * verdict   1 if the certificate that this message may show is accepted, else 0. Only a Device Authentication Request in state 1 looks at it; the caller
- *           reads that message beforehand with hub_read.
+ * verdict   1 if the certificate that this message may show is accepted, else 0. Only a Device Authentication Request in state 1 looks at
+ *           it; the caller reads that message beforehand with hub_read.
  * answer    HUB_ANSWER words.
  *
  * Returns   HUB_DONE, HUB_WRONG_BUFFER (state or answer), then the first that applies of 25; 24; 1 to 9; 10 to 13 (sealed messages); 14; 16; 15;

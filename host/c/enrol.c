@@ -1,3 +1,4 @@
+/* SPDX-License-Identifier: MPL-2.0 */
 /*
  * A gateway enrols with the hub and sends it a report, both sides in one program:
  *
@@ -31,6 +32,10 @@ static void must(uint8_t number, const char *what)
     }
 }
 
+/* Connect messages of both sides are numbered from here on, and reports from 0: the vector is made of the number, and under one set of keys
+   no two sealed messages may share it. (Hub and gateway, two programs, would take a half of these numbers each.) */
+static uint64_t connects = 0x80000000;
+
 /* Writes a message of session 42; answers its length. */
 static size_t write_message(uint64_t type, uint64_t flags, uint64_t index, uint64_t count, const uint8_t *payload, size_t payload_n,
                             uint8_t *out, size_t out_n)
@@ -39,6 +44,7 @@ static size_t write_message(uint64_t type, uint64_t flags, uint64_t index, uint6
 
     fields[HUB_TYPE] = type;
     fields[HUB_FLAGS] = flags;
+    fields[HUB_SEQUENCE] = type == HUB_TYPE_CONNECT ? connects++ : 0;
     fields[HUB_INDEX] = index;
     fields[HUB_COUNT] = count;
     fields[HUB_SESSION] = 42;

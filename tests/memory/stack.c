@@ -161,13 +161,13 @@ static size_t steps(void)
     bytes = most(bytes, measure(do_step, HUB_DONE));
     bytes = most(bytes, measure(do_step, HUB_DONE)); /* Repeat */
     report[F] ^= 1;
-    bytes = most(bytes, measure(do_step, HUB_CONFLICT));
+    bytes = most(bytes, measure(do_step, HUB_UNLIKE_REPEAT));
     prepare(HUB_TYPE_SESSION, HUB_SEAL, 0, 2, F);
     message[60] ^= 1;
     bytes = most(bytes, measure(do_step, HUB_WRONG_TAG));
     message[60] ^= 1;
     bytes = most(bytes, measure(do_step, HUB_DONE)); /* Complete */
-    bytes = most(bytes, measure(do_step, HUB_NUMBER_BELOW));
+    bytes = most(bytes, measure(do_step, HUB_PAST_SEQUENCE));
     return bytes;
 }
 

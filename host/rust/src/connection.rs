@@ -1,7 +1,9 @@
+// SPDX-License-Identifier: MPL-2.0
 //! The hub's side of one gateway's connection, and cutting reports for a gateway's side.
 
 use std::fmt;
 
+use crate::message::key_bytes;
 use crate::{ffi, Keys, Refusal};
 
 /// The most pieces of a report: a report buffer of so many times F bytes is enough for every report.
@@ -67,16 +69,18 @@ impl Connection {
         Ok(Connection(state))
     }
 
-    /// Takes one message that has come in. `accepted` says whether the certificate that it may show
-    /// is accepted. A refusal leaves connection and report buffer as they were.
+    /// Takes one message that has come in. Until keys are agreed on there are none, and a sealed
+    /// message is refused with 10. `accepted` says whether the certificate that it may show is
+    /// accepted. A refusal leaves connection and report buffer as they were.
     pub fn step(
         &mut self,
         message: &[u8],
-        keys: &Keys,
+        keys: Option<&Keys>,
         working: &mut [u8],
         report: &mut [u8],
         accepted: bool,
     ) -> Result<Answer, Refusal> {
+        let keys = key_bytes(keys);
         let mut answer = [0; 3];
         // SAFETY: pointers and lengths are those of slices; the mutable ones overlap no other.
         Refusal::of(unsafe {

@@ -1,3 +1,4 @@
+// SPDX-License-Identifier: MPL-2.0
 //! The functions of include/hub.h, declared once more. A slice is a pointer and a number of elements.
 
 unsafe extern "C" {

@@ -1,3 +1,4 @@
+// SPDX-License-Identifier: MPL-2.0
 //! Digests and tags.
 
 use crate::ffi;

@@ -1,8 +1,9 @@
+// SPDX-License-Identifier: MPL-2.0
 //! A proved hub library for Rust: it enrols gateways and joins their reports over the Connected
 //! Devices Platform protocol (MS-CDP), as the project's document 01 describes it.
 //!
-//! The calls are those of include/hub.h, with types for what C can only ask for: keys are 64 bytes,
-//! a connection is a value, a payload is a part of the buffer in which it lies, and a refusal is an
+//! The calls are those of include/hub.h, with types for what C can only ask for: keys are 64 bytes
+//! or none, a connection is a value, a payload is a part of the buffer in which it lies, and a refusal is an
 //! error with document 01's number. All memory is the caller's; nothing is allocated but the
 //! [`list`]ing's line. Every input is defined behaviour: no call here panics.
 //!
@@ -15,8 +16,8 @@
 //! let (mut working, mut report) = ([0; 256], [0; MOST_PIECES * F]);
 //! let mut message = [0; 256];
 //! let mut take = |header: Header, payload: &[u8], hub: &mut Connection| {
-//!     let length = write(&header, NO_ENTRIES, payload, &keys, &mut message)?;
-//!     hub.step(&message[..length], &keys, &mut working, &mut report, true)
+//!     let length = write(&header, NO_ENTRIES, payload, Some(&keys), &mut message)?;
+//!     hub.step(&message[..length], Some(&keys), &mut working, &mut report, true)
 //! };
 //!
 //! // A gateway enrols by three requests.
@@ -40,7 +41,7 @@
 //! assert_eq!(answer, Answer::Taken { heard: 1 });
 //! let answer = take(session, first.bytes, &mut hub)?;
 //! assert_eq!(answer, Answer::Complete { heard: 2, length: sent.len() });
-//! assert_eq!(take(session, first.bytes, &mut hub), Err(Refusal::NumberBelow));
+//! assert_eq!(take(session, first.bytes, &mut hub), Err(Refusal::PastSequence));
 //! assert_eq!(&report[..sent.len()], sent);
 //! # Ok::<(), Refusal>(())
 //! ```

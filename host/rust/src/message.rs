@@ -1,9 +1,15 @@
+// SPDX-License-Identifier: MPL-2.0
 //! Messages: reading, writing, listing.
 
 use crate::{ffi, Refusal};
 
 /// The 64 key bytes: 16 encryption key, 16 vector key, 32 HMAC key.
 pub type Keys = [u8; 64];
+
+/// No keys are no bytes, under which nothing sealed is read or written: 10.
+pub(crate) fn key_bytes(keys: Option<&Keys>) -> &[u8] {
+    keys.map_or(&[], |keys| keys)
+}
 
 /// The chain with no entries.
 pub const NO_ENTRIES: &[u8] = &[0, 0];
@@ -108,12 +114,13 @@ pub fn read_header(message: &[u8]) -> Result<Framed<'_>, Refusal> {
 }
 
 /// Reads a message: refusals 1 to 14. One that is sealed is opened into the working buffer, which
-/// has to be as long as its sealed part.
+/// has to be as long as its sealed part; without keys it is refused with 10.
 pub fn read<'a>(
     message: &'a [u8],
-    keys: &Keys,
+    keys: Option<&Keys>,
     working: &'a mut [u8],
 ) -> Result<Message<'a>, Refusal> {
+    let keys = key_bytes(keys);
     let mut words = [0; 11];
     // SAFETY: pointers and lengths are those of slices; the mutable ones overlap no other.
     Refusal::of(unsafe {
@@ -147,16 +154,17 @@ pub fn read<'a>(
     Ok(Message { header: Header::from_words(&words), payload })
 }
 
-/// Writes a message at the front of `out` and answers its length: refusals 5, 6, 7, 8, 14, 20, 22.
-/// It is sealed if the header's flags say so. `chain` has its end entry ([`NO_ENTRIES`] is one).
+/// Writes a message at the front of `out` and answers its length: refusals 5, 6, 7, 8, 10, 14, 20,
+/// 22. It is sealed if the header's flags say so, which needs keys. `chain` has its end entry ([`NO_ENTRIES`] is one).
 /// A refusal leaves `out` as it was, a success what is beyond the message.
 pub fn write(
     header: &Header,
     chain: &[u8],
     payload: &[u8],
-    keys: &Keys,
+    keys: Option<&Keys>,
     out: &mut [u8],
 ) -> Result<usize, Refusal> {
+    let keys = key_bytes(keys);
     let fields = header.words();
     let mut length = [0];
     // SAFETY: pointers and lengths are those of slices; the mutable ones overlap no other.

@@ -1,3 +1,4 @@
+// SPDX-License-Identifier: MPL-2.0
 //! Why something is refused.
 
 use std::error::Error;
@@ -25,12 +26,12 @@ pub enum Refusal {
     WrongChain = 8,
     /// Sealed part empty or no multiple of 16.
     WrongSealedSize = 9,
-    /// Keys not 64 bytes. The types of this crate rule it out.
+    /// Keys not 64 bytes: here, no keys.
     WrongKeys = 10,
     /// Tag differs.
     WrongTag = 11,
     /// Working buffer shorter than the sealed part.
-    WorkingTooShort = 12,
+    ShortWorking = 12,
     /// Size or padding not as the rule gives.
     WrongPadding = 13,
     /// Discovery or Connect payload not as document 01 says.
@@ -40,19 +41,19 @@ pub enum Refusal {
     /// State not 0 and another SessionID.
     OtherSession = 16,
     /// SequenceNumber below the expected one.
-    NumberBelow = 17,
+    PastSequence = 17,
     /// SequenceNumber above the expected one.
-    NumberAbove = 18,
+    FutureSequence = 18,
     /// SequenceNumber is 2^32 - 1.
-    NumberUnused = 19,
+    LastSequence = 19,
     /// The piece's size is not that of its place; in the writer: Session payload over 16,384.
     WrongPieceSize = 20,
     /// Count or channel unlike the first piece taken of this message.
-    UnlikeFirst = 21,
+    UnlikeFirstPiece = 21,
     /// The piece leaves the report buffer; or the writer's output is too small.
     NoRoom = 22,
     /// Index already heard, with other bytes or another length.
-    Conflict = 23,
+    UnlikeRepeat = 23,
     /// F outside 1 to 16,384.
     WrongFragmentSize = 24,
     /// Verdict not 0 or 1. The types of this crate rule it out.
@@ -73,18 +74,18 @@ const ALL: [Refusal; 25] = [
     WrongSealedSize,
     WrongKeys,
     WrongTag,
-    WorkingTooShort,
+    ShortWorking,
     WrongPadding,
     WrongPayload,
     NotAllowed,
     OtherSession,
-    NumberBelow,
-    NumberAbove,
-    NumberUnused,
+    PastSequence,
+    FutureSequence,
+    LastSequence,
     WrongPieceSize,
-    UnlikeFirst,
+    UnlikeFirstPiece,
     NoRoom,
-    Conflict,
+    UnlikeRepeat,
     WrongFragmentSize,
     WrongVerdict,
 ];

@@ -47,7 +47,7 @@ fn document_01s_first_examples() {
     let framed = read_header(&message).unwrap();
     assert_eq!((framed.header.message_type, framed.header.count, framed.body), (1, 1, &[0][..]));
     assert_eq!(list(&message).unwrap(), "1 0 0 1 43");
-    assert_eq!(read(&message, &[0; 64], &mut []).unwrap().payload, [0]);
+    assert_eq!(read(&message, None, &mut []).unwrap().payload, [0]);
     assert_eq!(read_header(&message[..42]), Err(Refusal::WrongLength));
     assert_eq!(read_header(&message[..41]), Err(Refusal::TooShort));
     assert_eq!(list(&[]), Err(Refusal::TooShort));
@@ -66,14 +66,15 @@ fn a_written_message_is_read_back() {
         channel: 9,
     };
     let (keys, mut out, mut working) = ([3; 64], [0; 90], [0; 16]);
-    assert_eq!(write(&header, NO_ENTRIES, b"twelve bytes", &keys, &mut out), Ok(90));
-    let message = read(&out, &keys, &mut working).unwrap();
+    assert_eq!(write(&header, NO_ENTRIES, b"twelve bytes", Some(&keys), &mut out), Ok(90));
+    let message = read(&out, Some(&keys), &mut working).unwrap();
     assert_eq!((message.header, message.payload), (header, &b"twelve bytes"[..]));
-    assert_eq!(read(&out, &keys, &mut [0; 15]), Err(Refusal::WorkingTooShort));
-    assert_eq!(read(&out, &[4; 64], &mut [0; 16]), Err(Refusal::WrongTag));
+    assert_eq!(read(&out, Some(&keys), &mut [0; 15]), Err(Refusal::ShortWorking));
+    assert_eq!(read(&out, Some(&[4; 64]), &mut [0; 16]), Err(Refusal::WrongTag));
+    assert_eq!(read(&out, None, &mut [0; 16]), Err(Refusal::WrongKeys));
     let before = out;
-    assert_eq!(write(&header, &[], b"", &keys, &mut out), Err(Refusal::WrongChain));
-    assert_eq!(write(&header, NO_ENTRIES, b"", &keys, &mut out[..89]), Err(Refusal::NoRoom));
+    assert_eq!(write(&header, &[], b"", Some(&keys), &mut out), Err(Refusal::WrongChain));
+    assert_eq!(write(&header, NO_ENTRIES, b"", Some(&keys), &mut out[..89]), Err(Refusal::NoRoom));
     assert_eq!(out, before);
 }
 
@@ -109,7 +110,7 @@ fn opening() {
 fn any_bytes_are_a_connection() {
     for byte in 0..=255 {
         let mut hub = Connection::from_bytes([byte; Connection::SIZE]);
-        let answer = hub.step(&p1(), &[0; 64], &mut [], &mut [], true);
+        let answer = hub.step(&p1(), None, &mut [], &mut [], true);
         assert_eq!(answer, Err(Refusal::WrongFragmentSize));
         assert_eq!(hub.as_bytes(), &[byte; Connection::SIZE]);
     }
@@ -122,5 +123,5 @@ fn refusals_and_their_numbers() {
         assert_eq!(refusal.is_some(), (1..=25).contains(&number));
         assert!(refusal.is_none_or(|refusal| refusal.number() == number));
     }
-    assert_eq!(Refusal::Conflict.to_string(), "refused 23");
+    assert_eq!(Refusal::UnlikeRepeat.to_string(), "refused 23");
 }

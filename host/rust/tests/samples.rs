@@ -49,7 +49,7 @@ fn play(accepted: bool) -> (String, Vec<Vec<u8>>) {
     let (mut lines, mut reports) = (String::new(), Vec::new());
     for message in messages(&sample("capture.bin")) {
         let before = hub;
-        let answer = hub.step(message, &keys(), &mut working, &mut report, accepted);
+        let answer = hub.step(message, Some(&keys()), &mut working, &mut report, accepted);
         if let Ok(Answer::Complete { length, .. }) = answer {
             assert_eq!(before.expected() as usize, reports.len());
             reports.push(report[..length].to_vec());
@@ -105,10 +105,10 @@ fn what_is_read_is_written_to_the_same_bytes() {
         let framed = read_header(&message).unwrap();
         let tag = if framed.header.is_sealed() { 32 } else { 0 };
         let chain = &message[40..message.len() - tag - framed.body.len()];
-        let read = read(&message, &keys, &mut working).unwrap();
+        let read = read(&message, Some(&keys), &mut working).unwrap();
         assert_eq!(read.header, framed.header);
         let mut out = vec![0xEE; MOST_MESSAGE];
-        let length = write(&read.header, chain, read.payload, &keys, &mut out).unwrap();
+        let length = write(&read.header, chain, read.payload, Some(&keys), &mut out).unwrap();
         assert_eq!(out[..length], message[..], "{}", path.display());
         assert!(out[length..].iter().all(|byte| *byte == 0xEE));
         count += 1;

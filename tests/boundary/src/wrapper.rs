@@ -1,5 +1,5 @@
-//! Document 01's calls by the Rust wrapper, host/rust. What its types rule out (keys that are not 64
-//! bytes, another verdict than 0 and 1) is answered by the second implementation.
+//! Document 01's calls by the Rust wrapper, host/rust. What its types rule out (keys that are neither
+//! 64 bytes nor none, another verdict than 0 and 1) is answered by the second implementation.
 
 use hlidunsk as h;
 use second::compare::{Implementation, Piece, Second};
@@ -27,6 +27,11 @@ fn kind(of: h::Header) -> Kind {
     Kind::from_number(of.message_type).expect("a kind")
 }
 
+/// The keys as the wrapper takes them: 64 bytes, or none.
+fn keys_of(keys: &[u8]) -> Option<Option<&h::Keys>> {
+    if keys.is_empty() { Some(None) } else { keys.try_into().ok().map(Some) }
+}
+
 /// Where in `whole` a part of it lies.
 fn place(part: &[u8], whole: &[u8]) -> Option<std::ops::Range<usize>> {
     let start = (part.as_ptr() as usize).checked_sub(whole.as_ptr() as usize)?;
@@ -46,7 +51,7 @@ impl Implementation for Wrapper {
         keys: &[u8],
         working: &mut [u8],
     ) -> Result<Message, Refusal> {
-        let Ok(keys) = keys.try_into() else {
+        let Some(keys) = keys_of(keys) else {
             return Second.read_message(message, keys, working);
         };
         let (start, length) = (working.as_ptr() as usize, working.len());
@@ -69,7 +74,7 @@ impl Implementation for Wrapper {
         keys: &[u8],
         output: &mut [u8],
     ) -> Result<usize, Refusal> {
-        let Ok(keys) = keys.try_into() else {
+        let Some(keys) = keys_of(keys) else {
             return Second.write_message(header, chain, payload, keys, output);
         };
         let Header { message_type, flags, sequence, request, index, count, session, channel } =
@@ -95,7 +100,7 @@ impl Implementation for Wrapper {
         report: &mut [u8],
         verdict: u32,
     ) -> (Connection, Answer) {
-        let (Ok(keys), 0..=1) = (keys.try_into(), verdict) else {
+        let (Some(keys), 0..=1) = (keys_of(keys), verdict) else {
             return Second.step(connection, message, keys, working, report, verdict);
         };
         let mut hub = h::Connection::from_bytes(encode(&connection));
