@@ -26,7 +26,7 @@ pub record SentAgain (x y : Call) : Type 0 where
   pub message : y .message ≡ x .message
   pub keys : y .keys ≡ x .keys
   pub verdict : y .verdict ≤ 1
-  pub room : sealed (x .message) (x .keys) ≡ true → length (sealedPart (x .message) (start (x .message) (x .keys))) ≤ length (y .working)
+  pub room : sealed (x .message) ≡ true → length (sealedPart (x .message) (start (x .message))) ≤ length (y .working)
 
 -- A step answered with a reply; after any course since, the same message gets Again with the same reply, and nothing changes.
 abbrev pub RepeatedStep : Type 0
