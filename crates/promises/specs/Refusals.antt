@@ -112,6 +112,7 @@ anyOf [] = false
 anyOf (row ∷ rows) = row .0 || anyOf rows
 
 module _ (c : Connection) (h : Header) (payload report : List ℕ) (verdict : ℕ) where
+  -- The message is Connect, and such a sentence applies to it.
   abbrev pub enrols : Bool
   enrols = eqb (h .kind) 2 && anyOf (hostRows c (connectType payload) (h .session) (readRequest payload) (digest (certificate payload)) verdict)
 
@@ -186,14 +187,15 @@ module _ (c : Connection) (m keys working report : List ℕ) (verdict : ℕ) whe
   abbrev pub WorkingBuffer : Type 0
   WorkingBuffer = AreBytes m → WorkingRule
 
--- The cutter: "it refuses with 24, then with 7 if the report is longer than 64 × F or i is not under the count".
+-- The cutter's rows: "it refuses with 24, then with 7 if the report is longer than 64 × F or i is not under the count".
 abbrev pub cutTable : ℕ → ℕ → ℕ → List (ℕ × Bool)
 cutTable F bytes i = (24, badSize F) ∷ (7, ltb (F * most) bytes || leb (pieceCount F bytes) i) ∷ []
 
+-- The cutter: "Given exactly when".
 abbrev pub CutterExact : Type 0
 CutterExact = (F bytes i n : ℕ) → (n ≡ 0 → ⊥) → (cutRefusal F bytes i ≡ n) ⇔ leads n (cutTable F bytes i)
 
--- The writer: "5, 6, 7, 8 (a chain given with bytes after its end too), 10 if sealed, 14, 20 (Session payload over 16,384), 22, in that order".
+-- The writer's rows: "5, 6, 7, 8 (a chain given with bytes after its end too), 10 if sealed, 14, 20 (Session payload over 16,384), 22, in that order".
 abbrev pub writerTable : Header → (chain payload : List ℕ) → (keys room : ℕ) → List (ℕ × Bool)
 writerTable h chain payload keys room =
     (5, badKind (h .kind))
@@ -206,6 +208,7 @@ writerTable h chain payload keys room =
     ∷ (22, ltb room (lengthOf h chain payload))
     ∷ []
 
+-- The writer: "Given exactly when".
 abbrev pub WriterExact : Type 0
 WriterExact =
     (h : Header) (chain payload : List ℕ) (keys room n : ℕ) → (n ≡ 0 → ⊥)

@@ -21,11 +21,10 @@ returns-2 c =
     let at-word3 = at-place .before in
     let at-word2 = at-word3 .before in
     let at-word = at-word2 .before in
-    let right = at-word .before .if1 .left in
-    (
+    let right = at-word .before .if1 .left in (
       rw right,
       rw (right, ← at-word .word .ensures, ← at-word2 .word2 .ensures, ← at-word3 .word3 .ensures, ← at-place .place-of .ensures)
-      (at-put .put-triple .ensures),
+          (at-put .put-triple .ensures),
     )
 
 pub hub-payload-spec : {M : Type 1} → statement M
