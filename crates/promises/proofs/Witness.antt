@@ -14,7 +14,7 @@ use Rattle.wire.specs.Chain.{entryOf, chain, mostEntries, readChain, badChain}
 use Rattle.wire.specs.Reader.{headerRows, rowsOf, refusalWith, refusalOf, readHeader}
 use Rattle.message.specs.Reading.{readMessage}
 use Rattle.seal.specs.Padding.{padding, sealedSize}
-use Rattle.seal.proofs.ByteLists.{AllBytes, nil-bytes, cons-bytes}
+use Rattle.laws.proofs.ByteLists.{AllBytes, nil-bytes, cons-bytes}
 use Rattle.joining.specs.Join.{expecting}
 use Rattle.joining.specs.Cut.{badSize, cutRefusal}
 use Rattle.hub.specs.declared.Connection.{Connection}
