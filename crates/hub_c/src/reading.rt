@@ -168,6 +168,38 @@ pub extern "C" fn hub_read(
     )
 }
 
+// A part of one of the two buffers: 0 is the message, 1 the working buffer.
+struct Place {
+    buffer: u64,
+    from: usize,
+    size: usize,
+}
+
+// The place of a payload by the numbers of a header, in a message and a working buffer of so many bytes.
+fn place_of(message: usize, working: usize, which: u64, from: usize, size: usize) -> Place
+    ensures { λ r. ⌜ r .buffer ∷ r .from ∷ r .size ∷ [] ≡ placeOf message working which from size ⌝ }
+{
+    if (which == 0) & !lacks(message, from, size) {
+        return Place {
+            buffer: 0,
+            from,
+            size,
+        };
+    }
+    if (which == 1) & !lacks(working, from, size) {
+        return Place {
+            buffer: 1,
+            from,
+            size,
+        };
+    }
+    Place {
+        buffer: 0,
+        from: 0,
+        size: 0,
+    }
+}
+
 // Where the payload lies of a message that was read: which buffer (0 the message, 1 the working buffer), from where, how many bytes. No number
 // is trusted: what does not fit is 0, 0, 0, the empty part at the message's start.
 #[no_mangle]
@@ -183,17 +215,13 @@ pub extern "C" fn hub_payload(
     if (header.len() != HEADER) | (place.len() != TRIPLE) {
         return WRONG_BUFFER;
     }
-    let which = word(header, 8);
-    let from = word(header, 9) as usize;
-    let size = word(header, 10) as usize;
-    if (which == 0) & !lacks(message.len(), from, size) {
-        put_triple(place, 0, from as u64, size as u64);
-        return 0;
-    }
-    if (which == 1) & !lacks(working.len(), from, size) {
-        put_triple(place, 1, from as u64, size as u64);
-        return 0;
-    }
-    put_triple(place, 0, 0, 0);
+    let found = place_of(
+        message.len(),
+        working.len(),
+        word(header, 8),
+        word(header, 9) as usize,
+        word(header, 10) as usize,
+    );
+    put_triple(place, found.buffer, found.from as u64, found.size as u64);
     0
 }

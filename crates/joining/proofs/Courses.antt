@@ -45,7 +45,6 @@ pub record Machine (F : ℕ) : Type 1 where
   pub answers : (h : Progress) (b : List ℕ) (p : Piece) (bytes : List ℕ) (x : X) → Brings p bytes x
       → says (seat h b) x ≡ answer (join F h p bytes b .answer)
   pub still : (c : C) (x : X) → Quiet (says c x) → next c x ≡ c
-  pub done-complete : (l k : ℕ) → done (answer (Complete l k)) ≡ true
   pub done-taken : (k : ℕ) → done (answer (Taken k)) ≡ false
   pub done-repeat : (k : ℕ) → done (answer (Repeat k)) ≡ false
   pub done-refused : (k : ℕ) → done (answer (Refused k)) ≡ false

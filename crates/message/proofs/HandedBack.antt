@@ -12,7 +12,7 @@ use Rattle.wire.specs.Fields.{isSealed}
 use Rattle.wire.specs.declared.header.Header.{Header}
 use Rattle.seal.specs.Padding.{sealedSize, payloadOf}
 use Rattle.seal.specs.Opening.{openRefusal, openedInto}
-use Rattle.seal.proofs.ByteLists.{AllBytes}
+use Rattle.laws.proofs.ByteLists.{AllBytes}
 use Rattle.seal.proofs.Padded.{told-plainText}
 use Rattle.seal.proofs.Accepted.{accepted, told-after, fits-after, payload-after}
 use Rattle.message.specs.Handed.{payload}

@@ -21,7 +21,7 @@ use Rattle.seal.specs.Keys.{encryptionKey, vector, tagOf}
 use Rattle.seal.specs.Padding.{sealedSize, plainText, payloadOf}
 use Rattle.seal.specs.Opening.{openRefusal}
 use Rattle.seal.specs.Sealed.{sealedBody, sealedMessage}
-use Rattle.seal.proofs.ByteLists.{AllBytes, append-bytes, cons-bytes, nil-bytes, bytes16-bytes, bytes32-bytes, bytes64-bytes}
+use Rattle.laws.proofs.ByteLists.{AllBytes, append-bytes, cons-bytes, nil-bytes, bytes16-bytes, bytes32-bytes, bytes64-bytes}
 use Rattle.seal.proofs.Padded.{sealedSize-blocks, told-plainText, payload-plainText}
 use Rattle.seal.proofs.Seals.{length-sealed, length-tag}
 use Rattle.seal.proofs.Unsealed.{in-parts, opened-back, opens-back}

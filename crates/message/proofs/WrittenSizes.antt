@@ -18,7 +18,7 @@ use Rattle.wire.specs.declared.chain.Entry.{Entry}
 use Rattle.wire.specs.declared.chain.Chain.the-variants.{Broken}
 use Rattle.wire.specs.declared.chain.Entry.the-variants.{End, Spans, Wrong}
 use Rattle.wire.proofs.Sound.{kinds}
-use Rattle.seal.proofs.ByteLists.{AllBytes, drop-bytes}
+use Rattle.laws.proofs.ByteLists.{AllBytes, drop-bytes}
 
 -- An entry that spans bytes of a chain spans at most 257.
 abbrev spansFew : Entry → Type 0

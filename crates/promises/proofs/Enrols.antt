@@ -27,7 +27,7 @@ use Rattle.promises.proofs.ReadBack.{steps-by-state}
 use Rattle.promises.proofs.Writes.{wrote}
 use Rattle.promises.proofs.Witness.{are-bytes}
 use Rattle.message.specs.Widths.{InWidth}
-use Rattle.hub.specs.Calls.{Call, Place}
+use Rattle.hub.specs.Calls.{Call, Standing}
 
 abbrev header : ℕ → Header
 header flags = record { kind = 2; flags = flags; sequence = 0; request = 0; index = 0; count = 1; session = 7; channel = 0 }
@@ -65,7 +65,7 @@ module _ (keys report : List ℕ) (of-keys : AreBytes keys) (whole : length keys
   abbrev callWith : ℕ → List ℕ → Call
   callWith flags bytes = record { message = messageBytes (header flags) end bytes keys; keys = keys; working = replicate 96 0; verdict = 1 }
 
-  abbrev at : Connection → Place
+  abbrev at : Connection → Standing
   at c = record { connection = c; report = report }
 
   -- A Connect message leaves the report buffer alone.
@@ -138,8 +138,8 @@ module _ (keys report : List ℕ) (of-keys : AreBytes keys) (whole : length keys
           device = y;
           finish = z;
           first = p .0;
-          second = ap (λ (s : Place). answer s y) (p .1) ∙ q .0;
-          third = ap (λ (s : Place). answer (after s y) z) (p .1) ∙ ap (λ (s : Place). answer s z) (q .1) ∙ r .0;
+          second = ap (λ (s : Standing). answer s y) (p .1) ∙ q .0;
+          third = ap (λ (s : Standing). answer (after s y) z) (p .1) ∙ ap (λ (s : Standing). answer s z) (q .1) ∙ r .0;
         }
 
 pub can-enrol : CanEnrol

@@ -26,6 +26,7 @@ use Rattle.hub.specs.declared.Stepped.{Stepped}
 use Rattle.hub.specs.declared.Answer.{Answer}
 use Rattle.hub.specs.declared.Answer.the-variants.{Refused, Reply, Again, Failure, Taken, Repeat, Complete}
 use Rattle.hub.specs.Answers.{valuesOf, answerOf, isQuiet}
+use Rattle.hub.proofs.Quiet.{connect-apart}
 use Rattle.hub.specs.Host.{hostRows, firstRow, host, refuse}
 use Rattle.hub.specs.Hear.{certificate, connect, pieceIn, joined, isForeign, joins, heard}
 use Rattle.hub.specs.Step.{afterRead, step}
@@ -101,13 +102,10 @@ module _ (c : Connection) (h : Header) (p b : List ℕ) (v : ℕ) (sized : badSi
   unfolding joinRefusal
   session-number = join-number c (c .size) (c .progress) (pieceIn h) p b ∙ rw (sized, indexed)
 
-  apart : eqb (h .kind) 2 ≡ true → joins c h ≡ false
-  apart e = rw (eqb-true (h .kind) 2 e)
-
   pub heard-number : number (heard c h p b v) ≡ first (hostTable c h p b v)
   unfolding heard
   heard-number =
-      ways (isForeign c h) (eqb (h .kind) 2) (joins c h) _ _ _ _ _ _ _ _ _ _ _ _ refl connect-number (λ j. session-number) refl apart
+      ways (isForeign c h) (eqb (h .kind) 2) (joins c h) _ _ _ _ _ _ _ _ _ _ _ _ refl connect-number (λ j. session-number) refl (connect-apart c h)
 
 module _ (c : Connection) (m keys working report : List ℕ) (v : ℕ) where
   step-ways : (t z : Bool) (r : Stepped) (rows : List (ℕ × Bool)) → ltb 1 v ≡ t → badSize (c .size) ≡ z

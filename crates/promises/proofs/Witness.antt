@@ -14,7 +14,7 @@ use Rattle.wire.specs.Chain.{entryOf, chain, mostEntries, readChain, badChain}
 use Rattle.wire.specs.Reader.{headerRows, rowsOf, refusalWith, refusalOf, readHeader}
 use Rattle.message.specs.Reading.{readMessage}
 use Rattle.seal.specs.Padding.{padding, sealedSize}
-use Rattle.seal.proofs.ByteLists.{AllBytes, nil-bytes, cons-bytes}
+use Rattle.laws.proofs.ByteLists.{AllBytes, nil-bytes, cons-bytes}
 use Rattle.joining.specs.Join.{expecting}
 use Rattle.joining.specs.Cut.{badSize, cutRefusal}
 use Rattle.hub.specs.declared.Connection.{Connection}
@@ -28,7 +28,7 @@ use Rattle.promises.specs.Met.{Typed, Choice, Good, callFor}
 use Rattle.promises.proofs.ReportsJoined.{demand-three}
 use Rattle.promises.proofs.Writes.{can-be-sent}
 use Rattle.joining.specs.Events.{Event, piece, between, came, LastMissing}
-use Rattle.hub.specs.Calls.{Call, Place}
+use Rattle.hub.specs.Calls.{Call, Standing}
 
 -- A list whose elements are tested to be bytes.
 abbrev below : List ℕ → Bool
@@ -102,7 +102,7 @@ refused : (c : Connection) (t : Bool) → isQuiet (cond {A = Stepped} t (refuse 
 refused c true = refl
 refused c false = refl
 
-nothing-refused : (p : Place) → isQuiet (answer p nothing) ≡ true
+nothing-refused : (p : Standing) → isQuiet (answer p nothing) ≡ true
 unfolding step readMessage readHeader refusalOf refusalWith rowsOf headerRows
 nothing-refused p = refused (p .connection) (badSize (p .connection .size))
 

@@ -19,7 +19,7 @@ use Rattle.seal.specs.Keys.{encryptionKey, vectorKey, vectorBlock, vecto
 use Rattle.seal.specs.Padding.{padding, sealedSize, paddingBytes, plainText}
 use Rattle.seal.specs.Opening.{bodyOf, tagIn, sealedPart, plainOf, noPart, partRefusal, openRefusal}
 use Rattle.seal.specs.Sealed.{sealedBody, sealedMessage}
-use Rattle.seal.proofs.ByteLists.{AllBytes, append-bytes, take-bytes, drop-bytes, replicate-bytes, bytesAt-bytes, bytes32-bytes}
+use Rattle.laws.proofs.ByteLists.{AllBytes, append-bytes, take-bytes, drop-bytes, replicate-bytes, bytesAt-bytes, bytes32-bytes}
 use Rattle.seal.proofs.Padded.{padding-le, sealedSize-blocks, length-plainText, plainText-accepted}
 use Rattle.seal.proofs.Seals.{vector-front, length-sealed, length-tag}
 

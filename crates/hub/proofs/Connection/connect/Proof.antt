@@ -1,3 +1,4 @@
+-- The row is that of the payload's type: 0, 2, 6, or none.
 use mathlib.Core.Path.{sym, _∙_}
 use borrow.Author.Tests.{ne-eqb}
 use borrow.Author.Needs.{needs}

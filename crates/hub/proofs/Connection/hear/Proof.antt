@@ -1,3 +1,4 @@
+-- By the way through the tests of 16 and 15 (proofs/Hearing): foreign, Connect, Session in state 3, none of these.
 use mathlib.Core.Path.{_≡_, sym, _∙_}
 use mathlib.Core.Bool.{false}
 use borrow.Author.Tests.{ne-eqb}

@@ -1,3 +1,4 @@
+-- The certificate's place lies in the payload, whatever the payload is.
 use Prim.Native.Nat.{_+_, _≤_}
 use mathlib.Core.Path.{_∙_}
 use native.Mathlib.Nat.{add-sub-cancel-left}

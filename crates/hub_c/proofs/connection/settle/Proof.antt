@@ -14,16 +14,6 @@ returns c =
     let e = at-said-of .said-of .ensures in
     (ap (λ (t : Said). t .refusal) e, (rw (← e, ne-eqb _ _ (c .if1 .taken)), rw (← e, ne-eqb _ _ (c .if1 .taken))))
 
-encode-requires : tie.Need-encode-requires
-encode-requires c κs =
-    let start = c .before .before .before .before .before .before .before in
-    start .pre .0
-
-put-triple-requires : tie.Need-put-triple-requires
-put-triple-requires c κs =
-    let start = c .before .before .before .before .before .before .before .before .before .before .before in
-    start .pre .1
-
 returns-2 : tie.Need-returns-2
 unfolding stateAfter answerAfter
 returns-2 c =
@@ -37,5 +27,4 @@ returns-2 c =
 pub settle-spec : {M : Type 1} → statement M
 settle-spec =
     tie.close (tie.spec
-    (λ c κs. search needs) returns encode-requires put-triple-requires (λ c. search needs) (λ c. search needs)
-    returns-2)
+    (λ c κs. search needs) returns (λ c κs. cc) (λ c κs. cc) (λ c. search needs) (λ c. search needs) returns-2)

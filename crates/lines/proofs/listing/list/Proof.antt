@@ -2,7 +2,7 @@
 use mathlib.Core.Path.{_≡_, refl}
 use native.Mathlib.Omega.{arith}
 use lib.ListN.{length}
-use Rattle.lines.proofs.Steps.{Reached, reached-first, reached-within, reached-more, reached-stop, reached-last}
+use Rattle.lines.proofs.Turns.{Reached, reached-first, reached-within, reached-more, reached-stop, reached-last}
 use borrow.Author.Needs.{needs}
 use Rattle.lines.proofs.listing.list.Statement.{statement}
 use Rattle.lines.proofs.listing.list.Tie as tie

@@ -13,41 +13,41 @@ use Rattle.lines.specs.declared.listing.Listed.{Listed}
 use Rattle.lines.specs.declared.stream.Next.{Next}
 use Rattle.lines.specs.declared.stream.Next.the-variants.{Message, More, End}
 use Rattle.lines.specs.Stream.{ahead}
-use Rattle.lines.specs.Listing.{Step, stops, stepBy, step, Run, begun, behind, turn, manyTurns, list, listed, stepped}
+use Rattle.lines.specs.Listing.{Turn, stops, turnBy, turnAt, Run, begun, behind, turn, manyTurns, list, listed, turned}
 use Rattle.lines.proofs.Streams.{ahead-fits}
 
 module _ (rest : List ℕ) (ended : Bool) (room written : ℕ) where
   -- There is no room for a line.
-  pub step-full : ltb room (written + 64) ≡ true → step rest ended room written ≡ stops false
-  unfolding step
-  step-full e = rw e
+  pub turnAt-full : ltb room (written + 64) ≡ true → turnAt rest ended room written ≡ stops false
+  unfolding turnAt
+  turnAt-full e = rw e
 
   -- There is room.
-  pub step-by : (found : Next) → ltb room (written + 64) ≡ false → found ≡ ahead rest ended → step rest ended room written ≡ stepBy rest found
-  unfolding step
-  step-by found e f = rw (e, f)
+  pub turnAt-by : (found : Next) → ltb room (written + 64) ≡ false → found ≡ ahead rest ended → turnAt rest ended room written ≡ turnBy rest found
+  unfolding turnAt
+  turnAt-by found e f = rw (e, f)
 
-  by-fits : (found : Next) → ahead rest ended ≡ found → stepBy rest found .size ≤ length rest
+  by-fits : (found : Next) → ahead rest ended ≡ found → turnBy rest found .size ≤ length rest
   by-fits (Message size) e = ahead-fits rest ended size e
   by-fits More e = omega arith
   by-fits End e = omega arith
 
-  either-fits : (b : Bool) (t : Step) → t .size ≤ length rest → cond b (stops false) t .size ≤ length rest
+  either-fits : (b : Bool) (t : Turn) → t .size ≤ length rest → cond b (stops false) t .size ≤ length rest
   either-fits true t h = omega arith
   either-fits false t h = h
 
   -- A turn takes no more than there is.
-  pub step-fits : step rest ended room written .size ≤ length rest
-  unfolding step
-  step-fits = either-fits (ltb room (written + 64)) (stepBy rest (ahead rest ended)) (by-fits (ahead rest ended) refl)
+  pub turnAt-fits : turnAt rest ended room written .size ≤ length rest
+  unfolding turnAt
+  turnAt-fits = either-fits (ltb room (written + 64)) (turnBy rest (ahead rest ended)) (by-fits (ahead rest ended) refl)
 
-pub stepped-listed : (b : Run) (s : Step) → stepped (listed b) s ≡ listed (behind b s)
-stepped-listed b s = rw (length-append (b .text) (s .line))
+pub turned-listed : (b : Run) (s : Turn) → turned (listed b) s ≡ listed (behind b s)
+turned-listed b s = rw (length-append (b .text) (s .line))
 
 module _ (stream : List ℕ) (ended : Bool) (room : ℕ) where
   pub turn-fits : (b : Run) → b .read ≤ length stream → turn stream ended room b .read ≤ length stream
   unfolding turn
-  turn-fits b h = omega (arith, step-fits (drop (b .read) stream) ended room (length (b .text)), length-drop (b .read) stream)
+  turn-fits b h = omega (arith, turnAt-fits (drop (b .read) stream) ended room (length (b .text)), length-drop (b .read) stream)
 
   -- A run that goes on takes a turn.
   pub many-more : (n : ℕ) (b : Run) → 0 < n → b .going ≡ true → manyTurns n stream ended room b ≡ manyTurns (n - 1) stream ended room (turn stream ended room b)
@@ -92,19 +92,19 @@ module _ (stream : List ℕ) (ended : Bool) (out₀ : List ℕ) where
     reached-within = rw (r .is) (r .within)
 
     pub reached-more : (run′ : Listed) (out′ : List ℕ) → 0 < turns → run .going ≡ true
-        → run′ ≡ stepped run (step (drop (run .read) stream) ended (length out) (run .written))
-        → out′ ≡ sets out (run .written) (step (drop (run .read) stream) ended (length out) (run .written) .line)
+        → run′ ≡ turned run (turnAt (drop (run .read) stream) ended (length out) (run .written))
+        → out′ ≡ sets out (run .written) (turnAt (drop (run .read) stream) ended (length out) (run .written) .line)
         → Reached stream ended out₀ run′ out′ (turns - 1)
     unfolding turn
     reached-more run′ out′ h g p q =
         let b = r .so in
-        let s = step (drop (b .read) stream) ended (length out₀) (length (b .text)) in
+        let s = turnAt (drop (b .read) stream) ended (length out₀) (length (b .text)) in
         let going : b .going ≡ true = sym (ap (λ (l : Listed). l .going) (r .is)) ∙ g in
-        let at : run′ ≡ stepped (listed b) s = rw (same-length, r .is) at p in
+        let at : run′ ≡ turned (listed b) s = rw (same-length, r .is) at p in
         let put : out′ ≡ sets out (length (b .text)) (s .line) = rw (same-length, r .is) at q in
         record {
           so = turn stream ended (length out₀) b;
-          is = at ∙ stepped-listed b s;
+          is = at ∙ turned-listed b s;
           holds = stored-twice (b .text) (s .line) out₀ 0 (length (b .text)) (r .holds) put (omega arith);
           leads = sym (many-more stream ended (length out₀) turns b h going) ∙ r .leads;
           within = turn-fits stream ended (length out₀) b (r .within);
