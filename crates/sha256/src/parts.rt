@@ -126,10 +126,10 @@ fn absorb<'a>(
 {
     let part = standing(first, second, third, tail, at);
     if part.len() == 64 {
-        return compress(v, part, 0);
+        return compress(v, part);
     }
     let block = assembled(first, second, third, tail, at);
-    compress(v, &block, 0)
+    compress(v, &block)
 }
 
 // The hash value after a message that is whole blocks.
