@@ -35,7 +35,7 @@ pub compress-eq : (v : Vars) (a b : List ℕ) (i j : ℕ) → ((k : ℕ) → k <
 unfolding compress
 compress-eq v a b i j h = ap (λ (w : List ℕ). added v (rounds v (schedule w 48) 64)) (words-eq a b i j h 16 (omega arith))
 
--- the bytes of a block that lies in a part, of which so many bytes stand ahead
+-- the bytes of a block that lies in a part, ahead of which so many bytes stand
 pub in-part : (front part behind : List ℕ) (ahead at j : ℕ) → length front ≡ ahead → ahead ≤ at → at + 64 ≤ ahead + length part → j < 64
     → getD (take (at - ahead + 64 - (at - ahead)) (drop (at - ahead) part)) j 0 ≡ getD (front ++ (part ++ behind)) (at + j) 0
 in-part front part behind ahead at j e h l p =
@@ -44,9 +44,9 @@ in-part front part behind ahead at j e h l p =
     ∙ sym (ap (λ (k : ℕ). getD (front ++ (part ++ behind)) k 0) i ∙ getD-append-add front (part ++ behind) (at - ahead + j) 0
     ∙ List·getD-append part behind 0 (at - ahead + j) (omega arith))
 
--- a block by itself
-pub put-together : (v : Vars) (m b : List ℕ) (at : ℕ) → ((j : ℕ) → j < 64 → getD b j 0 ≡ getD m (at + j) 0) → compress v b 0 ≡ compress v m at
-put-together v m b at h = compress-eq v b m 0 at (λ k p. ap (λ (i : ℕ). getD b i 0) (zero-add k) ∙ h k p)
+-- a block by itself, with the bytes that stand at a place of the message
+pub compress-block : (v : Vars) (m b : List ℕ) (at : ℕ) → ((j : ℕ) → j < 64 → getD b j 0 ≡ getD m (at + j) 0) → compress v b 0 ≡ compress v m at
+compress-block v m b at h = compress-eq v b m 0 at (λ k p. ap (λ (i : ℕ). getD b i 0) (zero-add k) ∙ h k p)
 
 pub blocks-more : (v x r : Vars) (m : List ℕ) (n : ℕ) → x ≡ blocks v m n → r ≡ compress x m (64 * n) → r ≡ blocks v m (n + 1)
 unfolding blocks

@@ -85,7 +85,7 @@ fn assembled(first: &[u8], second: &[u8], third: &[u8], tail: &[u8], at: usize) 
     block
 }
 
-// The block at a place of the message where it stands, if it lies in this part, of which so many bytes stand ahead; else nothing.
+// The block at a place of the message where it stands, if it lies in this part, ahead of which so many bytes stand; else nothing.
 fn inside<'a>(part: &'a [u8], ahead: usize, at: usize) -> &'a [u8]
     requires { ⌜ (at + 64 < 2 ^ 64) × (ahead + length (now part) < 2 ^ 64) ⌝ }
     ensures { λ r. ⌜ (length (now r) ≡ 64 → (front behind : List ℕ) → length front ≡ ahead → (j : ℕ) → j < 64 → getD (now r) j 0 ≡ getD (front ++ (now (part .entry) ++ behind)) (at + j) 0) ⌝ }
