@@ -4,6 +4,7 @@ use mathlib.Core.Logic.{⊎-elim}
 use mathlib.Core.Bool.{cond}
 use mathlib.Core.List.{List}
 use Prim.Native.Nat.{ℕ, zero, suc, _+_, _*_, _%_, _<_, _≤_, min}
+use native.Mathlib.Nat.{zero-add}
 use native.Mathlib.Omega.{arith}
 use native.Mathlib.Numerals.{add-one}
 use borrow.Author.Tests.{lt-ltb, le-ltb}
@@ -16,10 +17,10 @@ use Rattle.laws.proofs.Order.{lt-or-ge}
 use Rattle.sha256.specs.Compression.{words, nextWord, longer, schedule, putWord, putFour, roundAt, fourRounds, rounds, added, compress}
 
 -- one word more of the block
-pub words-more : (m w : List ℕ) (at n r : ℕ) → n < length w → take n w ≡ words m at n → r ≡ be32 m (at + 4 * n)
-    → take (n + 1) (set w n r) ≡ words m at (n + 1)
+pub words-more : (block w : List ℕ) (n r : ℕ) → n < length w → take n w ≡ words block 0 n → r ≡ be32 block (4 * n)
+    → take (n + 1) (set w n r) ≡ words block 0 (n + 1)
 unfolding words
-words-more m w at n r h p e = rw add-one (take-suc-set w n r h ∙ cc)
+words-more block w n r h p e = rw add-one (take-suc-set w n r h ∙ cc (zero-add (4 * n)))
 
 -- words that agree before 16 + n give the same next word
 next-word-take : (w : List ℕ) (n : ℕ) → nextWord (take (16 + n) w) n ≡ nextWord w n
@@ -128,7 +129,7 @@ module _ (m w z : List ℕ) (t : ℕ) (l : length w ≡ 64) (e : z ≡ cond (ltb
       (λ h. ap (λ (y : List ℕ). rounds v y t) (sym (past h))) (lt-or-ge t 48))
 
 -- a block's compression, in the order in which the code computes it
-pub compress-by : (v x r : Vars) (m l w : List ℕ) (at : ℕ) → take 16 l ≡ words m at 16 → w ≡ schedule (take 16 l) 48 → x ≡ rounds v w 64
-    → r ≡ added v x → r ≡ compress v m at
+pub compress-by : (v x r : Vars) (block l w : List ℕ) → take 16 l ≡ words block 0 16 → w ≡ schedule (take 16 l) 48 → x ≡ rounds v w 64
+    → r ≡ added v x → r ≡ compress v block 0
 unfolding compress
-compress-by v x r m l w at p q e f = cc
+compress-by v x r block l w p q e f = cc

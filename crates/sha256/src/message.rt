@@ -77,7 +77,7 @@ pub(crate) fn digest_behind(block: &[u8], first: &[u8], second: &[u8], third: &[
     ensures { λ r. ⌜ r ≡ digest (now (block .entry) ++ (now (first .entry) ++ (now (second .entry) ++ now (third .entry)))) ⌝ }
 {
     if fits(64, first, second, third) {
-        let v = compress(initial(), block, 0);
+        let v = compress(initial(), block);
         return finish(v, 64, first, second, third);
     }
     [0u8; 32]

@@ -5,7 +5,7 @@ use Rattle.sha256.proofs.rounds.compress.Statement.{statement}
 use Rattle.sha256.proofs.rounds.compress.Tie as tie
 
 returns : tie.Need-returns
-returns c = compress-by _ _ _ _ (c .before .before .before .load .result) _ _ (c .before .before .before .load .ensures .1) (c .before .rounds .ensures .1) (c .before .rounds .ensures .0) (c .added .ensures)
+returns c = compress-by _ _ _ _ (c .before .before .before .load .result) _ (c .before .before .before .load .ensures .1) (c .before .rounds .ensures .1) (c .before .rounds .ensures .0) (c .added .ensures)
 
 pub compress-spec : {M : Type 1} → statement M
 compress-spec = tie.close (tie.spec (λ c κs. search needs) (λ c κs. search needs) (λ c κs. search needs) returns)
