@@ -1,20 +1,20 @@
--- `block::load_block` meets its contract: the code is the definition.
+-- `block::front` meets its contract: the code is the definition.
 -- Assumes nothing.
 use mathlib.Core.Path.{refl}
 use Rattle.field.specs.Runs.{run}
 use Rattle.aes.specs.State.{block, loadBlock}
 use borrow.Author.Needs.{needs}
-use Rattle.aes.proofs.block.load_block.Statement.{statement}
-use Rattle.aes.proofs.block.load_block.Tie as tie
+use Rattle.aes.proofs.block.front.Statement.{statement}
+use Rattle.aes.proofs.block.front.Tie as tie
 
 returns : tie.Need-returns
 unfolding loadBlock block run
 returns c = refl
 
-pub load-block-spec : {M : Type 1} → statement M
-load-block-spec =
+pub front-spec : {M : Type 1} → statement M
+front-spec =
     tie.close (tie.spec
     (λ c. search needs) (λ c. search needs) (λ c. search needs) (λ c. search needs) (λ c. search needs)
     (λ c. search needs) (λ c. search needs) (λ c. search needs) (λ c. search needs) (λ c. search needs)
     (λ c. search needs) (λ c. search needs) (λ c. search needs) (λ c. search needs) (λ c. search needs)
-    (λ c. search needs) (λ c κs. search needs) returns (λ c. search needs))
+    (λ c. search needs) returns)
