@@ -21,14 +21,14 @@ use wire::refusals::WRONG_KIND;
 use wire::refusals::WRONG_PAYLOAD;
 use wire::refusals::WRONG_PIECE;
 use wire::refusals::WRONG_PIECE_SIZE;
-use wire::writer::Written;
-use wire::writer::write_header;
+use writer::Written;
+use writer::header::write_header;
 ghost use mathlib.Core.Path.{_≡_};
 ghost use mathlib.Core.List.{_++_};
 ghost use Prim.Native.Nat.{_+_, _≤_, _<_};
 ghost use lib.ListN.{length, drop};
 ghost use lib.Seq.{sets};
-ghost use Rattle.wire.specs.Writer.{headerBytes};
+ghost use Rattle.writer.specs.Header.{headerBytes};
 ghost use Rattle.message.specs.Writing.{finishedLength, writeRefusal, writeAnswer, writtenInto};
 
 // The most bytes of a Session payload.

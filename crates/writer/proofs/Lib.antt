@@ -1,0 +1,5 @@
+pub mod Writing
+pub mod Payloads
+pub mod ChainBack
+pub mod ReadBack
+pub mod PayloadBack

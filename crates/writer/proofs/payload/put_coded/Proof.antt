@@ -1,0 +1,19 @@
+-- Three stores, each where the one before it ends.
+use mathlib.Core.Path.{refl}
+use mathlib.Core.List.{[], _∷_}
+use Rattle.laws.specs.Bytes.{bytes16}
+use Rattle.laws.proofs.Stores.{run, then}
+use borrow.Author.Needs.{needs}
+use Rattle.writer.proofs.payload.put_coded.Statement.{statement}
+use Rattle.writer.proofs.payload.put_coded.Tie as tie
+
+returns : tie.Need-returns
+returns c =
+    let s = c .before .before .before .before .before .before .before .before .before .before .before .before .before .args in
+    let mode = then (bytes16 (s .mode)) 0 (run 0 (s .out .now)) (c .before .before .before .before .before .before .before .before .before .before .store16 .ensures) refl in
+    let kind = then (s .kind ∷ []) 2 mode (c .before .before .before .before .before .before .store8 .ensures) refl in
+    then (s .code ∷ []) 3 kind (c .before .before .store82 .ensures) refl .is
+
+pub put-coded-spec : {M : Type 1} → statement M
+put-coded-spec =
+    tie.close (tie.spec (λ c κs. search needs) (λ c κs. search needs) (λ c κs. search needs) (λ c. search needs) returns)
