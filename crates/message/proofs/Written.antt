@@ -150,9 +150,6 @@ module _ (h : Header) (chain payload keys out : List ℕ) where
       unfolding finishedLength
       sealed-length s = rw (whole, s) (omega arith)
 
-      pub plain-fits : sealed ≡ false → 40 + length chain + length payload ≤ length m
-      plain-fits s = omega (arith, plain-length s, roomy, same-room)
-
       plain-bytes : sealed ≡ false → messageBytes h chain payload keys ≡ front ++ payload
       unfolding messageBytes
       plain-bytes s =

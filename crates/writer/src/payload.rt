@@ -1,5 +1,6 @@
 // The payloads of Discovery and Connect written, each at the start of its output.
 use crate::Written;
+use crate::stores::store_bytes;
 use crate::stores::store8;
 use crate::stores::store16;
 use crate::stores::store32;
@@ -21,7 +22,7 @@ use wire::refusals::NO_ROOM;
 use wire::refusals::WRONG_PAYLOAD;
 ghost use mathlib.Core.Path.{_≡_};
 ghost use mathlib.Core.List.{_∷_, [], _++_};
-ghost use Prim.Native.Nat.{_+_, _<_, _≤_, _^_};
+ghost use Prim.Native.Nat.{_+_, _≤_};
 ghost use mathlib.Core.Bool.{false};
 ghost use lib.ListN.{length};
 ghost use lib.Seq.{sets};
@@ -43,23 +44,11 @@ ghost use Rattle.writer.specs.Payload.{
 };
 ghost use Rattle.writer.specs.Written.{written, output};
 
-// Puts the bytes of `s` from a place on; those past the end are dropped.
-fn put_bytes(out: &mut [u8], at: usize, s: &[u8])
-    requires { ⌜ at + length (now s) < 2 ^ 32 ⌝ }
-    ensures { λ _. ⌜ now (out .exit) ≡ sets (now (out .entry)) at (now (s .entry)) ⌝ }
-{
-    let mut i = 0;
-    while i < s.len() {
-        store8(out, at + i, s[i]);
-        i += 1;
-    }
-}
-
 // Puts a nonce.
 fn put_nonce(out: &mut [u8], at: u8, nonce: [u8; 8])
     ensures { λ _. ⌜ (now (out .exit) ≡ sets (now (out .entry)) at nonce) × (length nonce ≡ 8) ⌝ }
 {
-    put_bytes(out, at as usize, &nonce);
+    store_bytes(out, at as usize, &nonce);
 }
 
 // Puts the length of a coordinate, and the coordinate.
@@ -67,7 +56,7 @@ fn put_coordinate(out: &mut [u8], at: u8, coordinate: [u8; 32])
     ensures { λ _. ⌜ (now (out .exit) ≡ sets (now (out .entry)) at (bytes16 32 ++ coordinate)) × (length coordinate ≡ 32) ⌝ }
 {
     store16(out, at as u32, KEY_SIZE);
-    put_bytes(out, at as usize + 2, &coordinate);
+    store_bytes(out, at as usize + 2, &coordinate);
 }
 
 // Puts mode and type.
@@ -194,9 +183,9 @@ fn put_device(out: &mut [u8], mode: u16, kind: u8, certificate: &[u8], thumbprin
     let n = certificate.len();
     put_start(out, mode, kind);
     store16(out, 3, n as u16);
-    put_bytes(out, 5, certificate);
+    store_bytes(out, 5, certificate);
     store16(out, 5 + n as u32, thumbprint.len() as u16);
-    put_bytes(out, 7 + n, thumbprint);
+    store_bytes(out, 7 + n, thumbprint);
 }
 
 // Writes the payload of a Device Authentication Request or Response, by its type.

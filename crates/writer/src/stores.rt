@@ -1,4 +1,4 @@
-// Big-endian numbers put at a place of a slice. A byte past the end is dropped: whether there is room is judged by lengths.
+// Big-endian numbers, and runs of bytes, put at a place of a slice. A byte past the end is dropped: whether there is room is judged by lengths.
 ghost use mathlib.Core.Path.{_≡_};
 ghost use mathlib.Core.List.{_∷_, []};
 ghost use lib.Seq.{sets};
@@ -38,4 +38,19 @@ pub fn store64(out: &mut [u8], at: u8, x: u64)
     let from = at as u16;
     store32(out, from, (x / 4294967296) as u32);
     store32(out, from + 4, (x % 4294967296) as u32);
+}
+
+// Puts a run of bytes: the part of the slice from the place on is lent to a copy of those that it has room for.
+pub fn store_bytes(out: &mut [u8], at: usize, bytes: &[u8])
+    ensures { λ _. ⌜ now (out .exit) ≡ sets (now (out .entry)) at (now (bytes .entry)) ⌝ }
+{
+    if out.len() < at {
+        return;
+    }
+    let room = out.len() - at;
+    if room < bytes.len() {
+        bytes::copy(&bytes[0..room], &mut out[at..]);
+        return;
+    }
+    bytes::copy(bytes, &mut out[at..]);
 }

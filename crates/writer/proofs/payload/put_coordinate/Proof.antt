@@ -8,7 +8,7 @@ use Rattle.writer.proofs.payload.put_coordinate.Statement.{statement}
 use Rattle.writer.proofs.payload.put_coordinate.Tie as tie
 
 returns : tie.Need-returns
-returns c = let s = c .before .before .before .before .before .before .before .before .before .before .args in (stored-twice (bytes16 32) (s .t3) (s .out .now) (s .at) (s .at + 2) (c .before .before .before .before .before .before .before .store16 .ensures) (c .before .before .put-bytes .ensures) (omega arith), search needs)
+returns c = let s = c .before .before .before .before .before .before .before .before .before .before .args in (stored-twice (bytes16 32) (s .t3) (s .out .now) (s .at) (s .at + 2) (c .before .before .before .before .before .before .before .store16 .ensures) (c .before .before .store-bytes .ensures) (omega arith), search needs)
 
 pub put-coordinate-spec : {M : Type 1} → statement M
 put-coordinate-spec =

@@ -20,9 +20,9 @@ returns c =
     let n = length certificate in
     let r0 = then (bytes16 (s .mode) ++ (s .kind ∷ [])) 0 (run 0 (s .out .now)) (c .before .before .before .before .before .before .before .before .before .before .before .before .before .before .before .before .before .before .put-start .ensures) refl in
     let r1 = then (bytes16 n) 3 r0 (c .before .before .before .before .before .before .before .before .before .before .before .before .before .before .store16 .ensures) refl in
-    let r2 = then certificate 5 r1 (c .before .before .before .before .before .before .before .before .before .before .put-bytes .ensures) refl in
+    let r2 = then certificate 5 r1 (c .before .before .before .before .before .before .before .before .before .before .store-bytes .ensures) refl in
     let r3 = then (bytes16 (length thumbprint)) (5 + n) r2 (c .before .before .before .before .before .before .store162 .ensures) (omega arith) in
-    let r4 = then thumbprint (7 + n) r3 (c .before .before .put-bytes2 .ensures) (simp length-append (omega arith)) in
+    let r4 = then thumbprint (7 + n) r3 (c .before .before .store-bytes2 .ensures) (simp length-append (omega arith)) in
     r4 .is ∙ ap (sets (s .out .now) 0) (device-stored (s .kind) (s .mode) certificate thumbprint)
 
 pub put-device-spec : {M : Type 1} → statement M

@@ -1,15 +1,19 @@
 -- Two stores, the second where the first ends.
-use native.Mathlib.Omega.{arith}
 use Prim.Native.Nat.{_+_, _/_, _%_}
-use Rattle.laws.proofs.Stores.{stored-twice}
+use native.Mathlib.Omega.{arith}
 use Rattle.laws.specs.Bytes.{bytes16}
+use Rattle.laws.proofs.Stores.{stored-twice}
 use borrow.Author.Needs.{needs}
 use Rattle.writer.proofs.stores.store32.Statement.{statement}
 use Rattle.writer.proofs.stores.store32.Tie as tie
 
 returns : tie.Need-returns
-returns c = let s = c .before .before .before .before .before .before .before .before .before .args in
-    stored-twice (bytes16 (s .x / 65536)) (bytes16 (s .x % 65536)) (s .out .now) (s .at) (s .at + 2) (c .before .before .before .before .before .before .store16 .ensures) (c .before .before .store162 .ensures) (omega arith)
+returns c =
+    let second = c .before .before in
+    let first = second .before .before .before .before in
+    let s = first .before .before .before .args in
+    stored-twice (bytes16 (s .x / 65536)) (bytes16 (s .x % 65536)) (s .out .now) (s .at) (s .at + 2)
+    (first .store16 .ensures) (second .store162 .ensures) (omega arith)
 
 pub store32-spec : {M : Type 1} → statement M
 store32-spec =
