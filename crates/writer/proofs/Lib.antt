@@ -3,3 +3,5 @@ pub mod Payloads
 pub mod ChainBack
 pub mod ReadBack
 pub mod PayloadBack
+pub mod ExchangeBack
+pub mod DeviceBack

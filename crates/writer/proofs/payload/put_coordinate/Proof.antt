@@ -8,7 +8,13 @@ use Rattle.writer.proofs.payload.put_coordinate.Statement.{statement}
 use Rattle.writer.proofs.payload.put_coordinate.Tie as tie
 
 returns : tie.Need-returns
-returns c = let s = c .before .before .before .before .before .before .before .before .before .before .args in (stored-twice (bytes16 32) (s .t3) (s .out .now) (s .at) (s .at + 2) (c .before .before .before .before .before .before .before .store16 .ensures) (c .before .before .store-bytes .ensures) (omega arith), search needs)
+returns c =
+    let second = c .before .before in
+    let first = second .before .before .before .before .before in
+    let s = first .before .before .before .args in (
+      stored-twice (bytes16 32) (s .t3) (s .out .now) (s .at) (s .at + 2) (first .store16 .ensures) (second .store-bytes .ensures) (omega arith),
+      search needs,
+    )
 
 pub put-coordinate-spec : {M : Type 1} → statement M
 put-coordinate-spec =

@@ -1,19 +1,18 @@
 -- Refused, or one run of stores from the start of the output.
 use mathlib.Core.Path.{refl}
 use Rattle.writer.proofs.Writing.{refused, wrote}
-use Rattle.writer.specs.Payload.{presenceRequest}
-use mathlib.Core.Bool.{false}
 use borrow.Author.Needs.{needs}
 use Rattle.writer.proofs.payload.write_presence_request.Statement.{statement}
 use Rattle.writer.proofs.payload.write_presence_request.Tie as tie
 
 returns : tie.Need-returns
-returns c = let s = c .before .before .before .args in refused false 1 (presenceRequest) (s .out .now) _ (c .before .write-refusal .ensures) (c .if1 .taken)
+returns c = refused _ _ _ _ _ (c .before .write-refusal .ensures) (c .if1 .taken)
 
 returns-2 : tie.Need-returns-2
 returns-2 c =
-    let s = c .before .before .before .before .before .before .before .args in
-    wrote false 1 (presenceRequest) (s .out .now) _ (c .before .before .before .before .before .write-refusal .ensures) (c .before .before .before .before .if1 .left) refl (c .before .before .store8 .ensures)
+    let put = c .before .before in
+    let judged = put .before .before in
+    wrote _ _ _ _ _ (judged .before .write-refusal .ensures) (judged .if1 .left) refl (put .store8 .ensures)
 
 pub write-presence-request-spec : {M : Type 1} → statement M
 write-presence-request-spec =
