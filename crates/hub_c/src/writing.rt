@@ -3,7 +3,7 @@ use super::words::WRONG_BUFFER;
 use super::words::put_length;
 use super::words::word;
 use wire::header::Header;
-use wire::writer::Written;
+use writer::Written;
 ghost use mathlib.Core.Path.{_≡_};
 ghost use mathlib.Core.Bool.{cond};
 ghost use Prim.Native.Nat.{_≤_};

@@ -12,10 +12,11 @@ use Rattle.laws.proofs.Firsts.{first-quiet}
 use Rattle.wire.specs.Fields.{badKind, badFlags, badPiece, isSealed}
 use Rattle.wire.specs.Chain.{badChain}
 use Rattle.wire.specs.Payload.{badPayload}
-use Rattle.wire.specs.Writer.{headerBytes, output}
+use Rattle.writer.specs.Header.{headerBytes}
+use Rattle.writer.specs.Written.{output}
 use Rattle.wire.specs.declared.header.Header.{Header}
-use Rattle.wire.specs.declared.writer.Written.{Written}
-use Rattle.wire.specs.declared.writer.Written.the-variants.{Refused, Bytes}
+use Rattle.writer.specs.declared.Written.{Written}
+use Rattle.writer.specs.declared.Written.the-variants.{Refused, Bytes}
 use Rattle.wire.proofs.Chains.{chain-long}
 use Rattle.seal.specs.Padding.{sealedSize, padding}
 use Rattle.seal.specs.Sealed.{sealedMessage, sealRefusal, sealedInto}
@@ -69,7 +70,7 @@ length-header h size = refl
 pub front-written : (h : Header) (size : ℕ) (chain out : List ℕ) {m n : List ℕ} → 40 + length chain ≤ length out
     → m ≡ output false 40 (headerBytes h size) out → n ≡ sets m 40 chain
     → n ≡ (headerBytes h size ++ chain) ++ drop (40 + length chain) out
-unfolding output Rattle.wire.specs.Writer.writeRefusal
+unfolding output Rattle.writer.specs.Written.writeRefusal
 front-written h size chain out fits p q =
     put-behind (headerBytes h size) chain out 40 (length-header h size) fits (p ∙ rw (le-ltb (length out) 40 (omega arith))) q
 
@@ -148,9 +149,6 @@ module _ (h : Header) (chain payload keys out : List ℕ) where
       sealed-length : sealed ≡ true → size ≡ start + sealedSize (length payload) + 32
       unfolding finishedLength
       sealed-length s = rw (whole, s) (omega arith)
-
-      pub plain-fits : sealed ≡ false → 40 + length chain + length payload ≤ length m
-      plain-fits s = omega (arith, plain-length s, roomy, same-room)
 
       plain-bytes : sealed ≡ false → messageBytes h chain payload keys ≡ front ++ payload
       unfolding messageBytes

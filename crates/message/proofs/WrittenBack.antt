@@ -9,12 +9,12 @@ use lib.Seq.{drop-at, take-length}
 use Rattle.wire.specs.Fields.{isSealed}
 use Rattle.wire.specs.Payload.{badPayload}
 use Rattle.wire.specs.Reader.{readHeader}
-use Rattle.wire.specs.Writer.{headerBytes}
+use Rattle.writer.specs.Header.{headerBytes}
 use Rattle.wire.specs.declared.header.Header.{Header}
 use Rattle.wire.specs.declared.header.HeaderRead.the-variants as head
 use Rattle.wire.proofs.Chains.{chain-long}
 use Rattle.wire.proofs.Sound.{sealed-tag, plain-tag}
-use Rattle.wire.proofs.ReadBack.{size, message, read-back}
+use Rattle.writer.proofs.ReadBack.{size, message, read-back}
 use Rattle.aes.specs.Key.{expandKey}
 use Rattle.aes.specs.Cbc.{cbcEncrypt}
 use Rattle.seal.specs.Keys.{encryptionKey, vector, tagOf}

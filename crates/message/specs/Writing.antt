@@ -10,10 +10,10 @@ use Rattle.wire.specs.Refusals.{wrongKind, wrongFlags, wrongPiece, wrongChain, 
 use Rattle.wire.specs.Fields.{badKind, badFlags, badPiece, isSealed}
 use Rattle.wire.specs.Chain.{badChain}
 use Rattle.wire.specs.Payload.{badPayload}
-use Rattle.wire.specs.Writer.{headerBytes}
+use Rattle.writer.specs.Header.{headerBytes}
 use Rattle.wire.specs.declared.header.Header.{Header}
-use Rattle.wire.specs.declared.writer.Written.{Written}
-use Rattle.wire.specs.declared.writer.Written.the-variants.{Refused, Bytes}
+use Rattle.writer.specs.declared.Written.{Written}
+use Rattle.writer.specs.declared.Written.the-variants.{Refused, Bytes}
 use Rattle.seal.specs.Padding.{sealedSize}
 use Rattle.seal.specs.Sealed.{sealedMessage}
 

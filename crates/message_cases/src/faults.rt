@@ -12,7 +12,7 @@ use crate::trips::size_of;
 use crate::trips::write_with;
 use message::reading::MessageRead;
 use wire::header::SESSION;
-use wire::writer::Written;
+use writer::Written;
 
 // What reading the first bytes of a buffer answers: a refusal's number, or 0.
 fn answer(message: &[u8], given: usize, keys: &[u8], working: &mut [u8]) -> u8 {

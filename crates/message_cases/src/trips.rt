@@ -7,7 +7,7 @@ use wire::header::Header;
 use wire::header::SESSION;
 use wire::header::is_sealed;
 use wire::payload::Request;
-use wire::writer::Written;
+use writer::Written;
 ghost use Prim.Native.Nat.{_≤_};
 
 // The fields of a message of a type: flag 8 or 1 beside those that say whether it is sealed.
@@ -190,20 +190,20 @@ fn request() -> Request {
 // The payload of a Presence Request, or a Connect payload of each type; its bytes.
 fn put_payload(i: u32, out: &mut [u8]) -> usize {
     match i {
-        0 => bytes_in(wire::writer::write_presence_request(out)),
-        1 => bytes_in(wire::writer::write_connection_request(2, request(), out)),
-        2 => bytes_in(wire::writer::write_connection_response(1, 1, request(), out)),
-        3 => bytes_in(wire::writer::write_connection_response(0, 3, request(), out)),
-        4 => bytes_in(wire::writer::write_device_authentication(2, 1, b"certificate", b"", out)),
-        5 => bytes_in(wire::writer::write_device_authentication(
+        0 => bytes_in(writer::payload::write_presence_request(out)),
+        1 => bytes_in(writer::payload::write_connection_request(2, request(), out)),
+        2 => bytes_in(writer::payload::write_connection_response(1, 1, request(), out)),
+        3 => bytes_in(writer::payload::write_connection_response(0, 3, request(), out)),
+        4 => bytes_in(writer::payload::write_device_authentication(2, 1, b"certificate", b"", out)),
+        5 => bytes_in(writer::payload::write_device_authentication(
             3,
             1,
             b"certificate",
             b"print",
             out,
         )),
-        6 => bytes_in(wire::writer::write_done_request(1, out)),
-        _ => bytes_in(wire::writer::write_done_response(1, 4, out)),
+        6 => bytes_in(writer::payload::write_done_request(1, out)),
+        _ => bytes_in(writer::payload::write_done_response(1, 4, out)),
     }
 }
 

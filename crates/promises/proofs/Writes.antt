@@ -11,7 +11,7 @@ use Rattle.laws.proofs.Firsts.{quiet-first}
 use Rattle.wire.specs.Fields.{badKind, badFlags, badPiece, isSealed, mostPieces}
 use Rattle.wire.specs.Payload.{badPayload}
 use Rattle.wire.specs.declared.header.Header.{Header}
-use Rattle.wire.specs.declared.writer.Written.the-variants.{Bytes}
+use Rattle.writer.specs.declared.Written.the-variants.{Bytes}
 use Rattle.laws.proofs.ByteLists.{take-bytes, drop-bytes}
 use Rattle.message.specs.Writing.{lengthOf, writeRows, writeRefusal, messageBytes, writeAnswer, writtenInto}
 use Rattle.message.proofs.WrittenLengths.{length-messageBytes}

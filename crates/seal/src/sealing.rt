@@ -15,6 +15,7 @@ use wire::refusals::NO_ROOM;
 use wire::refusals::TOO_SHORT;
 use wire::refusals::WRONG_KEYS;
 use wire::refusals::WRONG_LENGTH;
+use writer::stores::store_bytes;
 ghost use mathlib.Core.Path.{_≡_};
 ghost use Prim.Native.Nat.{_+_, _-_, _≤_, _<_, _^_};
 ghost use lib.Seq.{sets};
@@ -25,14 +26,6 @@ ghost use Rattle.aes.specs.Key.{expandKey};
 ghost use Rattle.aes.specs.Cbc.{cbcEncrypt};
 ghost use Rattle.seal.specs.Keys.{encryptionKey, tagOf};
 ghost use Rattle.seal.specs.Sealed.{sealRefusal, sealedInto};
-
-// A run of bytes from a place on: that part of the output is lent to a copy.
-fn put(out: &mut [u8], at: usize, bytes: &[u8])
-    requires { ⌜ at + length (now bytes) ≤ length (now out) ⌝ }
-    ensures { λ _. ⌜ now (out .exit) ≡ sets (now (out .entry)) at (now (bytes .entry)) ⌝ }
-{
-    bytes::copy(bytes, &mut out[at..]);
-}
 
 // One byte from a place to the end.
 fn fill(out: &mut [u8], from: usize, byte: u8)
@@ -67,8 +60,8 @@ fn put_plain(payload: &[u8], room: &mut [u8])
     let told = size_bytes(size);
     let count = padding(size);
     let end = 4 + payload.len();
-    put(room, 0, &told);
-    put(room, 4, payload);
+    store_bytes(room, 0, &told);
+    store_bytes(room, 4, payload);
     fill(room, end, count as u8);
 }
 
@@ -78,7 +71,7 @@ fn put_tag(keys: &[u8], end: usize, out: &mut [u8])
     ensures { λ _. ⌜ now (out .exit) ≡ sets (now (out .entry)) end (tagOf (now (keys .entry)) (take end (now (out .entry)))) ⌝ }
 {
     let tag = tag_of(keys, &out[0..end]);
-    put(out, end, &tag);
+    store_bytes(out, end, &tag);
 }
 
 // Size, payload and padding, encrypted over the whole of their room.

@@ -8,7 +8,7 @@ returns : tie.Need-returns
 returns c =
     let at-put = c .before .before in
     let at-tag-of = at-put .before .before .before in
-    rw (at-put .put .ensures, at-tag-of .tag-of .ensures, sub-zero)
+    rw (at-put .store-bytes .ensures, at-tag-of .tag-of .ensures, sub-zero)
 
 pub put-tag-spec : {M : Type 1} → statement M
 put-tag-spec =
