@@ -52,8 +52,8 @@ fn refusal(written: Written) -> u8 {
     }
 }
 
-// Whether writing a Session message is answered as in a sweep: its payload, of a size, and its keys, as many, are the first bytes of the noise, and in sweep 10
-// the output is one byte short.
+// Whether writing a Session message is answered as in a sweep. Its payload, of a size, and its keys, so many, are the first bytes of the noise; in
+// sweep 10 the output is one byte short.
 fn writes(sweep: u8, size: usize, chain: u32, keys: usize, noise: &[u8], message: &mut [u8]) -> bool
     requires { ⌜ (size ≤ 16384) × (keys ≤ 65) × (16384 ≤ length (now noise)) × (16502 ≤ length (now message)) ⌝ }
 {
@@ -78,8 +78,8 @@ fn number_of(read: MessageRead) -> u8 {
     }
 }
 
-// Whether reading that message is answered as in a sweep: the keys, as many, are the first bytes of the noise, and in sweep 9 the working buffer is one byte
-// short.
+// Whether reading that message is answered as in a sweep. The keys, so many, are the first bytes of the noise; in sweep 9 the working buffer is one
+// byte short.
 fn reads(
     sweep: u8,
     size: usize,
@@ -144,8 +144,8 @@ fn one_wrong(i: u32) -> [u8; 32] {
     plain_text(13, 15, at, ((16 + i % 255) % 256) as u8)
 }
 
-// The plain texts that are sealed by hand: a padding byte wrong; a size that there is not, with each number that padding could have and more; 12 bytes of
-// payload and sixteen of padding, where the rule gives none; and by the rule.
+// The plain texts that are sealed by hand: a padding byte wrong; a size that there is not, with each number that padding could have and more; 12
+// bytes of payload and sixteen of padding, where the rule gives none; and by the rule.
 fn text(sweep: u8, i: u32) -> [u8; 32] {
     match sweep {
         4 => one_wrong(i),
