@@ -80,9 +80,12 @@ fn decrypt_two(
     at: usize,
     next: usize,
 ) -> State
-    requires { ⌜ (now sb ≡ table invSbox) × Mixes invSbox 14 11 13 9 (now t) × InverseKeys (now keys) (now inverse) 10 × (at ≤ next) × (next + 16 ≤ length (now source)) × (next + 16 ≤ length (now target)) ⌝ }
+    requires { ⌜ (now sb ≡ table invSbox) × Mixes invSbox 14 11 13 9 (now t) × InverseKeys (now keys) (now inverse) 10 × (at ≤ next)
+        × (next + 16 ≤ length (now source)) × (next + 16 ≤ length (now target)) ⌝ }
     ensures { λ r. ⌜ bytesOf r ≡ take 16 (drop next (now (source .entry))) ⌝ }
-    ensures { λ _. ⌜ now (target .exit) ≡ paste (paste (now (target .entry)) next (cbcDecryptBlock (now (keys .entry)) (take 16 (drop at (now (source .entry)))) (take 16 (drop next (now (source .entry))))) 16) at (cbcDecryptBlock (now (keys .entry)) (bytesOf v) (take 16 (drop at (now (source .entry))))) 16 ⌝ }
+    ensures { λ _. ⌜ now (target .exit) ≡ paste (paste (now (target .entry)) next
+        (cbcDecryptBlock (now (keys .entry)) (take 16 (drop at (now (source .entry)))) (take 16 (drop next (now (source .entry))))) 16) at
+        (cbcDecryptBlock (now (keys .entry)) (bytesOf v) (take 16 (drop at (now (source .entry))))) 16 ⌝ }
 {
     let x = words_from(&source[at..]);
     let y = words_from(&source[next..]);
@@ -110,8 +113,10 @@ fn decrypt_blocks(
     source: &[u8],
     target: &mut [u8],
 )
-    requires { ⌜ (now sb ≡ table invSbox) × Mixes invSbox 14 11 13 9 (now t) × InverseKeys (now keys) (now inverse) 10 × (length (now source) % 16 ≡ 0) × (length (now source) ≤ length (now target)) ⌝ }
-    ensures { λ _. ⌜ now (target .exit) ≡ cbcDecrypt (now (keys .entry)) (bytesOf vector) (now (source .entry)) ++ drop (length (now (source .entry))) (now (target .entry)) ⌝ }
+    requires { ⌜ (now sb ≡ table invSbox) × Mixes invSbox 14 11 13 9 (now t) × InverseKeys (now keys) (now inverse) 10
+        × (length (now source) % 16 ≡ 0) × (length (now source) ≤ length (now target)) ⌝ }
+    ensures { λ _. ⌜ now (target .exit) ≡ cbcDecrypt (now (keys .entry)) (bytesOf vector) (now (source .entry))
+        ++ drop (length (now (source .entry))) (now (target .entry)) ⌝ }
 {
     let mut v = vector;
     let mut at: usize = 0;
@@ -138,7 +143,8 @@ pub fn cbc_encrypt(
     target: &mut [u8],
 ) -> bool
     ensures { λ r. ⌜ r ≡ fits (now (source .entry)) (now (target .entry)) ⌝ }
-    ensures { λ _. ⌜ now (target .exit) ≡ written (now (source .entry)) (cbcEncrypt (now (keys .entry)) vector (now (source .entry))) (now (target .entry)) ⌝ }
+    ensures { λ _. ⌜ now (target .exit) ≡ written (now (source .entry)) (cbcEncrypt (now (keys .entry)) vector (now (source .entry)))
+        (now (target .entry)) ⌝ }
 {
     if !fit(source.len(), target.len()) {
         return false;
@@ -151,7 +157,8 @@ pub fn cbc_encrypt(
 // Encrypts a buffer in place. False, with the buffer left alone, where it is not whole blocks.
 pub fn cbc_encrypt_in_place(keys: &[[u8; 16]; 11], vector: [u8; 16], buffer: &mut [u8]) -> bool
     ensures { λ r. ⌜ r ≡ eqb (length (now (buffer .entry)) % 16) 0 ⌝ }
-    ensures { λ _. ⌜ now (buffer .exit) ≡ cond (eqb (length (now (buffer .entry)) % 16) 0) (cbcEncrypt (now (keys .entry)) vector (now (buffer .entry))) (now (buffer .entry)) ⌝ }
+    ensures { λ _. ⌜ now (buffer .exit) ≡ cond (eqb (length (now (buffer .entry)) % 16) 0)
+        (cbcEncrypt (now (keys .entry)) vector (now (buffer .entry))) (now (buffer .entry)) ⌝ }
 {
     if buffer.len() % 16 != 0 {
         return false;
@@ -171,7 +178,8 @@ pub fn cbc_decrypt(
     target: &mut [u8],
 ) -> bool
     ensures { λ r. ⌜ r ≡ fits (now (source .entry)) (now (target .entry)) ⌝ }
-    ensures { λ _. ⌜ now (target .exit) ≡ written (now (source .entry)) (cbcDecrypt (now (keys .entry)) vector (now (source .entry))) (now (target .entry)) ⌝ }
+    ensures { λ _. ⌜ now (target .exit) ≡ written (now (source .entry)) (cbcDecrypt (now (keys .entry)) vector (now (source .entry)))
+        (now (target .entry)) ⌝ }
 {
     if !fit(source.len(), target.len()) {
         return false;

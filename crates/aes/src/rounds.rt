@@ -162,7 +162,8 @@ pub(crate) fn decrypt_pair(
     p: Pair,
 ) -> Pair
     requires { ⌜ (now sb ≡ table invSbox) × Mixes invSbox 14 11 13 9 (now t) × InverseKeys (now keys) (now inverse) 10 ⌝ }
-    ensures { λ r. ⌜ (bytesOf (r .x) ≡ invCipher (now (keys .entry)) (bytesOf (p .x))) × (bytesOf (r .y) ≡ invCipher (now (keys .entry)) (bytesOf (p .y))) ⌝ }
+    ensures { λ r. ⌜ (bytesOf (r .x) ≡ invCipher (now (keys .entry)) (bytesOf (p .x)))
+        × (bytesOf (r .y) ≡ invCipher (now (keys .entry)) (bytesOf (p .y))) ⌝ }
 {
     let first = keys[10];
     let k = words(first);

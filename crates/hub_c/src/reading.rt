@@ -138,7 +138,8 @@ fn hand(found: Found, out: &mut [u64]) -> u8
 #[no_mangle]
 pub extern "C" fn hub_read_header(message: &[u8], header: &mut [u64]) -> u8
     ensures { λ r. ⌜ r ≡ sized headerSize (now (header .entry)) (ofHeader (readHeader (now (message .entry))) .refusal) ⌝ }
-    ensures { λ _. ⌜ now (header .exit) ≡ kept headerSize (now (header .entry)) (handed (ofHeader (readHeader (now (message .entry)))) (now (header .entry))) (now (header .entry)) ⌝ }
+    ensures { λ _. ⌜ now (header .exit) ≡ kept headerSize (now (header .entry))
+        (handed (ofHeader (readHeader (now (message .entry)))) (now (header .entry))) (now (header .entry)) ⌝ }
 {
     if header.len() != HEADER {
         return WRONG_BUFFER;
@@ -155,9 +156,13 @@ pub extern "C" fn hub_read(
     working: &mut [u8],
     header: &mut [u64],
 ) -> u8
-    ensures { λ r. ⌜ r ≡ sized headerSize (now (header .entry)) (ofMessage (readMessage (now (message .entry)) (now (keys .entry)) (length (now (working .entry)))) .refusal) ⌝ }
-    ensures { λ _. ⌜ now (working .exit) ≡ kept headerSize (now (header .entry)) (workingAfter (now (message .entry)) (now (keys .entry)) (now (working .entry))) (now (working .entry)) ⌝ }
-    ensures { λ _. ⌜ now (header .exit) ≡ kept headerSize (now (header .entry)) (handed (ofMessage (readMessage (now (message .entry)) (now (keys .entry)) (length (now (working .entry))))) (now (header .entry))) (now (header .entry)) ⌝ }
+    ensures { λ r. ⌜ r ≡ sized headerSize (now (header .entry)) (ofMessage
+        (readMessage (now (message .entry)) (now (keys .entry)) (length (now (working .entry)))) .refusal) ⌝ }
+    ensures { λ _. ⌜ now (working .exit) ≡ kept headerSize (now (header .entry))
+        (workingAfter (now (message .entry)) (now (keys .entry)) (now (working .entry))) (now (working .entry)) ⌝ }
+    ensures { λ _. ⌜ now (header .exit) ≡ kept headerSize (now (header .entry))
+        (handed (ofMessage (readMessage (now (message .entry)) (now (keys .entry)) (length (now (working .entry))))) (now (header .entry)))
+        (now (header .entry)) ⌝ }
 {
     if header.len() != HEADER {
         return WRONG_BUFFER;
@@ -210,7 +215,9 @@ pub extern "C" fn hub_payload(
     place: &mut [u64],
 ) -> u8
     ensures { λ r. ⌜ r ≡ cond (wrongPlace (now (header .entry)) (now (place .entry))) wrongBuffer 0 ⌝ }
-    ensures { λ _. ⌜ now (place .exit) ≡ cond (wrongPlace (now (header .entry)) (now (place .entry))) (now (place .entry)) (placeOf (length (now (message .entry))) (length (now (working .entry))) (getD (now (header .entry)) 8 0) (getD (now (header .entry)) 9 0) (getD (now (header .entry)) 10 0)) ⌝ }
+    ensures { λ _. ⌜ now (place .exit) ≡ cond (wrongPlace (now (header .entry)) (now (place .entry))) (now (place .entry))
+        (placeOf (length (now (message .entry))) (length (now (working .entry))) (getD (now (header .entry)) 8 0)
+        (getD (now (header .entry)) 9 0) (getD (now (header .entry)) 10 0)) ⌝ }
 {
     if (header.len() != HEADER) | (place.len() != TRIPLE) {
         return WRONG_BUFFER;

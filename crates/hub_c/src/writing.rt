@@ -86,9 +86,15 @@ pub extern "C" fn hub_write(
     out: &mut [u8],
     size: &mut [u64],
 ) -> u8
-    ensures { λ r. ⌜ r ≡ cond (wrongFields (now (fields .entry)) (now (size .entry))) wrongBuffer (ofWritten (writeAnswer (fieldsOf (now (fields .entry))) (now (chain .entry)) (now (payload .entry)) (length (now (keys .entry))) (length (now (out .entry)))) .refusal) ⌝ }
-    ensures { λ _. ⌜ now (out .exit) ≡ cond (wrongFields (now (fields .entry)) (now (size .entry))) (now (out .entry)) (writtenInto (fieldsOf (now (fields .entry))) (now (chain .entry)) (now (payload .entry)) (now (keys .entry)) (now (out .entry))) ⌝ }
-    ensures { λ _. ⌜ now (size .exit) ≡ cond (wrongFields (now (fields .entry)) (now (size .entry))) (now (size .entry)) (lengthAfter (ofWritten (writeAnswer (fieldsOf (now (fields .entry))) (now (chain .entry)) (now (payload .entry)) (length (now (keys .entry))) (length (now (out .entry))))) (now (size .entry))) ⌝ }
+    ensures { λ r. ⌜ r ≡ cond (wrongFields (now (fields .entry)) (now (size .entry))) wrongBuffer
+        (ofWritten (writeAnswer (fieldsOf (now (fields .entry))) (now (chain .entry)) (now (payload .entry)) (length (now (keys .entry)))
+        (length (now (out .entry)))) .refusal) ⌝ }
+    ensures { λ _. ⌜ now (out .exit) ≡ cond (wrongFields (now (fields .entry)) (now (size .entry))) (now (out .entry))
+        (writtenInto (fieldsOf (now (fields .entry))) (now (chain .entry)) (now (payload .entry)) (now (keys .entry))
+        (now (out .entry))) ⌝ }
+    ensures { λ _. ⌜ now (size .exit) ≡ cond (wrongFields (now (fields .entry)) (now (size .entry))) (now (size .entry))
+        (lengthAfter (ofWritten (writeAnswer (fieldsOf (now (fields .entry))) (now (chain .entry)) (now (payload .entry))
+        (length (now (keys .entry))) (length (now (out .entry))))) (now (size .entry))) ⌝ }
 {
     if (fields.len() != FIELDS) | (size.len() != 1) | (MOST_SEQUENCE < word(fields, 2)) {
         return WRONG_BUFFER;

@@ -110,7 +110,8 @@ fn tell(run: Listed, message: &[u8], size: u16, out: &mut [u8]) -> Listed
 fn turn(run: Listed, stream: &[u8], ended: bool, out: &mut [u8]) -> Listed
     requires { ⌜ run .read ≤ length (now stream) ⌝ }
     ensures { λ r. ⌜ r ≡ turned run (turnAt (drop (run .read) (now (stream .entry))) ended (length (now (out .entry))) (run .written)) ⌝ }
-    ensures { λ _. ⌜ now (out .exit) ≡ sets (now (out .entry)) (run .written) (turnAt (drop (run .read) (now (stream .entry))) ended (length (now (out .entry))) (run .written) .line) ⌝ }
+    ensures { λ _. ⌜ now (out .exit) ≡ sets (now (out .entry)) (run .written)
+        (turnAt (drop (run .read) (now (stream .entry))) ended (length (now (out .entry))) (run .written) .line) ⌝ }
 {
     let from = run.read;
     let at = run.written;

@@ -17,10 +17,10 @@ use wire::refusals::NO_ROOM;
 use wire::refusals::WRONG_CHAIN;
 use wire::refusals::WRONG_FLAGS;
 use wire::refusals::WRONG_KEYS;
-use wire::refusals::WRONG_KIND;
 use wire::refusals::WRONG_PAYLOAD;
 use wire::refusals::WRONG_PIECE;
 use wire::refusals::WRONG_PIECE_SIZE;
+use wire::refusals::WRONG_TYPE;
 use writer::Written;
 use writer::header::write_header;
 use writer::stores::store_bytes;
@@ -53,7 +53,7 @@ fn refused(header: Header, chain: &[u8], payload: &[u8], keys: usize, room: usiz
     ensures { λ r. ⌜ r ≡ writeRefusal header (now (chain .entry)) (now (payload .entry)) keys room ⌝ }
 {
     if bad_kind(header.kind) {
-        return WRONG_KIND;
+        return WRONG_TYPE;
     }
     if bad_flags(header.kind, header.flags) {
         return WRONG_FLAGS;
@@ -83,7 +83,8 @@ fn refused(header: Header, chain: &[u8], payload: &[u8], keys: usize, room: usiz
 // The header of a message of `size` bytes, and its chain.
 fn put_front(header: Header, size: u16, chain: &[u8], out: &mut [u8])
     requires { ⌜ 40 + length (now chain) ≤ length (now out) ⌝ }
-    ensures { λ _. ⌜ now (out .exit) ≡ (headerBytes header size ++ now (chain .entry)) ++ drop (40 + length (now (chain .entry))) (now (out .entry)) ⌝ }
+    ensures { λ _. ⌜ now (out .exit) ≡ (headerBytes header size ++ now (chain .entry))
+        ++ drop (40 + length (now (chain .entry))) (now (out .entry)) ⌝ }
 {
     write_header(header, size, out);
     store_bytes(out, Header::LENGTH, chain);

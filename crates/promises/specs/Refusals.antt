@@ -195,7 +195,8 @@ cutTable F bytes i = (24, badSize F) ∷ (7, ltb (F * most) bytes || leb (pieceC
 abbrev pub CutterExact : Type 0
 CutterExact = (F bytes i n : ℕ) → (n ≡ 0 → ⊥) → (cutRefusal F bytes i ≡ n) ⇔ leads n (cutTable F bytes i)
 
--- The writer's rows: "5, 6, 7, 8 (a chain given with bytes after its end too), 10 if sealed, 14, 20 (Session payload over 16,384), 22, in that order".
+-- The writer's rows: "5, 6, 7, 8 (a chain given with bytes after its end too), 10 if sealed, 14, 20 (Session payload over 16,384), 22, in
+-- that order".
 abbrev pub writerTable : Header → (chain payload : List ℕ) → (keys room : ℕ) → List (ℕ × Bool)
 writerTable h chain payload keys room =
     (5, badKind (h .kind))

@@ -53,7 +53,8 @@ fn fits(done: usize, first: &[u8], second: &[u8], third: &[u8]) -> bool
 // The digest of the parts, from the hash value after so many bytes before them.
 fn finish(v: Vars, done: usize, first: &[u8], second: &[u8], third: &[u8]) -> [u8; 32]
     requires { ⌜ done + (length (now first) + (length (now second) + length (now third))) < 2 ^ 61 ⌝ }
-    ensures { λ r. ⌜ r ≡ bytesOf (hashed v ((now (first .entry) ++ (now (second .entry) ++ now (third .entry))) ++ padding (done + (length (now (first .entry)) + (length (now (second .entry)) + length (now (third .entry))))))) ⌝ }
+    ensures { λ r. ⌜ r ≡ bytesOf (hashed v ((now (first .entry) ++ (now (second .entry) ++ now (third .entry)))
+        ++ padding (done + (length (now (first .entry)) + (length (now (second .entry)) + length (now (third .entry))))))) ⌝ }
 {
     let total = done + (first.len() + (second.len() + third.len()));
     let tail = padding_of(total);

@@ -36,7 +36,8 @@ fn smaller(a: usize, b: usize) -> usize
 // The places from `from` up to `to` of the message are copied out of the part that holds them.
 fn lay(block: &mut [u8], part: &[u8], ahead: usize, at: usize, from: usize, to: usize)
     requires { ⌜ (length (now block) ≡ 64) × (at ≤ from) × (ahead ≤ from) × (from ≤ to) × (to ≤ at + 64) × (to ≤ ahead + length (now part)) ⌝ }
-    ensures { λ _. ⌜ (length (now (block .exit)) ≡ 64) × ((j : ℕ) → getD (now (block .exit)) j 0 ≡ laidFrom (now (block .entry)) (now (part .entry)) ahead at from to j) ⌝ }
+    ensures { λ _. ⌜ (length (now (block .exit)) ≡ 64) × ((j : ℕ) → getD (now (block .exit)) j 0
+        ≡ laidFrom (now (block .entry)) (now (part .entry)) ahead at from to j) ⌝ }
 {
     let mut i = from;
     while i < to {
@@ -48,7 +49,8 @@ fn lay(block: &mut [u8], part: &[u8], ahead: usize, at: usize, from: usize, to: 
 // A part that starts at `ahead` in the message is laid over the block that starts at `at`.
 fn gather(block: &mut [u8], part: &[u8], ahead: usize, at: usize)
     requires { ⌜ (length (now block) ≡ 64) × (at + 64 < 2 ^ 64) × (ahead + length (now part) < 2 ^ 64) ⌝ }
-    ensures { λ _. ⌜ (length (now (block .exit)) ≡ 64) × ((j : ℕ) → j < 64 → getD (now (block .exit)) j 0 ≡ laid (now (block .entry)) (now (part .entry)) ahead at j) ⌝ }
+    ensures { λ _. ⌜ (length (now (block .exit)) ≡ 64) × ((j : ℕ) → j < 64
+        → getD (now (block .exit)) j 0 ≡ laid (now (block .entry)) (now (part .entry)) ahead at j) ⌝ }
 {
     let end = ahead + part.len();
     if end <= at {
@@ -70,7 +72,8 @@ fn gather(block: &mut [u8], part: &[u8], ahead: usize, at: usize)
 // The block at a place of the message; behind the message's end stand zeros.
 fn assembled(first: &[u8], second: &[u8], third: &[u8], tail: &[u8], at: usize) -> [u8; 64]
     requires { ⌜ (at + 64 < 2 ^ 64) × (length (now first) + (length (now second) + (length (now third) + length (now tail))) < 2 ^ 64) ⌝ }
-    ensures { λ r. ⌜ (length r ≡ 64) × ((j : ℕ) → j < 64 → getD r j 0 ≡ getD (now (first .entry) ++ (now (second .entry) ++ (now (third .entry) ++ now (tail .entry)))) (at + j) 0) ⌝ }
+    ensures { λ r. ⌜ (length r ≡ 64) × ((j : ℕ) → j < 64 → getD r j 0 ≡ getD
+        (now (first .entry) ++ (now (second .entry) ++ (now (third .entry) ++ now (tail .entry)))) (at + j) 0) ⌝ }
 {
     let mut block = [0u8; 64];
     gather(&mut block, first, 0, at);
@@ -88,7 +91,8 @@ fn assembled(first: &[u8], second: &[u8], third: &[u8], tail: &[u8], at: usize) 
 // The block at a place of the message where it stands, if it lies in this part, ahead of which so many bytes stand; else nothing.
 fn inside<'a>(part: &'a [u8], ahead: usize, at: usize) -> &'a [u8]
     requires { ⌜ (at + 64 < 2 ^ 64) × (ahead + length (now part) < 2 ^ 64) ⌝ }
-    ensures { λ r. ⌜ (length (now r) ≡ 64 → (front behind : List ℕ) → length front ≡ ahead → (j : ℕ) → j < 64 → getD (now r) j 0 ≡ getD (front ++ (now (part .entry) ++ behind)) (at + j) 0) ⌝ }
+    ensures { λ r. ⌜ (length (now r) ≡ 64 → (front behind : List ℕ) → length front ≡ ahead → (j : ℕ) → j < 64
+        → getD (now r) j 0 ≡ getD (front ++ (now (part .entry) ++ behind)) (at + j) 0) ⌝ }
 {
     if ahead <= at {
         if at + 64 <= ahead + part.len() {
@@ -102,7 +106,8 @@ fn inside<'a>(part: &'a [u8], ahead: usize, at: usize) -> &'a [u8]
 // The block at a place of the message where it stands, if it lies in the third part or in the tail; else nothing.
 fn standing<'a>(first: &[u8], second: &[u8], third: &'a [u8], tail: &'a [u8], at: usize) -> &'a [u8]
     requires { ⌜ (at + 64 < 2 ^ 64) × (length (now first) + (length (now second) + (length (now third) + length (now tail))) < 2 ^ 64) ⌝ }
-    ensures { λ r. ⌜ (length (now r) ≡ 64 → (j : ℕ) → j < 64 → getD (now r) j 0 ≡ getD (now (first .entry) ++ (now (second .entry) ++ (now (third .entry) ++ now (tail .entry)))) (at + j) 0) ⌝ }
+    ensures { λ r. ⌜ (length (now r) ≡ 64 → (j : ℕ) → j < 64 → getD (now r) j 0
+        ≡ getD (now (first .entry) ++ (now (second .entry) ++ (now (third .entry) ++ now (tail .entry)))) (at + j) 0) ⌝ }
 {
     let ahead = first.len() + second.len();
     let block = inside(third, ahead, at);

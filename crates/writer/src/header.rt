@@ -12,20 +12,21 @@ ghost use lib.Seq.{sets};
 ghost use Rattle.writer.specs.Header.{headerBytes};
 ghost use Rattle.writer.specs.Written.{written, output};
 
+// Puts the fields, each at its place.
 fn put_header(h: Header, size: u16, out: &mut [u8])
     ensures { λ _. ⌜ now (out .exit) ≡ sets (now (out .entry)) 0 (headerBytes h size) ⌝ }
 {
-    store16(out, 0, Header::SIGNATURE);
-    store16(out, 2, size);
-    store8(out, 4, Header::VERSION);
-    store8(out, 5, h.kind);
-    store16(out, 6, h.flags);
-    store32(out, 8, h.sequence);
-    store64(out, 12, h.request);
-    store16(out, 20, h.index);
-    store16(out, 22, h.count);
-    store64(out, 24, h.session);
-    store64(out, 32, h.channel);
+    store16(out, Header::SIGNATURE_AT, Header::SIGNATURE);
+    store16(out, Header::LENGTH_AT, size);
+    store8(out, Header::VERSION_AT, Header::VERSION);
+    store8(out, Header::KIND_AT, h.kind);
+    store16(out, Header::FLAGS_AT, h.flags);
+    store32(out, Header::SEQUENCE_AT, h.sequence);
+    store64(out, Header::REQUEST_AT, h.request);
+    store16(out, Header::INDEX_AT, h.index);
+    store16(out, Header::COUNT_AT, h.count);
+    store64(out, Header::SESSION_AT, h.session);
+    store64(out, Header::CHANNEL_AT, h.channel);
 }
 
 // Writes the 40 bytes of a header whose message has `size` bytes.

@@ -141,7 +141,8 @@ pub fn write_connection_request(mode: u16, request: Request, out: &mut [u8]) -> 
 // Writes the payload of a Connection Response; only one that is Pending carries nonce, X and Y.
 pub fn write_connection_response(mode: u16, result: u8, request: Request, out: &mut [u8]) -> Written
     ensures answer { λ r. ⌜ r ≡ written (badResponse mode result) (responseSize result) (now (out .entry)) ⌝ }
-    ensures bytes { λ _. ⌜ now (out .exit) ≡ output (badResponse mode result) (responseSize result) (connectionResponse mode result request) (now (out .entry)) ⌝ }
+    ensures bytes { λ _. ⌜ now (out .exit) ≡ output (badResponse mode result) (responseSize result)
+        (connectionResponse mode result request) (now (out .entry)) ⌝ }
 {
     if result == PENDING {
         return write_exchange(mode, CONNECTION_RESPONSE, PENDING, request, out);
@@ -178,7 +179,8 @@ pub fn write_done_response(mode: u16, status: u8, out: &mut [u8]) -> Written
 
 fn put_device(out: &mut [u8], mode: u16, kind: u8, certificate: &[u8], thumbprint: &[u8])
     requires { ⌜ (length (now certificate) ≤ 2048) × (length (now thumbprint) ≤ 512) ⌝ }
-    ensures { λ _. ⌜ now (out .exit) ≡ sets (now (out .entry)) 0 (deviceAuthentication kind mode (now (certificate .entry)) (now (thumbprint .entry))) ⌝ }
+    ensures { λ _. ⌜ now (out .exit) ≡ sets (now (out .entry)) 0 (deviceAuthentication kind mode (now (certificate .entry))
+        (now (thumbprint .entry))) ⌝ }
 {
     let n = certificate.len();
     put_start(out, mode, kind);
@@ -196,8 +198,11 @@ pub fn write_device_authentication(
     thumbprint: &[u8],
     out: &mut [u8],
 ) -> Written
-    ensures answer { λ r. ⌜ r ≡ written (badDevice kind mode (now (certificate .entry)) (now (thumbprint .entry))) (7 + length (now (certificate .entry)) + length (now (thumbprint .entry))) (now (out .entry)) ⌝ }
-    ensures bytes { λ _. ⌜ now (out .exit) ≡ output (badDevice kind mode (now (certificate .entry)) (now (thumbprint .entry))) (7 + length (now (certificate .entry)) + length (now (thumbprint .entry))) (deviceAuthentication kind mode (now (certificate .entry)) (now (thumbprint .entry))) (now (out .entry)) ⌝ }
+    ensures answer { λ r. ⌜ r ≡ written (badDevice kind mode (now (certificate .entry)) (now (thumbprint .entry)))
+        (7 + length (now (certificate .entry)) + length (now (thumbprint .entry))) (now (out .entry)) ⌝ }
+    ensures bytes { λ _. ⌜ now (out .exit) ≡ output (badDevice kind mode (now (certificate .entry)) (now (thumbprint .entry)))
+        (7 + length (now (certificate .entry)) + length (now (thumbprint .entry)))
+        (deviceAuthentication kind mode (now (certificate .entry)) (now (thumbprint .entry))) (now (out .entry)) ⌝ }
 {
     let c = certificate.len();
     let t = thumbprint.len();
