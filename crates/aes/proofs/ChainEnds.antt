@@ -1,4 +1,4 @@
--- A chain of two blocks, as the first and the last of a longer one. Assumes nothing.
+-- A chain of two blocks, as the first and the last of a longer one.
 use mathlib.Core.Path.{_≡_, sym, ap, ap₂, _∙_}
 use mathlib.Core.List.{List, [], _++_, append-nil}
 use Prim.Native.Nat.{ℕ, _%_}
@@ -54,6 +54,7 @@ module _ (f l : List ℕ) (ef : length f ≡ 16) (el : length l ≡ 16) where
     last-end b m e r em ee er =
         let n : length (take 16 (drop 16 p)) ≡ 16 = length-take-le 16 (drop 16 p) (rw (length-drop, plain-long) (omega arith)) in
         let w : m ≡ addRoundKey (invCipher ks l) f =
-        em ∙ loaded-front (take 16 (drop 16 p)) (omega arith) ∙ take-all 16 (take 16 (drop 16 p)) (omega arith) ∙ ap (λ (x : List ℕ). take 16 (drop 16 x)) plain
+        em ∙ loaded-front (take 16 (drop 16 p)) (omega arith) ∙ take-all 16 (take 16 (drop 16 p)) (omega arith)
+        ∙ ap (λ (x : List ℕ). take 16 (drop 16 x)) plain
         ∙ cbcDecrypt-last ks v (f ++ l) 1 two-long ∙ ap₂ (cbcDecryptBlock ks) (take-at f l 16 ef) (drop-at f l 16 ef) in
         er ∙ ap (λ (x : List ℕ). addRoundKey x b) (ee ∙ ap (λ (x : List ℕ). addRoundKey x f) w ∙ add-add (invCipher ks l) f (invCipher-length ks l))

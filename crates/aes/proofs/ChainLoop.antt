@@ -1,4 +1,4 @@
--- A chain that a loop writes block by block: what its invariant says, and its three steps. Assumes nothing.
+-- A chain that a loop writes block by block: what its invariant says, and its three steps.
 use mathlib.Core.Path.{_≡_, refl, sym, ap, ap₂, _∙_, subst}
 use mathlib.Core.List.{List, [], _++_, append-assoc, append-nil}
 use Prim.Native.Nat.{ℕ, suc, _+_, _-_, _/_, _%_, _≤_, _<_}
@@ -14,12 +14,12 @@ use Rattle.aes.proofs.Undo.{cipher-length}
 
 -- ---- one block more at the front
 
-pub encrypt-one : (ks : List (List ℕ)) (u r c : List ℕ) → c ≡ cipher ks (addRoundKey (take 16 r) u) → (m : ℕ)
+encrypt-one : (ks : List (List ℕ)) (u r c : List ℕ) → c ≡ cipher ks (addRoundKey (take 16 r) u) → (m : ℕ)
     → encryptBlocks ks (suc m) u r ≡ c ++ encryptBlocks ks m c (drop 16 r)
 unfolding encryptBlocks
 encrypt-one ks u r c e m = ap (λ (x : List ℕ). x ++ encryptBlocks ks m x (drop 16 r)) (sym e)
 
-pub decrypt-one : (ks : List (List ℕ)) (u r p b : List ℕ) → p ≡ addRoundKey (invCipher ks b) u → b ≡ take 16 r → (m : ℕ)
+decrypt-one : (ks : List (List ℕ)) (u r p b : List ℕ) → p ≡ addRoundKey (invCipher ks b) u → b ≡ take 16 r → (m : ℕ)
     → decryptBlocks ks (suc m) u r ≡ p ++ decryptBlocks ks m b (drop 16 r)
 unfolding decryptBlocks cbcDecryptBlock
 decrypt-one ks u r p b e f m =

@@ -1,4 +1,4 @@
--- A chain and the room that it is written to: what the public calls answer, and what they leave. Assumes nothing.
+-- A chain and the room that it is written to: what the public calls answer, and what they leave.
 use mathlib.Core.Path.{_≡_, refl, ap, ap₂, _∙_}
 use mathlib.Core.List.{List, _++_, append-nil}
 use Prim.Native.Nat.{ℕ, _+_, _%_, _≤_}

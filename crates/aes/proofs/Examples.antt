@@ -1,5 +1,5 @@
 -- Published cases, of the definitions: FIPS 197, appendix A.1 and appendix B, and P13. The round keys of A.1 are made step by step, each of the
--- one listed before it; appendix B then goes by the list. Assumes nothing.
+-- one listed before it; appendix B then goes by the list.
 use mathlib.Core.Path.{_≡_, refl, ap, sym, _∙_}
 use mathlib.Core.Bool.{Bool, true, false}
 use mathlib.Core.List.{List, [], _∷_}
@@ -66,7 +66,7 @@ unfolding roundKey
 listed zero h = refl
 listed (suc n) h = ap (λ (k : List ℕ). nextKey k (rcon n)) (listed n (omega arith)) ∙ each-follows n (omega arith)
 
-pub appendix-a1 : expandKey key ≡ keys
+appendix-a1 : expandKey key ≡ keys
 unfolding expandKey
 appendix-a1 = sym (run-is [] (roundKey key) 11 keys refl (λ n h. sym (listed n h)))
 

@@ -1,4 +1,4 @@
--- Decryption undoes encryption, for every key and block; and the rounds as the code counts them. Assumes nothing.
+-- Decryption undoes encryption, for every key and block; and the rounds as the code counts them.
 use mathlib.Core.Path.{_≡_, sym, ap, ap₂, _∙_, subst}
 use mathlib.Core.List.{List, []}
 use Prim.Native.Nat.{ℕ, zero, suc, _+_, _-_, _≤_, _<_}
@@ -49,7 +49,8 @@ invCipher-whole ks b k s₀ s l r zero ek e₀ es h el er =
     er ∙ ap (addRoundKey (invSubBytes (invShiftRows s))) el ∙ es ∙ ap (unrounds ks 9) (e₀ ∙ ap (addRoundKey b) ek)
 
 -- one key more with InvMixColumns applied
-pub inverse-more : (ks ds : List (List ℕ)) (r : List ℕ) (n : ℕ) → n < length ds → InverseKeys ks ds n → r ≡ invMixColumns (getD ks n []) → Block (getD ks n [])
+pub inverse-more : (ks ds : List (List ℕ)) (r : List ℕ) (n : ℕ) → n < length ds → InverseKeys ks ds n → r ≡ invMixColumns (getD ks n [])
+    → Block (getD ks n [])
     → InverseKeys ks (set ds n r) (n + 1)
 inverse-more ks ds r n h inv er b i p g = here (ℕ-discrete i n)
   where

@@ -1,4 +1,4 @@
--- A product with a fixed byte is a byte, and the product of a sum is the sum of the products. Assumes nothing.
+-- A product with a fixed byte is a byte, and the product of a sum is the sum of the products.
 use mathlib.Core.Path.{_≡_, sym, ap, ap₂, _∙_, subst}
 use Prim.Native.Nat.{ℕ, zero, suc, _*_, _/_, _%_, _<_}
 use native.Mathlib.Nat.{mod-lt, zero-mul, one-mul, le-of-suc-le-suc, not-suc-le-zero}
@@ -25,7 +25,7 @@ times-digit zero a b h = zero-mul (xor a b) ∙ sym (self 0) ∙ sym (ap₂ xor 
 times-digit (suc zero) a b h = one-mul (xor a b) ∙ sym (ap₂ xor (one-mul a) (one-mul b))
 times-digit (suc (suc c)) a b h = absurd (not-suc-le-zero (le-of-suc-le-suc (le-of-suc-le-suc h)))
 
-pub xtime-xor : (a b : ℕ) → a < 256 → b < 256 → xtime (xor a b) ≡ xor (xtime a) (xtime b)
+xtime-xor : (a b : ℕ) → a < 256 → b < 256 → xtime (xor a b) ≡ xor (xtime a) (xtime b)
 unfolding xtime
 xtime-xor a b ha hb =
     ap₂ xor (double a b)

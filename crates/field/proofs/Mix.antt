@@ -1,4 +1,4 @@
--- InvMixColumns undoes MixColumns: the inverse row times the row, turned four times, has the coefficients 1, 0, 0, 0. Assumes nothing.
+-- InvMixColumns undoes MixColumns: the inverse row times the row, turned four times, has the coefficients 1, 0, 0, 0.
 use mathlib.Core.Path.{_≡_, refl, sym, ap, _∙_}
 use Prim.Native.Nat.{ℕ, _<_}
 use lib.Dec.{lit<}
@@ -21,7 +21,7 @@ turn a b c d =
     ap (xor a) (sym (assoc b c d)) ∙ sym (assoc a (xor b c) d) ∙ comm (xor a (xor b c)) d
 
 -- two sums, term by term
-pub zip : (a b c d e f g h : ℕ) → xor (xor4 a b c d) (xor4 e f g h) ≡ xor4 (xor a e) (xor b f) (xor c g) (xor d h)
+zip : (a b c d e f g h : ℕ) → xor (xor4 a b c d) (xor4 e f g h) ≡ xor4 (xor a e) (xor b f) (xor c g) (xor d h)
 unfolding xor4
 zip a b c d e f g h =
     swap4 a (xor b (xor c d)) e (xor f (xor g h))
@@ -46,7 +46,7 @@ alone a = ap (xor a) (zero-l (xor 0 0) ∙ zero-l 0) ∙ zero-r a
 
 -- ---- rows
 
-pub row-byte : (k l m n a b c d : ℕ) → a < 256 → b < 256 → c < 256 → d < 256 → row k l m n a b c d < 256
+row-byte : (k l m n a b c d : ℕ) → a < 256 → b < 256 → c < 256 → d < 256 → row k l m n a b c d < 256
 unfolding row
 row-byte k l m n a b c d ha hb hc hd =
     xor4-byte (mul k a) (mul l b) (mul m c) (mul n d) (mul-byte k a ha) (mul-byte l b hb) (mul-byte m c hc) (mul-byte n d hd)

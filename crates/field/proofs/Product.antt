@@ -1,5 +1,5 @@
 -- The product of bytes: either factor may come first, three may be put together either way, and 1 changes nothing. Both sides keep sums in each
--- factor, so that a test over the binary digits is enough. Assumes nothing.
+-- factor, so that a test over the binary digits is enough.
 use mathlib.Core.Path.{_≡_, refl, _∙_}
 use mathlib.Core.Bool.{Bool}
 use Prim.Native.Nat.{ℕ, _^_, _<_}
@@ -61,7 +61,8 @@ digits-associate : (i j k : ℕ) → i < 8 → j < 8 → k < 8 → mul (mul (2 ^
 unfolding associate
 digits-associate i j k hi hj hk =
     eqb→eq (mul (mul (2 ^ i) (2 ^ j)) (2 ^ k)) (mul (2 ^ i) (mul (2 ^ j) (2 ^ k)))
-    (below (associate i j) 8 (below (λ j. every (associate i j) 0 8) 8 (below (λ i. every (λ j. every (associate i j) 0 8) 0 8) 8 all-associate i hi) j hj) k hk)
+    (below (associate i j) 8 (below (λ j. every (associate i j) 0 8) 8
+    (below (λ i. every (λ j. every (associate i j) 0 8) 0 8) 8 all-associate i hi) j hj) k hk)
 
 pub times-assoc : (a b c : ℕ) → a < 256 → b < 256 → c < 256 → mul (mul a b) c ≡ mul a (mul b c)
 times-assoc a b c ha hb hc =
@@ -75,5 +76,6 @@ times-assoc a b c ha hb hc =
 
     one : (i : ℕ) → i < 8 → mul (mul (2 ^ i) b) c ≡ mul (2 ^ i) (mul b c)
     one i hi =
-        additive-same (λ x. mul (mul (2 ^ i) x) c) (λ x. mul (2 ^ i) (mul x c)) (after (λ x. mul x c) (mul (2 ^ i)) (of c hc) (by (2 ^ i)) (mul-byte (2 ^ i)))
+        additive-same (λ x. mul (mul (2 ^ i) x) c) (λ x. mul (2 ^ i) (mul x c))
+        (after (λ x. mul x c) (mul (2 ^ i)) (of c hc) (by (2 ^ i)) (mul-byte (2 ^ i)))
         (after (mul (2 ^ i)) (λ x. mul x c) (by (2 ^ i)) (of c hc) (λ x h. mul-byte x c hc)) (λ j hj. two i j hi hj) b hb

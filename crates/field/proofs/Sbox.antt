@@ -1,4 +1,4 @@
--- The substitution has the standard's rule at each byte, nothing else has it, and the substitution back undoes it. Assumes nothing.
+-- The substitution has the standard's rule at each byte, nothing else has it, and the substitution back undoes it.
 use mathlib.Core.Path.{_≡_, refl, sym, ap, _∙_}
 use Prim.Native.Nat.{ℕ, zero, suc, _<_, min}
 use native.Mathlib.Omega.{arith}

@@ -1,4 +1,4 @@
--- The laws of `xor`. Assumes nothing.
+-- The laws of `xor`.
 use mathlib.Core.Path.{_≡_, refl, sym, ap, ap₂, _∙_}
 use Prim.Native.Nat.{ℕ, _*_, _/_, _%_, _<_}
 use native.Mathlib.Nat.{add-zero}
@@ -35,7 +35,7 @@ pub assoc : (a b c : ℕ) → xor (xor a b) c ≡ xor a (xor b c)
 unfolding xor
 assoc = xor-assoc
 
-pub left-comm : (a b c : ℕ) → xor a (xor b c) ≡ xor b (xor a c)
+left-comm : (a b c : ℕ) → xor a (xor b c) ≡ xor b (xor a c)
 left-comm a b c = sym (assoc a b c) ∙ ap (λ (x : ℕ). xor x c) (comm a b) ∙ assoc b a c
 
 -- twice the same cancels

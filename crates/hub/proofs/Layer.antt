@@ -1,5 +1,4 @@
 -- The step as the machine of demand 3: a piece of the report that the reader reads is joined, and a quiet answer changes nothing.
--- Assumes nothing.
 use Prim.Native.Nat.{ℕ, _≤_}
 use mathlib.Core.Path.{_≡_, refl, ap}
 use mathlib.Core.List.{List}
@@ -54,10 +53,12 @@ module _ (c : Connection) (m k w b : List ℕ) (v : ℕ) where
   pub step-still : Still c b (step c m k w b v) (reportStepped c m k w b v)
   unfolding step reportStepped
   step-still =
-      ways (ltb 1 v) (badSize (c .size)) _ _ _ _ (λ e. (refl, refl)) (λ e. (refl, refl)) (read-still (workingAfter m k w) (readMessage m k (length w)))
+      ways (ltb 1 v) (badSize (c .size)) _ _ _ _ (λ e. (refl, refl)) (λ e. (refl, refl))
+      (read-still (workingAfter m k w) (readMessage m k (length w)))
 
 -- A piece is joined, on a Ready connection.
-module _ (c : Connection) (ready : c .state ≡ 3) (sized : badSize (c .size) ≡ false) (h : Progress) (b : List ℕ) (p : Piece) (bytes : List ℕ) (x : Call)
+module _ (c : Connection) (ready : c .state ≡ 3) (sized : badSize (c .size) ≡ false) (h : Progress) (b : List ℕ) (p : Piece)
+    (bytes : List ℕ) (x : Call)
     (i : Brings c p bytes x) where
   pub step-joins : (step (withProgress c h) (x .message) (x .keys) (x .working) b (x .verdict) ≡ joined c (join (c .size) h p bytes b))
       × (reportStepped (withProgress c h) (x .message) (x .keys) (x .working) b (x .verdict) ≡ reportAfter (c .size) h p bytes b)
@@ -81,7 +82,8 @@ module _ (c : Connection) (ready : c .state ≡ 3) (sized : badSize (c .size) �
   abbrev pub says : Standing → Call → Answer
   says s x = step (s .connection) (x .message) (x .keys) (x .working) (s .report) (x .verdict) .answer
 
-  pub place : {c c′ : Connection} {b b′ : List ℕ} → c ≡ c′ → b ≡ b′ → _≡_ {A = Standing} (record { connection = c; report = b }) (record { connection = c′; report = b′ })
+  pub place : {c c′ : Connection} {b b′ : List ℕ} → c ≡ c′ → b ≡ b′ → _≡_ {A = Standing} (record { connection = c; report = b })
+      (record { connection = c′; report = b′ })
   place p q = λ i. record { connection = p i; report = q i }
 
   pub still : (s : Standing) (x : Call) → isQuiet (says s x) ≡ true → next s x ≡ s

@@ -1,4 +1,4 @@
--- A refusal and Again leave connection and report buffer alone. Assumes nothing.
+-- A refusal and Again leave connection and report buffer alone.
 use Prim.Native.Nat.{ℕ}
 use mathlib.Core.Path.{_≡_, refl, sym, ap}
 use mathlib.Core.List.{List}
@@ -77,5 +77,6 @@ module _ (c : Connection) (b : List ℕ) where
     pub heard-still : Still c b (heard c h p b v) (reportHeard c h p b)
     unfolding heard reportHeard
     heard-still =
-        ways (isForeign c h) (eqb (h .kind) 2) (joins c h) _ _ _ _ (reportAfter (c .size) (c .progress) (pieceIn h) p b) (refused-still otherSession) connect-still
+        ways (isForeign c h) (eqb (h .kind) 2) (joins c h) _ _ _ _ (reportAfter (c .size) (c .progress) (pieceIn h) p b)
+        (refused-still otherSession) connect-still
         joined-still (refused-still notAllowed) (connect-apart c h)

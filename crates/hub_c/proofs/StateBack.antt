@@ -1,4 +1,4 @@
--- The connection that a state was made of is read back from it. Assumes nothing.
+-- The connection that a state was made of is read back from it.
 use Prim.Native.Nat.{ℕ, _+_, _*_, _/_, _%_, _^_, _≤_, _<_}
 use mathlib.Core.Path.{_≡_, refl, sym, ap, ap₂, _∙_}
 use mathlib.Core.List.{List, [], _∷_, _++_, append-nil}
@@ -109,18 +109,21 @@ module _ (c : Connection) (f : Fits c) where
 
   y-back : bytesAt (stateBytes c) 57 32 ≡ c .y
   unfolding stateBytes gatewayBytes
-  y-back = in-front (gatewayBytes c) rest 121 57 32 l121 (omega arith) ∙ in-front a89 (c .digest) 89 57 32 l89 (omega arith) ∙ at-end a57 (c .y) 57 32 l57 (f .y)
+  y-back = in-front (gatewayBytes c) rest 121 57 32 l121 (omega arith) ∙ in-front a89 (c .digest) 89 57 32 l89 (omega arith)
+      ∙ at-end a57 (c .y) 57 32 l57 (f .y)
 
   x-back : bytesAt (stateBytes c) 25 32 ≡ c .x
   unfolding stateBytes gatewayBytes
   x-back =
-      in-front (gatewayBytes c) rest 121 25 32 l121 (omega arith) ∙ in-front a89 (c .digest) 89 25 32 l89 (omega arith) ∙ in-front a57 (c .y) 57 25 32 l57 (omega arith)
+      in-front (gatewayBytes c) rest 121 25 32 l121 (omega arith) ∙ in-front a89 (c .digest) 89 25 32 l89 (omega arith)
+      ∙ in-front a57 (c .y) 57 25 32 l57 (omega arith)
       ∙ at-end a25 (c .x) 25 32 l25 (f .x)
 
   nonce-back : bytesAt (stateBytes c) 17 8 ≡ c .nonce
   unfolding stateBytes gatewayBytes
   nonce-back =
-      in-front (gatewayBytes c) rest 121 17 8 l121 (omega arith) ∙ in-front a89 (c .digest) 89 17 8 l89 (omega arith) ∙ in-front a57 (c .y) 57 17 8 l57 (omega arith)
+      in-front (gatewayBytes c) rest 121 17 8 l121 (omega arith) ∙ in-front a89 (c .digest) 89 17 8 l89 (omega arith)
+      ∙ in-front a57 (c .y) 57 17 8 l57 (omega arith)
       ∙ in-front a25 (c .x) 25 17 8 l25 (omega arith)
       ∙ at-end numbers (c .nonce) 17 8 refl (f .nonce)
 

@@ -1,4 +1,4 @@
--- What the rules of cutting come to: places and lengths of the pieces, over any number of them. Assumes nothing.
+-- What the rules of cutting come to: places and lengths of the pieces, over any number of them.
 use Prim.Native.Nat.{ℕ, zero, suc, _+_, _-_, _*_, _/_, _≤_, _<_, min}
 use mathlib.Core.Path.{_≡_, refl, ap}
 use mathlib.Core.List.{List}

@@ -1,4 +1,4 @@
--- A piece put into a buffer: the length and the byte at each place of what comes of it. Assumes nothing.
+-- A piece put into a buffer: the length and the byte at each place of what comes of it.
 use Prim.Native.Nat.{ℕ, _+_, _≤_, _<_, min}
 use mathlib.Core.Path.{_≡_, sym, ap, _∙_}
 use mathlib.Core.List.{List, _++_}

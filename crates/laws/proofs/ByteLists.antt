@@ -1,4 +1,4 @@
--- Lists of bytes: every element is below 256, and so is every element of their parts and of what is joined from them. Assumes nothing.
+-- Lists of bytes: every element is below 256, and so is every element of their parts and of what is joined from them.
 use Prim.Native.Nat.{ℕ, zero, suc, _+_, _/_, _%_, _<_}
 use mathlib.Core.List.{List, [], _∷_, _++_}
 use native.Mathlib.Omega.{arith}

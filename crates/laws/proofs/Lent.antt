@@ -1,4 +1,4 @@
--- A part of a list is lent on and comes back changed: what the whole then is. Assumes nothing.
+-- A part of a list is lent on and comes back changed: what the whole then is.
 use Prim.Native.Nat.{ℕ, _+_, _-_, _≤_}
 use mathlib.Core.Path.{_≡_, sym, _∙_}
 use mathlib.Core.List.{List, _++_, append-nil, append-assoc}

@@ -1,4 +1,4 @@
--- Runs of stores: two, the second where the first ends, are one; what is stored past the end is dropped. Assumes nothing.
+-- Runs of stores: two, the second where the first ends, are one; what is stored past the end is dropped.
 use Prim.Native.Nat.{ℕ, zero, suc, _+_, _≤_, _<_}
 use mathlib.Core.Path.{_≡_, refl, sym, ap, _∙_}
 use mathlib.Core.List.{List, [], _∷_, _++_}

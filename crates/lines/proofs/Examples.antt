@@ -1,4 +1,4 @@
--- The listing's example, computed. Assumes nothing.
+-- The listing's example, computed.
 use mathlib.Core.Path.{_≡_, refl}
 use mathlib.Core.List.{[]}
 use mathlib.Core.Bool.{true}

@@ -1,4 +1,4 @@
--- Turns of a listing: each by its case, and one after the other. Assumes nothing.
+-- Turns of a listing: each by its case, and one after the other.
 use Prim.Native.Nat.{ℕ, zero, suc, _+_, _-_, _/_, _≤_, _<_}
 use mathlib.Core.Path.{_≡_, refl, sym, ap, _∙_}
 use mathlib.Core.List.{List}
@@ -37,31 +37,32 @@ module _ (rest : List ℕ) (ended : Bool) (room written : ℕ) where
   either-fits false t h = h
 
   -- A turn takes no more than there is.
-  pub turnAt-fits : turnAt rest ended room written .size ≤ length rest
+  turnAt-fits : turnAt rest ended room written .size ≤ length rest
   unfolding turnAt
   turnAt-fits = either-fits (ltb room (written + 64)) (turnBy rest (ahead rest ended)) (by-fits (ahead rest ended) refl)
 
-pub turned-listed : (b : Run) (s : Turn) → turned (listed b) s ≡ listed (behind b s)
+turned-listed : (b : Run) (s : Turn) → turned (listed b) s ≡ listed (behind b s)
 turned-listed b s = rw (length-append (b .text) (s .line))
 
 module _ (stream : List ℕ) (ended : Bool) (room : ℕ) where
-  pub turn-fits : (b : Run) → b .read ≤ length stream → turn stream ended room b .read ≤ length stream
+  turn-fits : (b : Run) → b .read ≤ length stream → turn stream ended room b .read ≤ length stream
   unfolding turn
   turn-fits b h = omega (arith, turnAt-fits (drop (b .read) stream) ended room (length (b .text)), length-drop (b .read) stream)
 
   -- A run that goes on takes a turn.
-  pub many-more : (n : ℕ) (b : Run) → 0 < n → b .going ≡ true → manyTurns n stream ended room b ≡ manyTurns (n - 1) stream ended room (turn stream ended room b)
+  many-more : (n : ℕ) (b : Run) → 0 < n → b .going ≡ true → manyTurns n stream ended room b
+      ≡ manyTurns (n - 1) stream ended room (turn stream ended room b)
   unfolding manyTurns
   many-more zero b h e = absurd (omega arith)
   many-more (suc n) b h e = rw (e, sub-one)
 
   -- A run that does not go on has come to its end.
-  pub many-stop : (n : ℕ) (b : Run) → b .going ≡ false → manyTurns n stream ended room b ≡ b
+  many-stop : (n : ℕ) (b : Run) → b .going ≡ false → manyTurns n stream ended room b ≡ b
   unfolding manyTurns
   many-stop zero b e = refl
   many-stop (suc n) b e = rw e
 
-  pub many-none : (n : ℕ) (b : Run) → n ≡ 0 → manyTurns n stream ended room b ≡ b
+  many-none : (n : ℕ) (b : Run) → n ≡ 0 → manyTurns n stream ended room b ≡ b
   unfolding manyTurns
   many-none zero b e = refl
   many-none (suc n) b e = absurd (omega arith)
@@ -115,7 +116,8 @@ module _ (stream : List ℕ) (ended : Bool) (out₀ : List ℕ) where
     last e = rw (← r .leads, e) (r .is, r .holds)
 
     -- The run goes on no more.
-    pub reached-stop : run .going ≡ false → (run ≡ listed (list stream ended (length out₀))) × (out ≡ sets out₀ 0 (list stream ended (length out₀) .text))
+    pub reached-stop : run .going ≡ false → (run ≡ listed (list stream ended (length out₀)))
+        × (out ≡ sets out₀ 0 (list stream ended (length out₀) .text))
     reached-stop g = last (many-stop stream ended (length out₀) turns (r .so) (sym (ap (λ (l : Listed). l .going) (r .is)) ∙ g))
 
     -- There are no more turns.

@@ -1,4 +1,4 @@
--- What the writer wrote the reader reads back: the same fields, and the payload's bytes where it says they are. Assumes nothing.
+-- What the writer wrote the reader reads back: the same fields, and the payload's bytes where it says they are.
 use Prim.Native.Nat.{ℕ, _+_, _≤_, _<_}
 use mathlib.Core.Path.{_≡_, sym, ap, _∙_}
 use mathlib.Core.List.{List, [], _++_, append-assoc, append-nil}
@@ -98,7 +98,8 @@ module _ (h : Header) (chain payload keys : List ℕ) (room space : ℕ) (good :
         rw (plain-header, plain, payload-plain, shaped)
 
   -- A sealed message.
-  module _ (sealed : isSealed (h .flags) ≡ true) (of-keys : AllBytes keys) (of-chain : AllBytes chain) (of-payload : AllBytes payload) (widths : InWidth h) where
+  module _ (sealed : isSealed (h .flags) ≡ true) (of-keys : AllBytes keys) (of-chain : AllBytes chain) (of-payload : AllBytes payload)
+      (widths : InWidth h) where
     abbrev part : List ℕ
     part = cbcEncrypt (expandKey (encryptionKey keys)) (vector keys before) (plainText payload)
 
@@ -129,7 +130,8 @@ module _ (h : Header) (chain payload keys : List ℕ) (room space : ℕ) (good :
         ∙ sym (in-parts keys before payload) ∙ sym sealed-is
 
     pub sealed-header : readHeader (messageBytes h chain payload keys)
-        ≡ head.Read h (40 + length chain) (length (cbcEncrypt (expandKey (encryptionKey keys)) (vector keys (beforePayload h chain payload)) (plainText payload)))
+        ≡ head.Read h (40 + length chain) (length (cbcEncrypt (expandKey (encryptionKey keys))
+        (vector keys (beforePayload h chain payload)) (plainText payload)))
     sealed-header =
         let b = sealedSize-blocks (length payload) in
         ap readHeader (sym sealed-message)

@@ -1,4 +1,4 @@
--- Demand 2's count: joining counts the indexes accepted, and nothing but joining touches what is remembered of them. Assumes nothing.
+-- Demand 2's count: joining counts the indexes accepted, and nothing but joining touches what is remembered of them.
 use Prim.Native.Nat.{ℕ}
 use mathlib.Core.Path.{_≡_, sym, ap}
 use mathlib.Core.List.{List, [], _∷_}

@@ -1,4 +1,4 @@
--- A message that was read is read alike with another working buffer that is long enough: only 12 looks at it. Assumes nothing.
+-- A message that was read is read alike with another working buffer that is long enough: only 12 looks at it.
 use Prim.Native.Nat.{ℕ, _≤_}
 use mathlib.Core.Path.{_≡_, refl, sym, ap, _∙_}
 use mathlib.Core.List.{List, [], _∷_}
@@ -36,7 +36,8 @@ read-none n r h s from size = by (eqb n 0) refl
     by false e q = let z : _≡_ {A = ℕ} 0 1 = cc in absurd (omega arith)
 
 -- What opens with one working buffer opens with another that is long enough.
-room-only : (keys m : List ℕ) (at room other : ℕ) → openRefusal keys m at room ≡ 0 → length (sealedPart m at) ≤ other → openRefusal keys m at other ≡ 0
+room-only : (keys m : List ℕ) (at room other : ℕ) → openRefusal keys m at room ≡ 0 → length (sealedPart m at) ≤ other
+    → openRefusal keys m at other ≡ 0
 unfolding openRefusal partRefusal
 room-only keys m at room other e l =
     let ok = accepted keys m at room e in
@@ -78,7 +79,7 @@ module _ (m keys w : List ℕ) (h : Header) (s : Bool) (from size : ℕ) (e : re
     none : (openRefusal keys m at (length w) ≡ 0) × (first ((14, badPayload (be8 m 5) true (payloadOf (opened m keys at))) ∷ []) ≡ 0)
     none = neither _ _ (inside .0)
 
-    pub sealed-again : (other : ℕ) → length (sealedPart m (start m)) ≤ other → readMessage m keys other ≡ Read h s from size
+    sealed-again : (other : ℕ) → length (sealedPart m (start m)) ≤ other → readMessage m keys other ≡ Read h s from size
     unfolding sealedRead
     sealed-again other l =
         let shaped = first-quiet ((14, badPayload (be8 m 5) true (payloadOf (opened m keys at))) ∷ []) refl (none .1) .0 in
@@ -89,7 +90,7 @@ module _ (m keys w : List ℕ) (h : Header) (s : Bool) (from size : ℕ) (e : re
     into = rw (read-good m good, f)
 
     -- The payload is that of the plain text, whatever the working buffer held.
-    pub sealed-payload : payload m (workingAfter m keys w) s from size ≡ payloadOf (opened m keys (start m))
+    sealed-payload : payload m (workingAfter m keys w) s from size ≡ payloadOf (opened m keys (start m))
     sealed-payload =
         ap (handedBy m (workingAfter m keys w)) (sym (inside .1))
         ∙ ap (λ (v : List ℕ). payload m v true 4 (be32 (opened m keys at) 0)) into
@@ -100,7 +101,7 @@ module _ (m keys w : List ℕ) (h : Header) (s : Bool) (from size : ℕ) (e : re
     unfolding readMessage
     plain-way n = rw (read-good m good, f)
 
-    pub plain-again : (other : ℕ) → readMessage m keys other ≡ Read h s from size
+    plain-again : (other : ℕ) → readMessage m keys other ≡ Read h s from size
     plain-again other = plain-way other ∙ sym (plain-way (length w)) ∙ e
 
     plainly : Read (headerOf m) false at (leaves (chainOf m)) ≡ Read h s from size
@@ -110,7 +111,7 @@ module _ (m keys w : List ℕ) (h : Header) (s : Bool) (from size : ℕ) (e : re
         (sym (plain-way (length w)) ∙ e) .1
 
     -- The payload is a part of the message.
-    pub plain-payload : (v : List ℕ) → payload m v s from size ≡ partOf m (start m) (leaves (chainOf m))
+    plain-payload : (v : List ℕ) → payload m v s from size ≡ partOf m (start m) (leaves (chainOf m))
     unfolding payload
     plain-payload v = ap (handedBy m v) (sym plainly)
 

@@ -1,5 +1,4 @@
 -- Demand 1 for reader, step and cutter: each call's refusal is the first number of its table, and laws' both directions do the rest.
--- Assumes nothing.
 use Prim.Native.Nat.{ℕ, _-_, _≤_}
 use mathlib.Core.Path.{_≡_, refl, sym, ap, _∙_}
 use mathlib.Core.List.{List}
@@ -58,7 +57,8 @@ module _ (m keys : List ℕ) (room : ℕ) (bytes : AreBytes m) where
   header-first = refl
 
   pub reader-first : first (readerTable m keys room) ≡ orElse (refusalOf m) (first (openingTable m keys room))
-  reader-first = first-append (headerTable m) (openingTable m keys room) refl ∙ ap (λ (n : ℕ). orElse n (first (openingTable m keys room))) header-first
+  reader-first = first-append (headerTable m) (openingTable m keys room) refl
+      ∙ ap (λ (n : ℕ). orElse n (first (openingTable m keys room))) header-first
 
   -- What was read.
   abbrev pub whatIsRead : MessageRead
@@ -94,7 +94,8 @@ module _ (m keys : List ℕ) (room : ℕ) (bytes : AreBytes m) where
         (in-turn (not (eqb (length keys) 64)) (not (same (tagOf keys (bodyOf m)) (tagIn m))) (ltb room (length (sealedPart m (start m))))
         (badPlain (opened m keys (start m))) _))
 
-    plain-way : isSealed (be16 m 6) ≡ false → plainRead m (headerOf m) (start m) (leaves (chainOf m)) ≡ unless (first (openingTable m keys room)) whatIsRead
+    plain-way : isSealed (be16 m 6) ≡ false → plainRead m (headerOf m) (start m) (leaves (chainOf m))
+        ≡ unless (first (openingTable m keys room)) whatIsRead
     unfolding plainRead
     plain-way s = rw s
 

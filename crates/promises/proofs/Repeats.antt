@@ -1,4 +1,4 @@
--- Demand 2's conversation: the message of an enrolment step is known until a Failure, and is read again as it was. Assumes nothing.
+-- Demand 2's conversation: the message of an enrolment step is known until a Failure, and is read again as it was.
 use Prim.Native.Nat.{ℕ, _≤_}
 use mathlib.Core.Path.{_≡_, refl, sym, ap, _∙_}
 use mathlib.Core.List.{List, [], _∷_}

@@ -1,4 +1,4 @@
--- Demand 3: the step is the machine over which joining proved it for any number of pieces. Assumes nothing.
+-- Demand 3: the step is the machine over which joining proved it for any number of pieces.
 use Prim.Native.Nat.{ℕ, _*_, _<_}
 use mathlib.Core.Path.{_≡_, refl, sym, ap, _∙_}
 use mathlib.Core.List.{List, [], _∷_}
@@ -56,7 +56,7 @@ module _ (s : Sending) (f : Fair s) where
         buffer = s .buffer;
       }
 
-  pub start-fair : coming.Fair start
+  start-fair : coming.Fair start
   start-fair =
       let k = cuttable (s .connection .size) (length (s .report)) 0 (f .cut) in
       record { small = k .small; cut = k .cut; number = f .number; fresh = f .unheard; room = f .room }

@@ -1,4 +1,4 @@
--- The working buffer's rule: it changes exactly where a sealed message got past 13. Assumes nothing.
+-- The working buffer's rule: it changes exactly where a sealed message got past 13.
 use Prim.Native.Nat.{ℕ}
 use mathlib.Core.Path.{_≡_, refl, sym, ap, _∙_}
 use mathlib.Core.List.{List, [], _∷_, _++_}
@@ -30,7 +30,8 @@ in-turn false true c d = refl
 in-turn false false c d = refl
 
 module _ (c : Connection) (m keys working report : List ℕ) (v : ℕ) (bytes : AreBytes m) where
-  sealed-first : refusalOf m ≡ 0 → isSealed (be16 m 6) ≡ true → openRefusal keys m (start m) (length working) ≡ first (sealedTable m keys (length working))
+  sealed-first : refusalOf m ≡ 0 → isSealed (be16 m 6) ≡ true → openRefusal keys m (start m) (length working)
+      ≡ first (sealedTable m keys (length working))
   unfolding openRefusal partRefusal
   sealed-first z s =
       rw (part-there m keys (length working) bytes z s, s)
@@ -58,7 +59,8 @@ module _ (c : Connection) (m keys working report : List ℕ) (v : ℕ) (bytes : 
 
   rows-first : first (headerTable m ++ sealedTable m keys (length working)) ≡ orElse (refusalOf m) (first (sealedTable m keys (length working)))
   rows-first =
-      first-append (headerTable m) (sealedTable m keys (length working)) refl ∙ ap (λ (n : ℕ). orElse n (first (sealedTable m keys (length working)))) (header-first m keys (length working) bytes)
+      first-append (headerTable m) (sealedTable m keys (length working)) refl
+      ∙ ap (λ (n : ℕ). orElse n (first (sealedTable m keys (length working)))) (header-first m keys (length working) bytes)
 
   into-none : (n : ℕ) → (n ≡ 0 → ⊥) → (plain : List ℕ) → intoUnless n plain working ≡ working
   unfolding intoUnless
@@ -88,7 +90,8 @@ module _ (c : Connection) (m keys working report : List ℕ) (v : ℕ) (bytes : 
   plainly true s = refl
   plainly false s = after-plain s
 
-  none-applies : orElse (refusalOf m) (first (sealedTable m keys (length working))) ≡ 0 → (refusalOf m ≡ 0) × (first (sealedTable m keys (length working)) ≡ 0)
+  none-applies : orElse (refusalOf m) (first (sealedTable m keys (length working))) ≡ 0 → (refusalOf m ≡ 0)
+      × (first (sealedTable m keys (length working)) ≡ 0)
   none-applies e = by (eqb (refusalOf m) 0) refl
     where
       by : (t : Bool) → eqb (refusalOf m) 0 ≡ t → (refusalOf m ≡ 0) × (first (sealedTable m keys (length working)) ≡ 0)

@@ -1,4 +1,4 @@
--- A text that is put where there is room. Assumes nothing.
+-- A text that is put where there is room.
 use Prim.Native.Nat.{ℕ, _+_, _≤_}
 use mathlib.Core.Path.{_≡_, sym, _∙_}
 use mathlib.Core.List.{List}

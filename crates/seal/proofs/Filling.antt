@@ -1,4 +1,4 @@
--- What is written into the room of a sealed part, run by run. Assumes nothing.
+-- What is written into the room of a sealed part, run by run.
 use Prim.Native.Nat.{ℕ, _+_, _-_, _≤_}
 use mathlib.Core.Path.{_≡_, sym, ap, _∙_}
 use mathlib.Core.List.{List, _++_, append-nil, append-assoc}

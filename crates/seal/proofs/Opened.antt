@@ -1,4 +1,4 @@
--- An opened sealed part, by its first and its last block. Assumes nothing.
+-- An opened sealed part, by its first and its last block.
 use Prim.Native.Nat.{ℕ, suc, _+_, _-_, _*_, _/_, _%_, _≤_, _<_}
 use mathlib.Core.Path.{_≡_, refl, sym, ap, _∙_}
 use mathlib.Core.List.{List, [], _∷_, _++_}
@@ -83,7 +83,7 @@ placed given start e =
     }
 
 -- A refusal leaves the working buffer as it was.
-pub into-refused : (n : ℕ) (plain working : List ℕ) → (n ≡ 0 → ⊥) → intoUnless n plain working ≡ working
+into-refused : (n : ℕ) (plain working : List ℕ) → (n ≡ 0 → ⊥) → intoUnless n plain working ≡ working
 unfolding intoUnless
 into-refused n plain working h = rw (ne-eqb n 0 h)
 

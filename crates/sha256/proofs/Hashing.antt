@@ -1,4 +1,4 @@
--- Blocks of a message in parts, and of a message behind a block that was hashed already. Assumes nothing.
+-- Blocks of a message in parts, and of a message behind a block that was hashed already.
 use mathlib.Core.Path.{_≡_, _∙_, sym, ap, refl}
 use mathlib.Core.List.{List, _++_}
 use Prim.Native.Nat.{ℕ, zero, suc, _+_, _-_, _*_, _/_, _<_, _≤_}
@@ -31,7 +31,7 @@ words-eq a b i j h (suc n) l =
     )
 
 -- the same sixty-four bytes give the same hash value
-pub compress-eq : (v : Vars) (a b : List ℕ) (i j : ℕ) → ((k : ℕ) → k < 64 → getD a (i + k) 0 ≡ getD b (j + k) 0) → compress v a i ≡ compress v b j
+compress-eq : (v : Vars) (a b : List ℕ) (i j : ℕ) → ((k : ℕ) → k < 64 → getD a (i + k) 0 ≡ getD b (j + k) 0) → compress v a i ≡ compress v b j
 unfolding compress
 compress-eq v a b i j h = ap (λ (w : List ℕ). added v (rounds v (schedule w 48) 64)) (words-eq a b i j h 16 (omega arith))
 
@@ -54,7 +54,8 @@ blocks-more v x r m n p q = rw add-one (cc)
 
 blocks-behind : (v : Vars) (b m : List ℕ) → length b ≡ 64 → (n : ℕ) → blocks v (b ++ m) (suc n) ≡ blocks (compress v b 0) m n
 unfolding blocks
-blocks-behind v b m l zero = compress-eq v (b ++ m) b (64 * 0) 0 (λ k p. ap (λ (i : ℕ). getD (b ++ m) i 0) (omega arith) ∙ List·getD-append b m 0 (0 + k) (omega arith))
+blocks-behind v b m l zero = compress-eq v (b ++ m) b (64 * 0) 0 (λ k p. ap (λ (i : ℕ). getD (b ++ m) i 0) (omega arith)
+    ∙ List·getD-append b m 0 (0 + k) (omega arith))
 blocks-behind v b m l (suc n) =
     ap (λ (x : Vars). compress x (b ++ m) (64 * suc n)) (blocks-behind v b m l n)
     ∙ compress-eq (blocks (compress v b 0) m n) (b ++ m) m (64 * suc n) (64 * n)

@@ -1,4 +1,4 @@
--- The schedule and the rounds, step by step as the code makes them. Assumes nothing.
+-- The schedule and the rounds, step by step as the code makes them.
 use mathlib.Core.Path.{_≡_, _∙_, sym, ap, refl}
 use mathlib.Core.Logic.{⊎-elim}
 use mathlib.Core.Bool.{cond}
@@ -44,12 +44,12 @@ length-put : (w : List ℕ) (n : ℕ) → length (putWord w n) ≡ length w
 unfolding putWord
 length-put w n = length-set w (16 + n) (nextWord w n)
 
-pub length-put-four : (w : List ℕ) (n : ℕ) → length (putFour w n) ≡ length w
+length-put-four : (w : List ℕ) (n : ℕ) → length (putFour w n) ≡ length w
 unfolding putFour
 length-put-four w n = simp length-put
 
 -- four words more
-pub put-four-more : (m w : List ℕ) (n : ℕ) → n + 4 ≤ 48 → length w ≡ 64 → take (16 + n) w ≡ schedule m n
+put-four-more : (m w : List ℕ) (n : ℕ) → n + 4 ≤ 48 → length w ≡ 64 → take (16 + n) w ≡ schedule m n
     → take (16 + (n + 4)) (putFour w n) ≡ schedule m (n + 4)
 unfolding putFour
 put-four-more m w n h l p =
@@ -66,7 +66,7 @@ take-put : (w : List ℕ) (n k : ℕ) → k ≤ n → take (16 + k) (putWord w n
 unfolding putWord
 take-put w n k h = take-set-le (16 + k) w (16 + n) (nextWord w n) (omega arith)
 
-pub take-put-four : (w : List ℕ) (n : ℕ) → take (16 + n) (putFour w n) ≡ take (16 + n) w
+take-put-four : (w : List ℕ) (n : ℕ) → take (16 + n) (putFour w n) ≡ take (16 + n) w
 unfolding putFour
 take-put-four w n =
     take-put (putWord (putWord (putWord w n) (n + 1)) (n + 2)) (n + 3) n (omega arith)
@@ -79,7 +79,7 @@ unfolding rounds
 round-more v x w t p = rw add-one (cc)
 
 -- four rounds more
-pub rounds-four : (v x : Vars) (w : List ℕ) (t : ℕ) → x ≡ rounds v w t → fourRounds x w t ≡ rounds v w (t + 4)
+rounds-four : (v x : Vars) (w : List ℕ) (t : ℕ) → x ≡ rounds v w t → fourRounds x w t ≡ rounds v w (t + 4)
 unfolding fourRounds
 rounds-four v x w t p =
     let i2 : t + 1 + 1 ≡ t + 2 = omega arith in
@@ -91,7 +91,7 @@ rounds-four v x w t p =
     rw i4 at (round-more v (roundAt (roundAt (roundAt x w t) w (t + 1)) w (t + 2)) w (t + 3) (rw i3 at p3))
 
 -- rounds look no further than their words
-pub rounds-take : (v : Vars) (a b : List ℕ) (k t : ℕ) → t ≤ k → take k a ≡ take k b → rounds v a t ≡ rounds v b t
+rounds-take : (v : Vars) (a b : List ℕ) (k t : ℕ) → t ≤ k → take k a ≡ take k b → rounds v a t ≡ rounds v b t
 unfolding rounds roundAt
 rounds-take v a b k zero h e = refl
 rounds-take v a b k (suc t) h e =

@@ -1,4 +1,4 @@
--- Laws of `chain`, each for one case of the entry at its start. Assumes nothing.
+-- Laws of `chain`, each for one case of the entry at its start.
 use Prim.Native.Nat.{ℕ, zero, suc, _+_, _-_, _≤_, _<_}
 use mathlib.Core.Path.{_≡_, refl}
 use mathlib.Core.List.{List}
@@ -76,7 +76,7 @@ followed m Wrong next p h b = absurd (true≢false b)
 followed m End next p h b = omega (arith, end-within m p)
 followed m (Spans n) next p h b = omega (arith, h (drop n m) b, length-drop n m)
 
-pub leaves-less : (left : ℕ) (m : List ℕ) → isBroken (chain left m) ≡ false → leaves (chain left m) + 2 ≤ length m
+leaves-less : (left : ℕ) (m : List ℕ) → isBroken (chain left m) ≡ false → leaves (chain left m) + 2 ≤ length m
 unfolding chain
 leaves-less zero m b = followed m (entryOf m) (λ rest. Broken) refl (λ rest p. absurd (true≢false p)) b
 leaves-less (suc left) m b = followed m (entryOf m) (chain left) refl (leaves-less left) b
@@ -90,4 +90,8 @@ room-left tag m b =
 -- A chain that the writer accepts has its end at least.
 pub chain-long : (given : List ℕ) → badChain given ≡ false → 2 ≤ length given
 unfolding badChain readChain
-chain-long given b = omega (arith, leaves-less mostEntries given (or-false (isBroken (readChain given)) (not (eqb (leaves (readChain given)) 0)) b .0))
+chain-long given b = omega (
+  arith,
+  leaves-less mostEntries given (or-false (isBroken (readChain given))
+      (not (eqb (leaves (readChain given)) 0)) b .0),
+)

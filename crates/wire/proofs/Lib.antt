@@ -1,5 +1,4 @@
 pub mod Chains
 pub mod Reading
 pub mod Sound
-pub mod Payloads
 pub mod Examples

@@ -1,4 +1,4 @@
--- A chain is the same whatever stands behind it, so one that the writer accepts is read back. Assumes nothing.
+-- A chain is the same whatever stands behind it, so one that the writer accepts is read back.
 use Prim.Native.Nat.{ℕ, zero, suc, _+_, _-_, _≤_}
 use mathlib.Core.Path.{_≡_, refl, ap, _∙_}
 use mathlib.Core.List.{List, [], _∷_, _++_}
@@ -33,7 +33,8 @@ entry-append (x ∷ y ∷ m) rest n =
     let b = le-ltb (length (x ∷ y ∷ (m ++ rest))) 2 (omega arith) in
     let more : ltb (length (x ∷ y ∷ m)) (2 + y) ≡ false → ltb (length (x ∷ y ∷ (m ++ rest))) (2 + y) ≡ false =
     λ e. le-ltb (length (x ∷ y ∷ (m ++ rest))) (2 + y) (omega (arith, ltb-false (length (x ∷ y ∷ m)) (2 + y) e)) in
-    rw (a, b) (picked (Spans (2 + y)) (eqb x 0) (eqb y 0) (ltb 3 x) (ltb (length (x ∷ y ∷ m)) (2 + y)) (ltb (length (x ∷ y ∷ (m ++ rest))) (2 + y)) more (rw a at n))
+    rw (a, b) (picked (Spans (2 + y)) (eqb x 0) (eqb y 0) (ltb 3 x) (ltb (length (x ∷ y ∷ m)) (2 + y))
+    (ltb (length (x ∷ y ∷ (m ++ rest))) (2 + y)) more (rw a at n))
 
 module _ (rest : List ℕ) where
   follow-append : (m : List ℕ) (e : Entry) (next : List ℕ → Chain) (k : ℕ) → entryOf m ≡ e
@@ -49,7 +50,7 @@ module _ (rest : List ℕ) where
   not-wrong : (m : List ℕ) (next : List ℕ → Chain) (k : ℕ) → follow (entryOf m) m next ≡ Leaves k → entryOf m ≡ Wrong → ⊥
   not-wrong m next k q e = let r : Broken ≡ Leaves k = rw e at q in let z : _≡_ {A = ℕ} 0 1 = cc in omega arith
 
-  pub chain-append : (left : ℕ) (m : List ℕ) (k : ℕ) → chain left m ≡ Leaves k → chain left (m ++ rest) ≡ Leaves (k + length rest)
+  chain-append : (left : ℕ) (m : List ℕ) (k : ℕ) → chain left m ≡ Leaves k → chain left (m ++ rest) ≡ Leaves (k + length rest)
   unfolding chain
   chain-append zero m k q =
       rw (entry-append m rest (not-wrong m (λ r. Broken) k q))

@@ -1,4 +1,4 @@
--- A Device Authentication payload has its shape, and the certificate is read back from its place. Assumes nothing.
+-- A Device Authentication payload has its shape, and the certificate is read back from its place.
 use Prim.Native.Nat.{ℕ, _+_, _≤_}
 use mathlib.Core.Path.{_≡_, refl, ap, _∙_}
 use mathlib.Core.List.{List, [], _∷_, _++_, append-assoc}

@@ -1,4 +1,4 @@
--- A payload that carries nonce, X and Y has its shape, and they are read back: each part stands where the parts before it end. Assumes nothing.
+-- A payload that carries nonce, X and Y has its shape, and they are read back: each part stands where the parts before it end.
 use Prim.Native.Nat.{ℕ, _≤_}
 use mathlib.Core.Path.{_≡_, refl, ap, _∙_}
 use mathlib.Core.List.{List, [], _∷_, _++_, append-assoc, append-nil}
@@ -68,7 +68,8 @@ module _ (mode kind code : ℕ) (r : Request) (w : Whole r) where
   unfolding exchangeBytes
   y-length =
       ap (λ (p : List ℕ). be16 p 52) (before-k front (r .nonce) (bytes32 16384) (bytes16 32) (r .x) (bytes16 32) (r .y))
-      ∙ be16-at (front ++ r .nonce ++ bytes32 16384 ++ bytes16 32 ++ r .x) (bytes16 32 ++ r .y) 52 (simp length-append (omega (arith, w .nonce, w .x)))
+      ∙ be16-at (front ++ r .nonce ++ bytes32 16384 ++ bytes16 32 ++ r .x) (bytes16 32 ++ r .y) 52
+      (simp length-append (omega (arith, w .nonce, w .x)))
 
   hmac-size : be16 bytes 4 ≡ 32
   unfolding exchangeBytes
@@ -94,10 +95,12 @@ module _ (mode kind code : ℕ) (r : Request) (w : Whole r) where
       ∙ part-back front (r .nonce) (bytes32 16384 ++ bytes16 32 ++ r .x ++ bytes16 32 ++ r .y) 6 8 refl (w .nonce) in
       let x : bytesAt bytes 20 32 ≡ r .x =
       ap (λ (p : List ℕ). bytesAt p 20 32) (before-x front (r .nonce) (bytes32 16384) (bytes16 32) (r .x) (bytes16 32) (r .y))
-      ∙ part-back (front ++ r .nonce ++ bytes32 16384 ++ bytes16 32) (r .x) (bytes16 32 ++ r .y) 20 32 (simp length-append (omega (arith, w .nonce))) (w .x) in
+      ∙ part-back (front ++ r .nonce ++ bytes32 16384 ++ bytes16 32) (r .x) (bytes16 32 ++ r .y) 20 32
+      (simp length-append (omega (arith, w .nonce))) (w .x) in
       let y : bytesAt bytes 54 32 ≡ r .y =
       ap (λ (p : List ℕ). bytesAt p 54 32) (before-y front (r .nonce) (bytes32 16384) (bytes16 32) (r .x) (bytes16 32) (r .y))
-      ∙ part-back (front ++ r .nonce ++ bytes32 16384 ++ bytes16 32 ++ r .x ++ bytes16 32) (r .y) [] 54 32 (simp length-append (omega (arith, w .nonce, w .x))) (w .y) in
+      ∙ part-back (front ++ r .nonce ++ bytes32 16384 ++ bytes16 32 ++ r .x ++ bytes16 32) (r .y) [] 54 32
+      (simp length-append (omega (arith, w .nonce, w .x))) (w .y) in
       rw (n, x, y)
 
 module _ (mode : ℕ) (h : mode ≤ 2) (r : Request) (w : Whole r) where

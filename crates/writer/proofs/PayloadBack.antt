@@ -1,5 +1,4 @@
 -- What the payload writers write has its shape: how each row of the list of shapes is met, and the payloads that carry no more than a number.
--- Assumes nothing.
 use Prim.Native.Nat.{ℕ, _≤_}
 use mathlib.Core.Path.{_≡_, refl}
 use mathlib.Core.List.{List, [], _∷_, _++_}

@@ -1,5 +1,5 @@
 -- What is written reads back: `readHeader` gives back every header that the writer accepts, with the place and the length of what stands
--- between its chain and its tag. Assumes nothing.
+-- between its chain and its tag.
 use Prim.Native.Nat.{ℕ, _+_, _-_, _%_, _≤_}
 use mathlib.Core.Path.{_≡_, refl, sym, ap, _∙_}
 use mathlib.Core.List.{List, _++_, append-assoc}
@@ -25,7 +25,7 @@ use Rattle.wire.proofs.Chains.{chain-long}
 use Rattle.wire.proofs.Reading.{read-good}
 use Rattle.writer.proofs.ChainBack.{chain-back}
 
-pub fields-back : (h : Header) (size : ℕ) (rest : List ℕ) → headerOf (headerBytes h size ++ rest) ≡ h
+fields-back : (h : Header) (size : ℕ) (rest : List ℕ) → headerOf (headerBytes h size ++ rest) ≡ h
 unfolding headerBytes
 fields-back h size rest = simp div-add-mod'
 
@@ -63,7 +63,7 @@ module _ (h : Header) (chain body tag : List ℕ) where
   abbrev pub message : List ℕ
   message = headerBytes h size ++ (chain ++ (body ++ tag))
 
-  pub length-message : length message ≡ size
+  length-message : length message ≡ size
   unfolding headerBytes
   length-message = simp length-append (omega arith)
 

@@ -1,4 +1,4 @@
--- Laws of `written` and `output`: by the refusal, and for a writer whose stores make one run from the start of its output. Assumes nothing.
+-- Laws of `written` and `output`: by the refusal, and for a writer whose stores make one run from the start of its output.
 use Prim.Native.Nat.{ℕ, _≤_, _<_}
 use mathlib.Core.Path.{_≡_, refl, sym, ap, _∙_}
 use mathlib.Core.List.{List, [], _∷_, _++_}

@@ -1,5 +1,4 @@
--- `block::front` meets its contract: the code is the definition.
--- Assumes nothing.
+-- The code is the definition.
 use mathlib.Core.Path.{refl}
 use Rattle.field.specs.Runs.{run}
 use Rattle.aes.specs.State.{block, loadBlock}

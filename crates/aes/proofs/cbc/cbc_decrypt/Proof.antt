@@ -1,5 +1,4 @@
--- `cbc::cbc_decrypt` meets its contract, by those of what it calls.
--- Assumes nothing.
+-- By the contracts of what it calls.
 use mathlib.Core.Path.{_∙_, ap, sym}
 use mathlib.Core.List.{List, _++_}
 use Prim.Native.Nat.{ℕ}
@@ -32,7 +31,8 @@ returns-2 c =
     let at-words = at-blocks .before .before in
     let at-if = at-words .before .before .before .before .before .before .before .before .before .before in
     let a = at-if .before .before .before .before .args in
-    fit (a .source .now) (a .target .now) (cbcDecrypt (a .keys .now) (a .vector) (a .source .now)) _ (sym (at-if .before .fit .ensures) ∙ not-false _ (at-if .if1 .left))
+    fit (a .source .now) (a .target .now) (cbcDecrypt (a .keys .now) (a .vector) (a .source .now)) _
+    (sym (at-if .before .fit .ensures) ∙ not-false _ (at-if .if1 .left))
     (at-blocks .decrypt-blocks .ensures
     ∙ ap (λ (v : List ℕ). cbcDecrypt (a .keys .now) v (a .source .now) ++ drop (length (a .source .now)) (a .target .now)) (at-words .words .ensures))
 

@@ -1,5 +1,4 @@
--- `cbc::cbc_decrypt_ends` meets its contract: a chain of two blocks.
--- Assumes nothing.
+-- A chain of two blocks.
 use mathlib.Core.Path.{refl}
 use lib.ListN.{replicate}
 use Rattle.aes.proofs.ChainEnds.{first-end, last-end}
@@ -19,9 +18,11 @@ returns c =
     let a = start .args in
     let good-first = start .good .1 .1 .0 in
     let good-last = start .good .1 .1 .1 .1 .0 in (
-      first-end (a .first) (a .last) (search needs) (search needs) (a .keys .now) (a .vector) (replicate 32 0) (replicate 32 0) _ _ _ refl refl (at-put .put .ensures) (at-put2 .put2 .ensures) (at-plain .cbc-decrypt .ensures .1)
+      first-end (a .first) (a .last) (search needs) (search needs) (a .keys .now) (a .vector) (replicate 32 0)
+          (replicate 32 0) _ _ _ refl refl (at-put .put .ensures) (at-put2 .put2 .ensures) (at-plain .cbc-decrypt .ensures .1)
           _ (at-front2 .front2 .ensures),
-      last-end (a .first) (a .last) (search needs) (search needs) (a .keys .now) (a .vector) (replicate 32 0) (replicate 32 0) _ _ _ refl refl (at-put .put .ensures) (at-put2 .put2 .ensures) (at-plain .cbc-decrypt .ensures .1)
+      last-end (a .first) (a .last) (search needs) (search needs) (a .keys .now) (a .vector) (replicate 32 0)
+          (replicate 32 0) _ _ _ refl refl (at-put .put .ensures) (at-put2 .put2 .ensures) (at-plain .cbc-decrypt .ensures .1)
           _ _ _ _ (at-front .front .ensures) (at-sum .sum .ensures) (c .sum2 .ensures),
     )
 

@@ -1,5 +1,4 @@
--- `cbc::cbc_encrypt` meets its contract: a copy, encrypted in place.
--- Assumes nothing.
+-- A copy, encrypted in place.
 use native.Mathlib.Omega.{arith}
 use mathlib.Core.Path.{refl, sym, _∙_}
 use Prim.Native.Nat.{_-_}
@@ -26,7 +25,11 @@ part-cbc-encrypt-in-place-end : tie.Need-part-cbc-encrypt-in-place-end
 part-cbc-encrypt-in-place-end c =
     let at-if = c .before .before .before .before in
     let a = at-if .before .before .before .before .args in
-    omega (arith, roomy (a .source .now) (a .target .now) (sym (at-if .before .fit .ensures) ∙ not-false _ (at-if .if1 .left)) .1, c .before .before .copy .ensures .0)
+    omega (
+      arith,
+      roomy (a .source .now) (a .target .now) (sym (at-if .before .fit .ensures) ∙ not-false _ (at-if .if1 .left)) .1,
+      c .before .before .copy .ensures .0,
+    )
 
 returns-2 : tie.Need-returns-2
 returns-2 c =

@@ -1,5 +1,4 @@
--- `cbc::sum` meets its contract, by those of what it calls.
--- Assumes nothing.
+-- By the contracts of what it calls.
 use borrow.Author.Needs.{needs}
 use Rattle.aes.proofs.cbc.sum.Statement.{statement}
 use Rattle.aes.proofs.cbc.sum.Tie as tie

@@ -1,5 +1,4 @@
--- `cbc::words_from` meets its contract: sixteen bytes, as words.
--- Assumes nothing.
+-- Sixteen bytes, as words.
 use borrow.Author.Needs.{needs}
 use Rattle.aes.proofs.cbc.words_from.Statement.{statement}
 use Rattle.aes.proofs.cbc.words_from.Tie as tie

@@ -1,5 +1,4 @@
--- `rounds::inverse_keys` meets its contract: key by key.
--- Assumes nothing.
+-- Key by key.
 use native.Mathlib.Omega.{arith}
 use mathlib.Core.Path.{_≡_, refl}
 use Prim.Native.Nat.{_≤_, _<_, _-_}
@@ -22,8 +21,12 @@ loop-holds c = (search needs, refl, λ i g h. absurd (omega arith))
 loop-again : tie.Need-loop-again Inv-loop μ-loop
 loop-again c =
     let v = c .before .before .before .loop .inv in
-    let h : c .before .before .before .loop .n < length (c .before .before .before .loop .inverse) = omega arith in
-    (search needs, simp length-set (v .1), inverse-more (c .before .before .before .before .args .keys .now) (c .before .before .before .loop .inverse) _ _ h (v .2) (c .unmix-key .ensures .0) (c .unmix-key .ensures .1))
+    let h : c .before .before .before .loop .n < length (c .before .before .before .loop .inverse) = omega arith in (
+      search needs,
+      simp length-set (v .1),
+      inverse-more (c .before .before .before .before .args .keys .now)
+          (c .before .before .before .loop .inverse) _ _ h (v .2) (c .unmix-key .ensures .0) (c .unmix-key .ensures .1),
+    )
 
 returns : tie.Need-returns Inv-loop μ-loop
 returns c =

@@ -33,7 +33,13 @@ unfolding connect host
 returns-4 c =
     let k = c .before in
     let t = k .before .before .before in
-    rw (← (t .connect-type .ensures), ne-eqb _ _ (k .before .before .if1 .left), ne-eqb _ _ (k .before .if2 .left), ne-eqb _ _ (k .if3 .left), c .refuse .ensures)
+    rw (
+      ← (t .connect-type .ensures),
+      ne-eqb _ _ (k .before .before .if1 .left),
+      ne-eqb _ _ (k .before .if2 .left),
+      ne-eqb _ _ (k .if3 .left),
+      c .refuse .ensures,
+    )
 
 pub connect-spec : {M : Type 1} → statement M
 connect-spec =

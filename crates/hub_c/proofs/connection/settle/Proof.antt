@@ -21,8 +21,14 @@ returns-2 c =
     let at-encode = at-put-triple .before .before .before .before in
     let at-if1 = at-encode .before .before .before in
     let at-said-of = at-if1 .before .before in
-    let e = at-said-of .said-of .ensures in
-    (sym (at-if1 .if1 .left) ∙ ap (λ (t : Said). t .refusal) e, (rw (← e, eq-eqb _ _ (at-if1 .if1 .left)) (at-encode .encode .ensures), rw (← e, eq-eqb _ _ (at-if1 .if1 .left)) (at-put-triple .put-triple .ensures)))
+    let e = at-said-of .said-of .ensures in (
+      sym (at-if1 .if1 .left) ∙ ap (λ (t : Said). t .refusal) e,
+      (
+        rw (← e, eq-eqb _ _ (at-if1 .if1 .left)) (at-encode .encode .ensures),
+        rw
+            (← e, eq-eqb _ _ (at-if1 .if1 .left)) (at-put-triple .put-triple .ensures),
+      ),
+    )
 
 pub settle-spec : {M : Type 1} → statement M
 settle-spec =

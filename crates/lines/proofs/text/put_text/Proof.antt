@@ -17,13 +17,15 @@ returns c =
 add-result : tie.Need-add-result
 add-result c =
     let a = c .before .before .before .before .before .before .before .before .args in
-    let h : a .at + length (a .text .now) ≤ length (a .out .now) = ltb-false _ _ (sym (c .before .before .before .before .before .lacks .ensures) ∙ c .before .before .before .before .if1 .left) in
+    let h : a .at + length (a .text .now) ≤ length (a .out .now) = ltb-false _ _
+    (sym (c .before .before .before .before .before .lacks .ensures) ∙ c .before .before .before .before .if1 .left) in
     omega arith
 
 returns-2 : tie.Need-returns-2
 returns-2 c =
     let a = c .before .before .before .before .before .before .before .before .args in
-    let h : a .at + length (a .text .now) ≤ length (a .out .now) = ltb-false _ _ (sym (c .before .before .before .before .before .lacks .ensures) ∙ c .before .before .before .before .if1 .left) in
+    let h : a .at + length (a .text .now) ≤ length (a .out .now) = ltb-false _ _
+    (sym (c .before .before .before .before .before .lacks .ensures) ∙ c .before .before .before .before .if1 .left) in
     let r = room (length (a .text .now)) (a .at) (a .text .now) (a .out .now) h in
     (r .0, c .before .before .store-bytes .ensures ∙ r .1)
 

@@ -1,4 +1,4 @@
--- The two blocks are those of the opened sealed part. Assumes nothing.
+-- The two blocks are those of the opened sealed part.
 use Rattle.seal.proofs.Opened.{part-judged}
 use borrow.Author.Needs.{needs}
 use Rattle.seal.proofs.opening.bad_part.Statement.{statement}

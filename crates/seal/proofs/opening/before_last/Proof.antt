@@ -1,4 +1,4 @@
--- A sealed part of one block chains the vector into it, a longer one the block before the last. Assumes nothing.
+-- A sealed part of one block chains the vector into it, a longer one the block before the last.
 use mathlib.Core.Path.{_∙_}
 use Rattle.seal.proofs.Opened.{before-only, before-of-more}
 use borrow.Author.Needs.{needs}

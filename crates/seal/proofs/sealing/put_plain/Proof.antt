@@ -1,4 +1,4 @@
--- Three runs one behind the other fill the room. Assumes nothing.
+-- Three runs one behind the other fill the room.
 use mathlib.Core.Path.{refl}
 use Rattle.seal.proofs.Filling.{plain-stored}
 use borrow.Author.Needs.{needs}

@@ -1,4 +1,4 @@
--- The tag of what stands before it. Assumes nothing.
+-- The tag of what stands before it.
 use native.Mathlib.Nat.{sub-zero}
 use borrow.Author.Needs.{needs}
 use Rattle.seal.proofs.sealing.put_tag.Statement.{statement}

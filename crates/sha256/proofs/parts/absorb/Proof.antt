@@ -1,4 +1,4 @@
--- The block has the message's sixty-four bytes, where it stands or put together. Assumes nothing.
+-- The block has the message's sixty-four bytes, where it stands or put together.
 use mathlib.Core.Path.{_∙_}
 use borrow.Author.Needs.{needs}
 use Rattle.sha256.proofs.Hashing.{compress-block}

@@ -1,4 +1,4 @@
--- Sixty-four bytes are handed out only where the block lies in the part. Assumes nothing.
+-- Sixty-four bytes are handed out only where the block lies in the part.
 use borrow.Author.Needs.{needs}
 use Rattle.sha256.proofs.Hashing.{in-part}
 use Rattle.sha256.proofs.parts.inside.Statement.{statement}

@@ -1,4 +1,4 @@
--- The invariant: so many words are loaded as have been passed. Assumes nothing.
+-- The invariant: so many words are loaded as have been passed.
 use mathlib.Core.Path.{_≡_}
 use Prim.Native.Nat.{_≤_, _-_}
 use native.Mathlib.Omega.{arith}

@@ -1,9 +1,9 @@
--- The part that was lent comes back with the word's bytes over its first ones. Assumes nothing.
+-- The part that was lent comes back with the word's bytes over its first ones.
 use mathlib.Core.Path.{_∙_, ap}
 use native.Mathlib.Omega.{arith}
 use lib.Seq.{sets}
 use borrow.Author.Needs.{needs}
-use Rattle.laws.proofs.Lent.{lent-copy}
+use Rattle.laws.proofs.Lent.{lent-stores}
 use Rattle.sha256.proofs.store.put32.Statement.{statement}
 use Rattle.sha256.proofs.store.put32.Tie as tie
 
@@ -11,7 +11,7 @@ returns : tie.Need-returns
 returns c =
     let w = c .before .before .before .before .before .word-bytes in
     let a = c .before .before .before .before .before .before .before .args in
-    lent-copy (a .out .now) (w .result) (a .at) (omega arith) _ (c .before .before .copy .ensures .1) ∙ ap (sets (a .out .now) (a .at)) (w .ensures)
+    lent-stores (a .out .now) (w .result) (a .at) (omega arith) _ (c .before .before .copy .ensures .1) ∙ ap (sets (a .out .now) (a .at)) (w .ensures)
 
 pub put32-spec : {M : Type 1} → statement M
 put32-spec =

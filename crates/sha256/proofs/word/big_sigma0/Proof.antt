@@ -1,4 +1,4 @@
--- The three rotations are those of the definition. Assumes nothing.
+-- The three rotations are those of the definition.
 use borrow.Author.Needs.{needs}
 use Rattle.sha256.specs.Words.{Σ0}
 use Rattle.sha256.proofs.word.big_sigma0.Statement.{statement}

@@ -1,4 +1,4 @@
--- The rotations and the shift are those of the definition. Assumes nothing.
+-- The rotations and the shift are those of the definition.
 use borrow.Author.Needs.{needs}
 use Rattle.sha256.specs.Words.{σ1, SHR}
 use Rattle.sha256.proofs.word.small_sigma1.Statement.{statement}
