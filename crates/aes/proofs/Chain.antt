@@ -1,4 +1,4 @@
--- Cipher block chaining: decryption undoes encryption for any number of blocks; lengths. Assumes nothing.
+-- Cipher block chaining: decryption undoes encryption for any number of blocks; lengths.
 use mathlib.Core.Path.{_≡_, refl, sym, ap, ap₂, _∙_, subst}
 use mathlib.Core.List.{List, [], _∷_, _++_}
 use Prim.Native.Nat.{ℕ, zero, suc, _+_, _*_, _/_, _%_, _<_}
@@ -17,14 +17,14 @@ pub record Blocks (n : ℕ) (s : List ℕ) : Type 0 where
   pub len : length s ≡ n * 16
   pub bytes : (i : ℕ) → i < n * 16 → getD s i 0 < 256
 
-pub first-block : (n : ℕ) (s : List ℕ) → Blocks (suc n) s → Block (take 16 s)
+first-block : (n : ℕ) (s : List ℕ) → Blocks (suc n) s → Block (take 16 s)
 first-block n s b =
     record {
       len = length-take-le 16 s (omega (arith, b .len));
       bytes = λ i h. subst (λ (x : ℕ). x < 256) (sym (getD-take 16 s i 0 h)) (b .bytes i (omega arith));
     }
 
-pub later-blocks : (n : ℕ) (s : List ℕ) → Blocks (suc n) s → Blocks n (drop 16 s)
+later-blocks : (n : ℕ) (s : List ℕ) → Blocks (suc n) s → Blocks n (drop 16 s)
 later-blocks n s b =
     record {
       len = length-drop 16 s ∙ omega (arith, b .len);

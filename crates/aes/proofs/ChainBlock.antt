@@ -1,18 +1,18 @@
--- A chain of one block. Assumes nothing.
-use mathlib.Core.Path.{_≡_, refl, sym, ap, _∙_}
-use mathlib.Core.List.{List, [], _∷_, _++_, append-nil}
+-- A chain of one block.
+use mathlib.Core.Path.{_≡_, refl, ap, _∙_}
+use mathlib.Core.List.{List, [], _∷_, append-nil}
 use Prim.Native.Nat.{ℕ, _+_, _-_, _/_, _%_, _≤_, _<_}
 use native.Mathlib.Omega.{arith}
 use mathlib.Core.Bool.{cond}
-use borrow.Author.Tests.{le-leb, eq-eqb}
+use borrow.Author.Tests.{eq-eqb}
 use lib.Dec.{eqb}
 use lib.ListN.{getD, length, take, drop, length-drop}
-use lib.Seq.{take-all, drop-length}
+use lib.Seq.{take-all}
 use Rattle.laws.proofs.Lists.{part-from}
 use Rattle.field.proofs.Below.{agree}
 use Rattle.aes.specs.State.{addRoundKey}
 use Rattle.aes.specs.Cipher.{cipher, invCipher}
-use Rattle.aes.specs.Cbc.{encryptBlocks, cbcDecryptBlock, decryptBlocks, cbcEncrypt, cbcDecrypt, written}
+use Rattle.aes.specs.Cbc.{encryptBlocks, cbcDecryptBlock, cbcEncrypt}
 use Rattle.aes.proofs.Steps.{add-zeros}
 use Rattle.aes.proofs.Undo.{invCipher-length}
 
@@ -34,22 +34,9 @@ module _ (ks : List (List ℕ)) (b : List ℕ) (e : length b ≡ 16) where
       ap (λ (k : ℕ). encryptBlocks ks k zeros b) n ∙ append-nil _
       ∙ ap (cipher ks) (ap (λ (x : List ℕ). addRoundKey x zeros) (take-all 16 b (omega arith)) ∙ add-zeros b zeros e zero-at)
 
-  pub one-decrypted : (v : List ℕ) → cbcDecrypt ks v b ≡ cbcDecryptBlock ks v b
-  unfolding cbcDecrypt decryptBlocks
-  one-decrypted v =
-      let n : length b / 16 ≡ 1 = omega arith in
-      ap (λ (k : ℕ). decryptBlocks ks k v b) n ∙ append-nil _ ∙ ap (cbcDecryptBlock ks v) (take-all 16 b (omega arith))
-
   pub after-zeros : cbcDecryptBlock ks zeros b ≡ invCipher ks b
   unfolding cbcDecryptBlock
   after-zeros = add-zeros (invCipher ks b) zeros (invCipher-length ks b) zero-at
-
-  -- written over a block, it is all that stands there
-  pub block-written : (out t : List ℕ) → length t ≡ 16 → written b out t ≡ out
-  block-written out t l =
-      let p = eq-eqb (length b % 16) 0 (omega arith) in
-      let q = le-leb (length b) (length t) (omega arith) in
-      rw (p, q) (ap (λ (k : ℕ). out ++ drop k t) (e ∙ sym l) ∙ ap (λ (x : List ℕ). out ++ x) (drop-length t) ∙ append-nil out)
 
   pub block-encrypted : (out : List ℕ) → cond (eqb (length b % 16) 0) out b ≡ out
   block-encrypted out = let p = eq-eqb (length b % 16) 0 (omega arith) in rw p (refl)

@@ -1,4 +1,4 @@
--- A chain that a loop writes block by block: what its invariant says, and its three steps. Assumes nothing.
+-- A chain that a loop writes block by block: what its invariant says, and its three steps.
 use mathlib.Core.Path.{_≡_, refl, sym, ap, ap₂, _∙_, subst}
 use mathlib.Core.List.{List, [], _++_, append-assoc, append-nil}
 use Prim.Native.Nat.{ℕ, suc, _+_, _-_, _/_, _%_, _≤_, _<_}
@@ -6,7 +6,7 @@ use native.Mathlib.Omega.{arith}
 use lib.ListN.{getD, length, take, drop, length-drop, take-append-drop}
 use lib.Seq.{paste, length-paste, take-paste, drop-paste, take-all, drop-drop, length-take-le, getD-take}
 use Rattle.laws.proofs.Lists.{part-from}
-use Rattle.aes.specs.State.{block, addRoundKey, loadBlock}
+use Rattle.aes.specs.State.{addRoundKey, loadBlock}
 use Rattle.aes.specs.Cipher.{cipher, invCipher}
 use Rattle.aes.specs.Cbc.{encryptBlocks, cbcDecryptBlock, decryptBlocks}
 use Rattle.aes.proofs.Steps.{block-is, add-length}
@@ -14,12 +14,12 @@ use Rattle.aes.proofs.Undo.{cipher-length}
 
 -- ---- one block more at the front
 
-pub encrypt-one : (ks : List (List ℕ)) (u r c : List ℕ) → c ≡ cipher ks (addRoundKey (take 16 r) u) → (m : ℕ)
+encrypt-one : (ks : List (List ℕ)) (u r c : List ℕ) → c ≡ cipher ks (addRoundKey (take 16 r) u) → (m : ℕ)
     → encryptBlocks ks (suc m) u r ≡ c ++ encryptBlocks ks m c (drop 16 r)
 unfolding encryptBlocks
 encrypt-one ks u r c e m = ap (λ (x : List ℕ). x ++ encryptBlocks ks m x (drop 16 r)) (sym e)
 
-pub decrypt-one : (ks : List (List ℕ)) (u r p b : List ℕ) → p ≡ addRoundKey (invCipher ks b) u → b ≡ take 16 r → (m : ℕ)
+decrypt-one : (ks : List (List ℕ)) (u r p b : List ℕ) → p ≡ addRoundKey (invCipher ks b) u → b ≡ take 16 r → (m : ℕ)
     → decryptBlocks ks (suc m) u r ≡ p ++ decryptBlocks ks m b (drop 16 r)
 unfolding decryptBlocks cbcDecryptBlock
 decrypt-one ks u r p b e f m =
@@ -28,12 +28,13 @@ decrypt-one ks u r p b e f m =
 
 -- ---- a chain written block by block
 
--- sixteen bytes of a list, loaded from a part of it
-pub loaded : (s : List ℕ) (at : ℕ) → at + 16 ≤ length s → loadBlock (take (length s - at) (drop at s)) ≡ take 16 (drop at s)
+-- sixteen bytes of a list, loaded from its front and from a part of it
+pub loaded-front : (s : List ℕ) → 16 ≤ length s → loadBlock s ≡ take 16 s
 unfolding loadBlock
-loaded s at h =
-    ap (λ (l : List ℕ). block (λ i. getD l i 0)) (part-from s at)
-    ∙ block-is _ (take 16 (drop at s)) (length-take-le 16 (drop at s) (simp length-drop (omega arith))) (λ i g. sym (getD-take 16 (drop at s) i 0 g))
+loaded-front s h = block-is _ (take 16 s) (length-take-le 16 s h) (λ i g. sym (getD-take 16 s i 0 g))
+
+pub loaded : (s : List ℕ) (at : ℕ) → at + 16 ≤ length s → loadBlock (take (length s - at) (drop at s)) ≡ take 16 (drop at s)
+loaded s at h = ap loadBlock (part-from s at) ∙ loaded-front (drop at s) (simp length-drop (omega arith))
 
 module _ (chain : ℕ → List ℕ → List ℕ → List ℕ) where
   -- of the source s, after u₀, the first `at` bytes are done; the target, at first t₀, is t, and the block before is u

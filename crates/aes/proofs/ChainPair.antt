@@ -1,4 +1,4 @@
--- Two blocks a turn: the block at a place, and the one that follows unless it is the last. Assumes nothing.
+-- Two blocks a turn: the block at a place, and the one that follows unless it is the last.
 use mathlib.Core.Path.{_≡_, refl, sym, ap, ap₂, _∙_, subst}
 use mathlib.Core.List.{List, _++_, append-assoc}
 use Prim.Native.Nat.{ℕ, _+_, _≤_, _<_}
@@ -48,14 +48,19 @@ module _ (ks : List (List ℕ)) (s t₀ u₀ u t : List ℕ) (at : ℕ) (c : Cha
   alone t′ h et =
       let r : at + 16 ≤ length t = omega (arith, c .room, c .len) in
       decrypt-more ks s t₀ u₀ u t at c t′ (omega arith)
-      (et ∙ paste-again t (cbcDecryptBlock ks u (take 16 (drop at s))) (cbcDecryptBlock ks (take 16 (drop at s)) (take 16 (drop at s))) at r (block-length ks (take 16 (drop at s)) (take 16 (drop at s))))
+      (et ∙ paste-again t (cbcDecryptBlock ks u (take 16 (drop at s)))
+      (cbcDecryptBlock ks (take 16 (drop at s)) (take 16 (drop at s))) at r
+      (block-length ks (take 16 (drop at s)) (take 16 (drop at s))))
 
-  in-pair : (t′ : List ℕ) → at + 16 + 16 ≤ length s → t′ ≡ both (at + 16) → Chained (decryptBlocks ks) s t₀ u₀ (take 16 (drop (at + 16) s)) t′ (at + 16 + 16)
+  in-pair : (t′ : List ℕ) → at + 16 + 16 ≤ length s → t′ ≡ both (at + 16)
+      → Chained (decryptBlocks ks) s t₀ u₀ (take 16 (drop (at + 16) s)) t′ (at + 16 + 16)
   in-pair t′ h et =
       let r : at + 32 ≤ length t = omega (arith, c .room, c .len) in
       let one = decrypt-more ks s t₀ u₀ u t at c (paste t at (cbcDecryptBlock ks u (take 16 (drop at s))) 16) (omega arith) refl in
       decrypt-more ks s t₀ u₀ (take 16 (drop at s)) (paste t at (cbcDecryptBlock ks u (take 16 (drop at s))) 16) (at + 16) one t′ (omega arith)
-      (et ∙ paste-swap t (cbcDecryptBlock ks u (take 16 (drop at s))) (cbcDecryptBlock ks (take 16 (drop at s)) (take 16 (drop (at + 16) s))) at r (block-length ks u (take 16 (drop at s))) (block-length ks (take 16 (drop at s)) (take 16 (drop (at + 16) s))))
+      (et ∙ paste-swap t (cbcDecryptBlock ks u (take 16 (drop at s))) (cbcDecryptBlock ks (take 16 (drop at s))
+      (take 16 (drop (at + 16) s))) at r (block-length ks u (take 16 (drop at s)))
+      (block-length ks (take 16 (drop at s)) (take 16 (drop (at + 16) s))))
 
   at-place : (k next : ℕ) (v t′ : List ℕ) → next ≡ k → v ≡ take 16 (drop next s) → Chained (decryptBlocks ks) s t₀ u₀ (take 16 (drop k s)) t′ (k + 16)
       → Chained (decryptBlocks ks) s t₀ u₀ v t′ (next + 16)

@@ -1,4 +1,4 @@
--- Each block of a decrypted message by itself, the first and the last above all. Assumes nothing.
+-- Each block of a decrypted message by itself, the first and the last above all.
 use mathlib.Core.Path.{_≡_, refl, sym, ap, ap₂, _∙_}
 use mathlib.Core.List.{List, _++_}
 use Prim.Native.Nat.{ℕ, zero, suc, _+_, _*_, _/_, _≤_, _<_}
@@ -41,7 +41,7 @@ block-decrypted ks (suc m) (suc k) v s h =
     ∙ block-decrypted ks m k (take 16 s) (drop 16 s) (omega arith)
     ∙ ap₂ (cbcDecryptBlock ks) (later-before k v s) (ap (take 16) (drop-drop (16 * k) 16 s ∙ ap (λ (n : ℕ). drop n s) (sym (sixteens k))))
 
-pub cbcDecrypt-block : (ks : List (List ℕ)) (v s : List ℕ) (k : ℕ) → 16 * k + 16 ≤ length s
+cbcDecrypt-block : (ks : List (List ℕ)) (v s : List ℕ) (k : ℕ) → 16 * k + 16 ≤ length s
     → take 16 (drop (16 * k) (cbcDecrypt ks v s)) ≡ cbcDecryptBlock ks (blockBefore k v s) (take 16 (drop (16 * k) s))
 unfolding cbcDecrypt
 cbcDecrypt-block ks v s k h = block-decrypted ks (length s / 16) k v s (omega arith)

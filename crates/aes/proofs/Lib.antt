@@ -9,4 +9,5 @@ pub mod ChainRoom
 pub mod ChainBlock
 pub mod Chain
 pub mod Ends
+pub mod ChainEnds
 pub mod Examples

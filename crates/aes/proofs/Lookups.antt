@@ -1,4 +1,4 @@
--- Looked-up words are the columns of a round, and of a round key of the way back. Assumes nothing.
+-- Looked-up words are the columns of a round, and of a round key of the way back.
 use mathlib.Core.Path.{_≡_, ap, _∙_}
 use mathlib.Core.List.{List}
 use Prim.Native.Nat.{ℕ, _/_, _%_, _<_}
@@ -19,18 +19,19 @@ use Rattle.aes.proofs.Words.{Words, Columns, get0, get1, get2, get3}
 -- ---- a round by tables
 
 module _ (f : ℕ → ℕ) (fits : (x : ℕ) → x < 256 → f x < 256) where
-  pub by-words : (k l m n : ℕ) (t : List ℕ) → Mixes f k l m n t → (w a b c d : ℕ) → d < 4294967296
+  by-words : (k l m n : ℕ) (t : List ℕ) → Mixes f k l m n t → (w a b c d : ℕ) → d < 4294967296
       → w ≡ lookedUp t a b c d → w ≡ column k l m n (f (a % 256)) (f (b / 256 % 256)) (f (c / 65536 % 256)) (f (d / 16777216))
   unfolding lookedUp
   by-words k l m n t et w a b c d hd e =
       e ∙ looked-up f fits k l m n t et (a % 256) (b / 256 % 256) (c / 65536 % 256) (d / 16777216)
       (omega arith) (omega arith) (omega arith) (omega arith)
 
-pub by-bytes : (f : ℕ → ℕ) (t : List ℕ) → t ≡ table f → (w a b c d : ℕ) → d < 4294967296
+by-bytes : (f : ℕ → ℕ) (t : List ℕ) → t ≡ table f → (w a b c d : ℕ) → d < 4294967296
     → w ≡ lookedUpBytes t a b c d → w ≡ word (f (a % 256)) (f (b / 256 % 256)) (f (c / 65536 % 256)) (f (d / 16777216))
 unfolding lookedUpBytes
 by-bytes f t et w a b c d hd e =
-    e ∙ words (here (a % 256) (omega arith)) (here (b / 256 % 256) (omega arith)) (here (c / 65536 % 256) (omega arith)) (here (d / 16777216) (omega arith))
+    e ∙ words (here (a % 256) (omega arith)) (here (b / 256 % 256) (omega arith)) (here (c / 65536 % 256) (omega arith))
+    (here (d / 16777216) (omega arith))
   where
     here : (x : ℕ) → x < 256 → getD t x 0 ≡ f x
     here x h = ap (λ (l : List ℕ). getD l x 0) et ∙ table-at f x h

@@ -1,4 +1,4 @@
--- The round keys: each is a block, the code makes the next, and the 44 words that they hold are those of FIPS 197, 5.2. Assumes nothing.
+-- The round keys: each is a block, the code makes the next, and the 44 words that they hold are those of FIPS 197, 5.2.
 use mathlib.Core.Path.{_≡_, refl, sym, ap, ap₂, _∙_, subst}
 use mathlib.Core.Bool.{Bool, cond}
 use mathlib.Core.List.{List, [], _∷_}
@@ -38,7 +38,7 @@ first-key f x xs l e = record { upto = omega arith; len = l; done = here }
     here k h = let z : k ≡ 0 = omega arith in ap (λ (j : ℕ). getD (x ∷ xs) j []) z ∙ e ∙ ap f (sym z)
 
 -- the sixteen bytes as the code adds them, where p, q, r, s are added to the first word
-abbrev pub nextRows : List ℕ → ℕ → ℕ → ℕ → ℕ → List ℕ
+abbrev nextRows : List ℕ → ℕ → ℕ → ℕ → ℕ → List ℕ
 nextRows k p q r s =
     xor (getD k 0 0) p ∷ xor (getD k 1 0) q ∷ xor (getD k 2 0) r ∷ xor (getD k 3 0) s ∷
     xor (getD k 4 0) (xor (getD k 0 0) p) ∷ xor (getD k 5 0) (xor (getD k 1 0) q) ∷
@@ -76,7 +76,7 @@ next-block : (k : List ℕ) (c : ℕ) → c < 256 → Block k → Block (nextKey
 unfolding nextKey
 next-block k c hc b = block-of _ (λ i h. next-byte k c (i / 4) (i % 4) hc b (omega arith) (omega arith))
 
-pub roundKey-block : (key : List ℕ) → Block key → (n : ℕ) → Block (roundKey key n)
+roundKey-block : (key : List ℕ) → Block key → (n : ℕ) → Block (roundKey key n)
 unfolding roundKey
 roundKey-block key b zero = b
 roundKey-block key b (suc n) = next-block (roundKey key n) (rcon n) (rcon-byte n) (roundKey-block key b n)
@@ -85,7 +85,7 @@ roundKey-block key b (suc n) = next-block (roundKey key n) (rcon n) (rcon-byte n
 abbrev pub Keys : List (List ℕ) → Type 0
 Keys ks = (i : ℕ) → i < 11 → Block (getD ks i [])
 
-pub expandKey-at : (key : List ℕ) (i : ℕ) → i < 11 → getD (expandKey key) i [] ≡ roundKey key i
+expandKey-at : (key : List ℕ) (i : ℕ) → i < 11 → getD (expandKey key) i [] ≡ roundKey key i
 unfolding expandKey
 expandKey-at key i h = run-from-zero (roundKey key) 11 i [] h
 

@@ -1,4 +1,4 @@
--- The steps of a round: each takes a block to a block, and each is undone by its inverse. Assumes nothing.
+-- The steps of a round: each takes a block to a block, and each is undone by its inverse.
 use mathlib.Core.Path.{_≡_, sym, ap, _∙_, subst}
 use mathlib.Core.Bool.{Bool}
 use mathlib.Core.List.{List}
@@ -120,7 +120,7 @@ down-down j k hj hk i hi =
 
 -- the four bytes of a column of a block are bytes
 module _ {A : Type 0} (s : List ℕ) (b : Block s) (i : ℕ) (h : i < 16) where
-  pub on-column : ((getD s (down i 0) 0 < 256) → (getD s (down i 1) 0 < 256) → (getD s (down i 2) 0 < 256) → (getD s (down i 3) 0 < 256) → A) → A
+  on-column : ((getD s (down i 0) 0 < 256) → (getD s (down i 1) 0 < 256) → (getD s (down i 2) 0 < 256) → (getD s (down i 3) 0 < 256) → A) → A
   on-column f =
       f (b .bytes (down i 0) (down-lt 0 i h)) (b .bytes (down i 1) (down-lt 1 i h)) (b .bytes (down i 2) (down-lt 2 i h))
       (b .bytes (down i 3) (down-lt 3 i h))
@@ -160,7 +160,8 @@ unmix-add s k bs bk =
     ∙ on-column s bs i h (λ p q r u. on-column k bk i h (λ v w x y. row-xor 14 11 13 9 _ _ _ _ _ _ _ _ p q r u v w x y))
     ∙ sym (λ t. xor (block-at (unmixAt s) i h t) (block-at (unmixAt k) i h t)))
   where
-    sum : (i : ℕ) → i < 16 → (j : ℕ) → getD (block (λ i. xor (getD s i 0) (getD k i 0))) (down i j) 0 ≡ xor (getD s (down i j) 0) (getD k (down i j) 0)
+    sum : (i : ℕ) → i < 16 → (j : ℕ) → getD (block (λ i. xor (getD s i 0) (getD k i 0))) (down i j) 0
+        ≡ xor (getD s (down i j) 0) (getD k (down i j) 0)
     sum i h j = block-at _ (down i j) (down-lt j i h)
 
     unmixAt : List ℕ → ℕ → ℕ

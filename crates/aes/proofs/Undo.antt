@@ -1,4 +1,4 @@
--- Decryption undoes encryption, for every key and block; and the rounds as the code counts them. Assumes nothing.
+-- Decryption undoes encryption, for every key and block; and the rounds as the code counts them.
 use mathlib.Core.Path.{_≡_, sym, ap, ap₂, _∙_, subst}
 use mathlib.Core.List.{List, []}
 use Prim.Native.Nat.{ℕ, zero, suc, _+_, _-_, _≤_, _<_}
@@ -30,12 +30,12 @@ unfolding cipher
 cipher-whole ks b k s₀ s l r ek e₀ es el er = cc
 
 -- by a key that InvMixColumns was applied to
-pub unrounds-less : (ks ds : List (List ℕ)) → InverseKeys ks ds 11 → (s k r : List ℕ) (n : ℕ) → 0 < n → n ≤ 9 → Block s → k ≡ getD ds n []
+pub unrounds-less : (ks ds : List (List ℕ)) → InverseKeys ks ds 10 → (s k r : List ℕ) (n : ℕ) → 0 < n → n ≤ 9 → Block s → k ≡ getD ds n []
     → r ≡ addRoundKey (invMixColumns (invSubBytes (invShiftRows s))) k → unrounds ks (n - 1) r ≡ unrounds ks n s
 unfolding unrounds
 unrounds-less ks ds inv s k r zero h g b ek er = absurd (omega arith)
 unrounds-less ks ds inv s k r (suc n) h g b ek er =
-    let key = inv (suc n) (omega arith) in
+    let key = inv (suc n) (omega arith) (omega arith) in
     let m : suc n - 1 ≡ n = omega arith in
     ap₂ (unrounds ks) m
     (er ∙ ap (addRoundKey (invMixColumns (invSubBytes (invShiftRows s)))) (ek ∙ key .0)
@@ -49,16 +49,17 @@ invCipher-whole ks b k s₀ s l r zero ek e₀ es h el er =
     er ∙ ap (addRoundKey (invSubBytes (invShiftRows s))) el ∙ es ∙ ap (unrounds ks 9) (e₀ ∙ ap (addRoundKey b) ek)
 
 -- one key more with InvMixColumns applied
-pub inverse-more : (ks ds : List (List ℕ)) (r : List ℕ) (n : ℕ) → n < length ds → InverseKeys ks ds n → r ≡ invMixColumns (getD ks n []) → Block (getD ks n [])
+pub inverse-more : (ks ds : List (List ℕ)) (r : List ℕ) (n : ℕ) → n < length ds → InverseKeys ks ds n → r ≡ invMixColumns (getD ks n [])
+    → Block (getD ks n [])
     → InverseKeys ks (set ds n r) (n + 1)
-inverse-more ks ds r n h inv er b i g = here (ℕ-discrete i n)
+inverse-more ks ds r n h inv er b i p g = here (ℕ-discrete i n)
   where
     here : Dec (i ≡ n) → (getD (set ds n r) i [] ≡ invMixColumns (getD ks i [])) × Block (getD ks i [])
-    here (yes p) = (
-      ap (λ (j : ℕ). getD (set ds n r) j []) p ∙ getD-set-same ds n r [] h ∙ er ∙ ap (λ (j : ℕ). invMixColumns (getD ks j [])) (sym p),
-      subst (λ (j : ℕ). Block (getD ks j [])) (sym p) b,
+    here (yes e) = (
+      ap (λ (j : ℕ). getD (set ds n r) j []) e ∙ getD-set-same ds n r [] h ∙ er ∙ ap (λ (j : ℕ). invMixColumns (getD ks j [])) (sym e),
+      subst (λ (j : ℕ). Block (getD ks j [])) (sym e) b,
     )
-    here (no q) = let old = inv i (omega (arith, q)) in (getD-set-other ds n i r [] q ∙ old .0, old .1)
+    here (no q) = let old = inv i p (omega (arith, q)) in (getD-set-other ds n i r [] q ∙ old .0, old .1)
 
 -- ---- lengths and bytes
 

@@ -1,4 +1,4 @@
--- Four words made of a block's bytes have them, also with the words of a key added. Assumes nothing.
+-- Four words made of a block's bytes have them, also with the words of a key added.
 use mathlib.Core.Path.{_≡_, refl, ap, _∙_}
 use mathlib.Core.List.{List, [], _∷_, _++_}
 use Prim.Native.Nat.{ℕ, zero, suc, _+_, _/_, _%_, _<_, _≤_}
@@ -83,8 +83,10 @@ module _ (p q r s k : ℕ) (hp : p < 256) (hq : q < 256) (hr : r < 256) (hs : s 
 module _ (m : List ℕ) (b : Block m) (k : State) where
   -- one column of them
   added-from : (i x : ℕ) → i + 4 ≤ 16 → four (xor (word (getD m i 0) (getD m (i + 1) 0) (getD m (i + 2) 0) (getD m (i + 3) 0)) x)
-      ≡ xor (getD m i 0) (x % 256) ∷ xor (getD m (i + 1) 0) (x / 256 % 256) ∷ xor (getD m (i + 2) 0) (x / 65536 % 256) ∷ xor (getD m (i + 3) 0) (x / 16777216) ∷ []
-  added-from i x h = four-added _ _ _ _ x (b .bytes i (omega arith)) (b .bytes (i + 1) (omega arith)) (b .bytes (i + 2) (omega arith)) (b .bytes (i + 3) (omega arith))
+      ≡ xor (getD m i 0) (x % 256) ∷ xor (getD m (i + 1) 0) (x / 256 % 256) ∷ xor (getD m (i + 2) 0) (x / 65536 % 256)
+      ∷ xor (getD m (i + 3) 0) (x / 16777216) ∷ []
+  added-from i x h = four-added _ _ _ _ x (b .bytes i (omega arith)) (b .bytes (i + 1) (omega arith)) (b .bytes (i + 2) (omega arith))
+      (b .bytes (i + 3) (omega arith))
 
   added : bytesOf (record {
     a = xor (word (getD m 0 0) (getD m 1 0) (getD m 2 0) (getD m 3 0)) (k .a);
@@ -95,7 +97,8 @@ module _ (m : List ℕ) (b : Block m) (k : State) where
       ≡ addRoundKey m (bytesOf k)
   unfolding bytesOf addRoundKey block run
   added t =
-      added-from 0 (k .a) (omega arith) t ++ added-from 4 (k .b) (omega arith) t ++ added-from 8 (k .c) (omega arith) t ++ added-from 12 (k .d) (omega arith) t
+      added-from 0 (k .a) (omega arith) t ++ added-from 4 (k .b) (omega arith) t ++ added-from 8 (k .c) (omega arith) t
+      ++ added-from 12 (k .d) (omega arith) t
 
   pub columns-added : (a b c d : ℕ) → Columns m a b c d
       → bytesOf (record { a = xor a (k .a); b = xor b (k .b); c = xor c (k .c); d = xor d (k .d) }) ≡ addRoundKey m (bytesOf k)
@@ -123,11 +126,13 @@ module _ (x p q r s : ℕ) (e : x ≡ word p q r s) (hp : p < 256) (hq : q < 256
 -- the words of a list alone
 pub columns-bytes : (m : List ℕ) → Block m → (s : State) → Columns m (s .a) (s .b) (s .c) (s .d) → bytesOf s ≡ m
 unfolding bytesOf block run
-columns-bytes m b s e = (λ t. from 0 (e .is-a) (omega arith) t ++ from 4 (e .is-b) (omega arith) t ++ from 8 (e .is-c) (omega arith) t ++ from 12 (e .is-d) (omega arith) t) ∙ block-is (λ i. getD m i 0) m (b .len) (λ i h. refl)
+columns-bytes m b s e = (λ t. from 0 (e .is-a) (omega arith) t ++ from 4 (e .is-b) (omega arith) t ++ from 8 (e .is-c) (omega arith) t
+    ++ from 12 (e .is-d) (omega arith) t) ∙ block-is (λ i. getD m i 0) m (b .len) (λ i h. refl)
   where
     from : (i : ℕ) {x : ℕ} → x ≡ word (getD m i 0) (getD m (i + 1) 0) (getD m (i + 2) 0) (getD m (i + 3) 0) → i + 4 ≤ 16
         → four x ≡ getD m i 0 ∷ getD m (i + 1) 0 ∷ getD m (i + 2) 0 ∷ getD m (i + 3) 0 ∷ []
-    from i f h = four-of _ _ _ _ _ f (b .bytes i (omega arith)) (b .bytes (i + 1) (omega arith)) (b .bytes (i + 2) (omega arith)) (b .bytes (i + 3) (omega arith))
+    from i f h = four-of _ _ _ _ _ f (b .bytes i (omega arith)) (b .bytes (i + 1) (omega arith)) (b .bytes (i + 2) (omega arith))
+        (b .bytes (i + 3) (omega arith))
 
 -- a word is made of its bytes
 word-of : (x : ℕ) → x ≡ word (x % 256) (x / 256 % 256) (x / 65536 % 256) (x / 16777216)

@@ -18,13 +18,16 @@ encryptBlocks ks (suc n) v s =
 unfoldable pub cbcDecryptBlock : List (List ℕ) → List ℕ → List ℕ → List ℕ
 cbcDecryptBlock ks v b = addRoundKey (invCipher ks b) v
 
+-- n blocks of s after the block v, each decrypted.
 unfoldable pub decryptBlocks : List (List ℕ) → ℕ → List ℕ → List ℕ → List ℕ
 decryptBlocks ks zero v s = []
 decryptBlocks ks (suc n) v s = cbcDecryptBlock ks v (take 16 s) ++ decryptBlocks ks n (take 16 s) (drop 16 s)
 
+-- 6.2, CBC Encryption: C_1 = CIPH_K(P_1 ⊕ IV), C_j = CIPH_K(P_j ⊕ C_(j-1)).
 unfoldable pub cbcEncrypt : List (List ℕ) → List ℕ → List ℕ → List ℕ
 cbcEncrypt ks v s = encryptBlocks ks (length s / 16) v s
 
+-- 6.2, CBC Decryption: P_1 = CIPH_K⁻¹(C_1) ⊕ IV, P_j = CIPH_K⁻¹(C_j) ⊕ C_(j-1).
 unfoldable pub cbcDecrypt : List (List ℕ) → List ℕ → List ℕ → List ℕ
 cbcDecrypt ks v s = decryptBlocks ks (length s / 16) v s
 

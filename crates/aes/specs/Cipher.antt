@@ -18,5 +18,6 @@ unfoldable pub unrounds : List (List ℕ) → ℕ → List ℕ → List ℕ
 unrounds ks zero s = addRoundKey (invSubBytes (invShiftRows s)) (getD ks 0 [])
 unrounds ks (suc n) s = unrounds ks n (invMixColumns (addRoundKey (invSubBytes (invShiftRows s)) (getD ks (suc n) [])))
 
+-- 5.3: the last round key is added first, then the nine rounds and the last.
 unfoldable pub invCipher : List (List ℕ) → List ℕ → List ℕ
 invCipher ks b = unrounds ks 9 (addRoundKey b (getD ks 10 []))

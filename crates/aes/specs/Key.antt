@@ -26,6 +26,7 @@ unfoldable pub nextByte : List ℕ → ℕ → ℕ → ℕ → ℕ
 nextByte k c zero r = xor (getD k r 0) (turnedByte k c r)
 nextByte k c (suc j) r = xor (getD k (4 * suc j + r) 0) (nextByte k c j r)
 
+-- The round key behind k, whose round constant begins with c.
 unfoldable pub nextKey : List ℕ → ℕ → List ℕ
 nextKey k c = block (λ i. nextByte k c (i / 4) (i % 4))
 

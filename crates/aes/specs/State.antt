@@ -18,14 +18,15 @@ pub record Block (s : List ℕ) : Type 0 where
   pub len : length s ≡ 16
   pub bytes : (i : ℕ) → i < 16 → getD s i 0 < 256
 
--- 5.1.1
+-- 5.1.1, SubBytes(): each byte is substituted.
 unfoldable pub subBytes : List ℕ → List ℕ
 subBytes s = block (λ i. sbox (getD s i 0))
 
--- 5.1.2: row r turns left by r places, so that a byte comes from the same row, r columns on.
+-- 5.1.2, ShiftRows(): row r turns left by r places, so that a byte comes from the same row, r columns on.
 unfoldable pub shifted : ℕ → ℕ
 shifted i = i % 4 + 4 * ((i / 4 + i % 4) % 4)
 
+-- The state with its rows turned so.
 unfoldable pub shiftRows : List ℕ → List ℕ
 shiftRows s = block (λ i. getD s (shifted i) 0)
 
@@ -33,27 +34,28 @@ shiftRows s = block (λ i. getD s (shifted i) 0)
 unfoldable pub down : ℕ → ℕ → ℕ
 down i j = 4 * (i / 4) + (i + j) % 4
 
--- 5.1.3
+-- 5.1.3, MixColumns(): each column times the matrix.
 unfoldable pub mixColumns : List ℕ → List ℕ
 mixColumns s =
     block (λ i. mixed (getD s (down i 0) 0) (getD s (down i 1) 0) (getD s (down i 2) 0) (getD s (down i 3) 0))
 
--- 5.1.4
+-- 5.1.4, AddRoundKey(): each byte is added to the round key's.
 unfoldable pub addRoundKey : List ℕ → List ℕ → List ℕ
 addRoundKey s k = block (λ i. xor (getD s i 0) (getD k i 0))
 
--- 5.3.1: row r turns right by r places.
+-- 5.3.1, InvShiftRows(): row r turns right by r places.
 unfoldable pub unshifted : ℕ → ℕ
 unshifted i = i % 4 + 4 * ((i / 4 + (4 - i % 4)) % 4)
 
+-- The state with its rows turned back.
 unfoldable pub invShiftRows : List ℕ → List ℕ
 invShiftRows s = block (λ i. getD s (unshifted i) 0)
 
--- 5.3.2
+-- 5.3.2, InvSubBytes(): each substitution is taken back.
 unfoldable pub invSubBytes : List ℕ → List ℕ
 invSubBytes s = block (λ i. invSbox (getD s i 0))
 
--- 5.3.3
+-- 5.3.3, InvMixColumns(): each column times the inverse matrix.
 unfoldable pub invMixColumns : List ℕ → List ℕ
 invMixColumns s =
     block (λ i. unmixed (getD s (down i 0) 0) (getD s (down i 1) 0) (getD s (down i 2) 0) (getD s (down i 3) 0))

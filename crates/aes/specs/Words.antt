@@ -28,6 +28,6 @@ unfoldable pub lookedUpBytes : List ℕ → ℕ → ℕ → ℕ → ℕ → ℕ
 lookedUpBytes t a b c d =
     word (getD t (a % 256) 0) (getD t (b / 256 % 256) 0) (getD t (c / 65536 % 256) 0) (getD t (d / 16777216) 0)
 
--- FIPS 197, 5.3.5: the first n lists of ds are the round keys ks with InvMixColumns applied, and those are blocks.
+-- FIPS 197, 5.3.5: from the second to the one before n, the lists of ds are the round keys ks with InvMixColumns applied, and those are blocks.
 abbrev pub InverseKeys : List (List ℕ) → List (List ℕ) → ℕ → Type 0
-InverseKeys ks ds n = (i : ℕ) → i < n → (getD ds i [] ≡ invMixColumns (getD ks i [])) × Block (getD ks i [])
+InverseKeys ks ds n = (i : ℕ) → 0 < i → i < n → (getD ds i [] ≡ invMixColumns (getD ks i [])) × Block (getD ks i [])

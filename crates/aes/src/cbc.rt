@@ -1,4 +1,5 @@
 // Cipher block chaining (SP 800-38A, 6.2), from one slice to another and, for encryption, in place.
+use super::block::front;
 use super::columns::State;
 use super::columns::add;
 use super::columns::bytes_of;
@@ -12,16 +13,16 @@ use field::tables::mixing;
 use field::tables::substitution;
 use field::tables::unmixing;
 ghost use mathlib.Core.Path.{_≡_};
-ghost use mathlib.Core.Bool.{cond};
+ghost use mathlib.Core.Bool.{cond, _&&_};
 ghost use mathlib.Core.List.{_++_};
 ghost use Prim.Native.Nat.{_+_, _%_, _≤_, _<_};
-ghost use lib.Dec.{eqb};
+ghost use lib.Dec.{eqb, leb};
 ghost use lib.ListN.{length, take, drop};
 ghost use lib.Seq.{paste};
 ghost use Rattle.field.specs.Runs.{table};
 ghost use Rattle.field.specs.Sbox.{sbox, invSbox};
 ghost use Rattle.field.specs.Words.{Mixes};
-ghost use Rattle.aes.specs.State.{loadBlock};
+ghost use Rattle.aes.specs.State.{addRoundKey, loadBlock};
 ghost use Rattle.aes.specs.Words.{bytesOf, InverseKeys};
 ghost use Rattle.aes.specs.Cbc.{cbcDecryptBlock, cbcEncrypt, cbcDecrypt, fits, written};
 
@@ -30,24 +31,7 @@ fn words_from(s: &[u8]) -> State
     requires { ⌜ 16 ≤ length (now s) ⌝ }
     ensures { λ r. ⌜ bytesOf r ≡ loadBlock (now (s .entry)) ⌝ }
 {
-    words([
-        s[0],
-        s[1],
-        s[2],
-        s[3],
-        s[4],
-        s[5],
-        s[6],
-        s[7],
-        s[8],
-        s[9],
-        s[10],
-        s[11],
-        s[12],
-        s[13],
-        s[14],
-        s[15],
-    ])
+    words(front(s))
 }
 
 // Sixteen bytes to place `at` of a slice.
@@ -96,9 +80,12 @@ fn decrypt_two(
     at: usize,
     next: usize,
 ) -> State
-    requires { ⌜ (now sb ≡ table invSbox) × Mixes invSbox 14 11 13 9 (now t) × InverseKeys (now keys) (now inverse) 11 × (at ≤ next) × (next + 16 ≤ length (now source)) × (next + 16 ≤ length (now target)) ⌝ }
+    requires { ⌜ (now sb ≡ table invSbox) × Mixes invSbox 14 11 13 9 (now t) × InverseKeys (now keys) (now inverse) 10 × (at ≤ next)
+        × (next + 16 ≤ length (now source)) × (next + 16 ≤ length (now target)) ⌝ }
     ensures { λ r. ⌜ bytesOf r ≡ take 16 (drop next (now (source .entry))) ⌝ }
-    ensures { λ _. ⌜ now (target .exit) ≡ paste (paste (now (target .entry)) next (cbcDecryptBlock (now (keys .entry)) (take 16 (drop at (now (source .entry)))) (take 16 (drop next (now (source .entry))))) 16) at (cbcDecryptBlock (now (keys .entry)) (bytesOf v) (take 16 (drop at (now (source .entry))))) 16 ⌝ }
+    ensures { λ _. ⌜ now (target .exit) ≡ paste (paste (now (target .entry)) next
+        (cbcDecryptBlock (now (keys .entry)) (take 16 (drop at (now (source .entry)))) (take 16 (drop next (now (source .entry))))) 16) at
+        (cbcDecryptBlock (now (keys .entry)) (bytesOf v) (take 16 (drop at (now (source .entry))))) 16 ⌝ }
 {
     let x = words_from(&source[at..]);
     let y = words_from(&source[next..]);
@@ -126,8 +113,10 @@ fn decrypt_blocks(
     source: &[u8],
     target: &mut [u8],
 )
-    requires { ⌜ (now sb ≡ table invSbox) × Mixes invSbox 14 11 13 9 (now t) × InverseKeys (now keys) (now inverse) 11 × (length (now source) % 16 ≡ 0) × (length (now source) ≤ length (now target)) ⌝ }
-    ensures { λ _. ⌜ now (target .exit) ≡ cbcDecrypt (now (keys .entry)) (bytesOf vector) (now (source .entry)) ++ drop (length (now (source .entry))) (now (target .entry)) ⌝ }
+    requires { ⌜ (now sb ≡ table invSbox) × Mixes invSbox 14 11 13 9 (now t) × InverseKeys (now keys) (now inverse) 10
+        × (length (now source) % 16 ≡ 0) × (length (now source) ≤ length (now target)) ⌝ }
+    ensures { λ _. ⌜ now (target .exit) ≡ cbcDecrypt (now (keys .entry)) (bytesOf vector) (now (source .entry))
+        ++ drop (length (now (source .entry))) (now (target .entry)) ⌝ }
 {
     let mut v = vector;
     let mut at: usize = 0;
@@ -136,6 +125,13 @@ fn decrypt_blocks(
         v = decrypt_two(keys, inverse, sb, t, v, source, target, at, next);
         at = next + 16;
     }
+}
+
+// Whether so many bytes are whole blocks for which so much room is enough.
+fn fit(size: usize, room: usize) -> bool
+    ensures { λ r. ⌜ r ≡ (eqb (size % 16) 0 && leb size room) ⌝ }
+{
+    (size % 16 == 0) & (size <= room)
 }
 
 // Encrypts the source into the front of the target. False, with the target left alone, where the source is not whole blocks or the target
@@ -147,12 +143,10 @@ pub fn cbc_encrypt(
     target: &mut [u8],
 ) -> bool
     ensures { λ r. ⌜ r ≡ fits (now (source .entry)) (now (target .entry)) ⌝ }
-    ensures { λ _. ⌜ now (target .exit) ≡ written (now (source .entry)) (cbcEncrypt (now (keys .entry)) vector (now (source .entry))) (now (target .entry)) ⌝ }
+    ensures { λ _. ⌜ now (target .exit) ≡ written (now (source .entry)) (cbcEncrypt (now (keys .entry)) vector (now (source .entry)))
+        (now (target .entry)) ⌝ }
 {
-    if source.len() % 16 != 0 {
-        return false;
-    }
-    if target.len() < source.len() {
+    if !fit(source.len(), target.len()) {
         return false;
     }
     let n = source.len();
@@ -163,7 +157,8 @@ pub fn cbc_encrypt(
 // Encrypts a buffer in place. False, with the buffer left alone, where it is not whole blocks.
 pub fn cbc_encrypt_in_place(keys: &[[u8; 16]; 11], vector: [u8; 16], buffer: &mut [u8]) -> bool
     ensures { λ r. ⌜ r ≡ eqb (length (now (buffer .entry)) % 16) 0 ⌝ }
-    ensures { λ _. ⌜ now (buffer .exit) ≡ cond (eqb (length (now (buffer .entry)) % 16) 0) (cbcEncrypt (now (keys .entry)) vector (now (buffer .entry))) (now (buffer .entry)) ⌝ }
+    ensures { λ _. ⌜ now (buffer .exit) ≡ cond (eqb (length (now (buffer .entry)) % 16) 0)
+        (cbcEncrypt (now (keys .entry)) vector (now (buffer .entry))) (now (buffer .entry)) ⌝ }
 {
     if buffer.len() % 16 != 0 {
         return false;
@@ -183,12 +178,10 @@ pub fn cbc_decrypt(
     target: &mut [u8],
 ) -> bool
     ensures { λ r. ⌜ r ≡ fits (now (source .entry)) (now (target .entry)) ⌝ }
-    ensures { λ _. ⌜ now (target .exit) ≡ written (now (source .entry)) (cbcDecrypt (now (keys .entry)) vector (now (source .entry))) (now (target .entry)) ⌝ }
+    ensures { λ _. ⌜ now (target .exit) ≡ written (now (source .entry)) (cbcDecrypt (now (keys .entry)) vector (now (source .entry)))
+        (now (target .entry)) ⌝ }
 {
-    if source.len() % 16 != 0 {
-        return false;
-    }
-    if target.len() < source.len() {
+    if !fit(source.len(), target.len()) {
         return false;
     }
     let sb = substitution();
@@ -199,11 +192,46 @@ pub fn cbc_decrypt(
     true
 }
 
-// One block of CBC decryption, by the cipher block before it, or the vector.
+// The sum of two blocks.
+fn sum(a: [u8; 16], b: [u8; 16]) -> [u8; 16]
+    ensures { λ r. ⌜ r ≡ addRoundKey a b ⌝ }
+{
+    bytes_of(add(words(a), words(b)))
+}
+
+// Two blocks of plain text.
+pub struct Ends {
+    pub first: [u8; 16],
+    pub last: [u8; 16],
+}
+
+// The first and the last block of CBC decryption, as a chain of these two: so the first was added to the last, and is taken off again for
+// `before`, the cipher block that stands before the last.
+pub fn cbc_decrypt_ends(
+    keys: &[[u8; 16]; 11],
+    vector: [u8; 16],
+    first: [u8; 16],
+    before: [u8; 16],
+    last: [u8; 16],
+) -> Ends
+    ensures { λ r. ⌜ (r .first ≡ cbcDecryptBlock (now (keys .entry)) vector first) × (r .last ≡ cbcDecryptBlock (now (keys .entry)) before last) ⌝ }
+{
+    let mut chain = [0u8; 32];
+    let mut plain = [0u8; 32];
+    put(&mut chain, 0, first);
+    put(&mut chain, 16, last);
+    cbc_decrypt(keys, vector, &chain, &mut plain);
+    let end = sum(front(&plain[16..]), first);
+    Ends {
+        first: front(&plain),
+        last: sum(end, before),
+    }
+}
+
+// One block of CBC decryption, by the cipher block before it, or the vector: the first and the last.
 pub fn cbc_decrypt_block(keys: &[[u8; 16]; 11], previous: [u8; 16], block: [u8; 16]) -> [u8; 16]
     ensures { λ r. ⌜ r ≡ cbcDecryptBlock (now (keys .entry)) previous block ⌝ }
 {
-    let mut plain = [0u8; 16];
-    cbc_decrypt(keys, previous, &block, &mut plain);
-    plain
+    let ends = cbc_decrypt_ends(keys, previous, block, previous, block);
+    ends.first
 }

@@ -114,14 +114,14 @@ fn unmix_key(sb: &[u8; 256], t: &[u64; 256], k: [u8; 16]) -> [u8; 16]
     })
 }
 
-// The round keys of the way back.
+// The round keys of the way back, between the first and the last, which stay as they are.
 pub(crate) fn inverse_keys(keys: &[[u8; 16]; 11], sb: &[u8; 256], t: &[u64; 256]) -> [[u8; 16]; 11]
     requires { ⌜ (now sb ≡ table sbox) × Mixes invSbox 14 11 13 9 (now t) ⌝ }
-    ensures { λ r. ⌜ InverseKeys (now (keys .entry)) r 11 ⌝ }
+    ensures { λ r. ⌜ InverseKeys (now (keys .entry)) r 10 ⌝ }
 {
     let mut inverse = [[0u8; 16]; 11];
-    let mut n: usize = 0;
-    while n < 11 {
+    let mut n: usize = 1;
+    while n < 10 {
         let k = keys[n];
         let u = unmix_key(sb, t, k);
         inverse[n] = u;
@@ -161,8 +161,9 @@ pub(crate) fn decrypt_pair(
     t: &[u64; 256],
     p: Pair,
 ) -> Pair
-    requires { ⌜ (now sb ≡ table invSbox) × Mixes invSbox 14 11 13 9 (now t) × InverseKeys (now keys) (now inverse) 11 ⌝ }
-    ensures { λ r. ⌜ (bytesOf (r .x) ≡ invCipher (now (keys .entry)) (bytesOf (p .x))) × (bytesOf (r .y) ≡ invCipher (now (keys .entry)) (bytesOf (p .y))) ⌝ }
+    requires { ⌜ (now sb ≡ table invSbox) × Mixes invSbox 14 11 13 9 (now t) × InverseKeys (now keys) (now inverse) 10 ⌝ }
+    ensures { λ r. ⌜ (bytesOf (r .x) ≡ invCipher (now (keys .entry)) (bytesOf (p .x)))
+        × (bytesOf (r .y) ≡ invCipher (now (keys .entry)) (bytesOf (p .y))) ⌝ }
 {
     let first = keys[10];
     let k = words(first);

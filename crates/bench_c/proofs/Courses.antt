@@ -1,4 +1,4 @@
--- A course goes on by one piece. Assumes nothing.
+-- A course goes on by one piece.
 use Prim.Native.Nat.{ℕ, _+_, _*_}
 use mathlib.Core.Path.{_≡_}
 use mathlib.Core.List.{List}
@@ -16,7 +16,8 @@ module _ (F count : ℕ) (source report₀ : List ℕ) (n : ℕ) where
     pub stands : report ≡ course F count source report₀ n .report
     pub says : told ≡ course F count source report₀ n .told
 
-pub came-more : (F count : ℕ) (source report₀ : List ℕ) (n : ℕ) {held : Progress} {report : List ℕ} {told : ℕ} → Came F count source report₀ n held report told
+pub came-more : (F count : ℕ) (source report₀ : List ℕ) (n : ℕ) {held : Progress} {report : List ℕ} {told : ℕ}
+    → Came F count source report₀ n held report told
     → (joined : Joined) (after : List ℕ) (length : ℕ) → joined ≡ join F held (pieceOf count n) (part source (F * n) F) report
     → after ≡ reportAfter F held (pieceOf count n) (part source (F * n) F) report → length ≡ lengthTold (joined .answer)
     → Came F count source report₀ (n + 1) (joined .progress) after length

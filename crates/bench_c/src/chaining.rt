@@ -13,7 +13,9 @@ ghost use Rattle.aes.specs.State.{loadBlock};
 #[no_mangle]
 pub extern "C" fn bench_encrypt(key: &[u8], vector: &[u8], source: &[u8], target: &mut [u8]) -> bool
     ensures { λ r. ⌜ r ≡ fits (now (source .entry)) (now (target .entry)) ⌝ }
-    ensures { λ _. ⌜ now (target .exit) ≡ written (now (source .entry)) (cbcEncrypt (expandKey (loadBlock (now (key .entry)))) (loadBlock (now (vector .entry))) (now (source .entry))) (now (target .entry)) ⌝ }
+    ensures { λ _. ⌜ now (target .exit) ≡ written (now (source .entry))
+        (cbcEncrypt (expandKey (loadBlock (now (key .entry)))) (loadBlock (now (vector .entry))) (now (source .entry)))
+        (now (target .entry)) ⌝ }
 {
     let keys = expand_key(load_block(key));
     let first = load_block(vector);
@@ -24,7 +26,9 @@ pub extern "C" fn bench_encrypt(key: &[u8], vector: &[u8], source: &[u8], target
 #[no_mangle]
 pub extern "C" fn bench_decrypt(key: &[u8], vector: &[u8], source: &[u8], target: &mut [u8]) -> bool
     ensures { λ r. ⌜ r ≡ fits (now (source .entry)) (now (target .entry)) ⌝ }
-    ensures { λ _. ⌜ now (target .exit) ≡ written (now (source .entry)) (cbcDecrypt (expandKey (loadBlock (now (key .entry)))) (loadBlock (now (vector .entry))) (now (source .entry))) (now (target .entry)) ⌝ }
+    ensures { λ _. ⌜ now (target .exit) ≡ written (now (source .entry))
+        (cbcDecrypt (expandKey (loadBlock (now (key .entry)))) (loadBlock (now (vector .entry))) (now (source .entry)))
+        (now (target .entry)) ⌝ }
 {
     let keys = expand_key(load_block(key));
     let first = load_block(vector);

@@ -40,7 +40,8 @@ fn join_next(
 ) -> Joined
     requires { ⌜ (size ≤ 16384) × (i < 64) ⌝ }
     ensures { λ r. ⌜ r ≡ join size held (pieceOf count i) (part (now (source .entry)) (size * i) size) (now (report .entry)) ⌝ }
-    ensures { λ _. ⌜ now (report .exit) ≡ reportAfter size held (pieceOf count i) (part (now (source .entry)) (size * i) size) (now (report .entry)) ⌝ }
+    ensures { λ _. ⌜ now (report .exit) ≡ reportAfter size held (pieceOf count i) (part (now (source .entry)) (size * i) size)
+        (now (report .entry)) ⌝ }
 {
     let piece = Piece {
         sequence: 0,

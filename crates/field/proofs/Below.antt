@@ -1,4 +1,4 @@
--- What holds of each number below n, by one test that is computed, one number after the other. Assumes nothing.
+-- What holds of each number below n, by one test that is computed, one number after the other.
 use mathlib.Core.Path.{_≡_, _∙_, subst, sym}
 use mathlib.Core.Bool.{Bool, true, false}
 use Prim.Native.Nat.{ℕ, zero, suc, _+_, _<_}
@@ -9,11 +9,11 @@ abbrev pub both : Bool → Bool → Bool
 both true b = b
 both false b = false
 
-pub both-left : (a b : Bool) → T (both a b) → T a
+both-left : (a b : Bool) → T (both a b) → T a
 both-left true b t = tt
 both-left false b t = t
 
-pub both-right : (a b : Bool) → T (both a b) → T b
+both-right : (a b : Bool) → T (both a b) → T b
 both-right true b t = t
 both-right false b t = absurd t
 

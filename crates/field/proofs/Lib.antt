@@ -2,6 +2,8 @@ pub mod Below
 pub mod Runs
 pub mod Xor
 pub mod Linear
+pub mod Additive
+pub mod Product
 pub mod Sbox
 pub mod Mix
 pub mod Words

@@ -1,4 +1,4 @@
--- A product with a fixed byte is a byte, and the product of a sum is the sum of the products. Assumes nothing.
+-- A product with a fixed byte is a byte, and the product of a sum is the sum of the products.
 use mathlib.Core.Path.{_≡_, sym, ap, ap₂, _∙_, subst}
 use Prim.Native.Nat.{ℕ, zero, suc, _*_, _/_, _%_, _<_}
 use native.Mathlib.Nat.{mod-lt, zero-mul, one-mul, le-of-suc-le-suc, not-suc-le-zero}
@@ -6,7 +6,7 @@ use native.Mathlib.Omega.{arith}
 use lib.Dec.{lit<}
 use Rattle.field.specs.Xor.{xor}
 use Rattle.field.specs.Field.{polynomial, xtime, times, mul}
-use Rattle.field.proofs.Xor.{self, zero-r, zero-l, byte, swap4, double, top}
+use Rattle.field.proofs.Xor.{self, zero-r, zero-l, byte, swap4, double, half, lowest, top}
 use Rattle.field.proofs.Below.{bounded}
 
 pub xtime-byte : (x : ℕ) → x < 256 → xtime x < 256
@@ -25,7 +25,7 @@ times-digit zero a b h = zero-mul (xor a b) ∙ sym (self 0) ∙ sym (ap₂ xor 
 times-digit (suc zero) a b h = one-mul (xor a b) ∙ sym (ap₂ xor (one-mul a) (one-mul b))
 times-digit (suc (suc c)) a b h = absurd (not-suc-le-zero (le-of-suc-le-suc (le-of-suc-le-suc h)))
 
-pub xtime-xor : (a b : ℕ) → a < 256 → b < 256 → xtime (xor a b) ≡ xor (xtime a) (xtime b)
+xtime-xor : (a b : ℕ) → a < 256 → b < 256 → xtime (xor a b) ≡ xor (xtime a) (xtime b)
 unfolding xtime
 xtime-xor a b ha hb =
     ap₂ xor (double a b)
@@ -53,6 +53,16 @@ times-xor (suc n) k a b ha hb =
     ∙ xtime-xor (times n (k / 2) a) (times n (k / 2) b) (times-byte n (k / 2) a ha) (times-byte n (k / 2) b hb))
     ∙ swap4 (k % 2 * a) (k % 2 * b) (xtime (times n (k / 2) a)) (xtime (times n (k / 2) b))
 
+-- in the first factor too
+times-left : (n a c b : ℕ) → b < 256 → times n (xor a c) b ≡ xor (times n a b) (times n c b)
+unfolding times
+times-left zero a c b h = sym (self 0)
+times-left (suc n) a c b h =
+    ap₂ xor (ap (λ (x : ℕ). x * b) (lowest a c) ∙ digit-times (a % 2) (c % 2) b (mod-lt a (lit< tt)) (mod-lt c (lit< tt)))
+    (ap xtime (ap (λ (x : ℕ). times n x b) (half a c) ∙ times-left n (a / 2) (c / 2) b h)
+    ∙ xtime-xor (times n (a / 2) b) (times n (c / 2) b) (times-byte n (a / 2) b h) (times-byte n (c / 2) b h))
+    ∙ swap4 (a % 2 * b) (c % 2 * b) (xtime (times n (a / 2) b)) (xtime (times n (c / 2) b))
+
 pub mul-byte : (k x : ℕ) → x < 256 → mul k x < 256
 unfolding mul
 mul-byte k x h = times-byte 8 k x h
@@ -60,3 +70,7 @@ mul-byte k x h = times-byte 8 k x h
 pub mul-xor : (k a b : ℕ) → a < 256 → b < 256 → mul k (xor a b) ≡ xor (mul k a) (mul k b)
 unfolding mul
 mul-xor k a b ha hb = times-xor 8 k a b ha hb
+
+pub xor-mul : (a c b : ℕ) → b < 256 → mul (xor a c) b ≡ xor (mul a b) (mul c b)
+unfolding mul
+xor-mul a c b h = times-left 8 a c b h

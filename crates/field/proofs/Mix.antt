@@ -1,13 +1,13 @@
--- InvMixColumns undoes MixColumns: the inverse row times the row, turned four times, has the coefficients 1, 0, 0, 0, each by one test
--- over the bytes. Assumes nothing.
-use mathlib.Core.Path.{_≡_, sym, ap, _∙_}
+-- InvMixColumns undoes MixColumns: the inverse row times the row, turned four times, has the coefficients 1, 0, 0, 0.
+use mathlib.Core.Path.{_≡_, refl, sym, ap, _∙_}
 use Prim.Native.Nat.{ℕ, _<_}
+use lib.Dec.{lit<}
 use Rattle.field.specs.Xor.{xor}
 use Rattle.field.specs.Field.{xtime, times, mul}
 use Rattle.field.specs.Mix.{xor4, row, mixed, unmixed}
 use Rattle.field.proofs.Xor.{comm, zero-r, zero-l, byte, assoc, swap4}
-use Rattle.field.proofs.Linear.{mul-byte, mul-xor}
-use Rattle.field.proofs.Below.{agree}
+use Rattle.field.proofs.Linear.{mul-byte, mul-xor, xor-mul}
+use Rattle.field.proofs.Product.{one-times, zero-times, times-assoc}
 
 -- ---- sums of four
 
@@ -21,7 +21,7 @@ turn a b c d =
     ap (xor a) (sym (assoc b c d)) ∙ sym (assoc a (xor b c) d) ∙ comm (xor a (xor b c)) d
 
 -- two sums, term by term
-pub zip : (a b c d e f g h : ℕ) → xor (xor4 a b c d) (xor4 e f g h) ≡ xor4 (xor a e) (xor b f) (xor c g) (xor d h)
+zip : (a b c d e f g h : ℕ) → xor (xor4 a b c d) (xor4 e f g h) ≡ xor4 (xor a e) (xor b f) (xor c g) (xor d h)
 unfolding xor4
 zip a b c d e f g h =
     swap4 a (xor b (xor c d)) e (xor f (xor g h))
@@ -46,7 +46,7 @@ alone a = ap (xor a) (zero-l (xor 0 0) ∙ zero-l 0) ∙ zero-r a
 
 -- ---- rows
 
-pub row-byte : (k l m n a b c d : ℕ) → a < 256 → b < 256 → c < 256 → d < 256 → row k l m n a b c d < 256
+row-byte : (k l m n a b c d : ℕ) → a < 256 → b < 256 → c < 256 → d < 256 → row k l m n a b c d < 256
 unfolding row
 row-byte k l m n a b c d ha hb hc hd =
     xor4-byte (mul k a) (mul l b) (mul m c) (mul n d) (mul-byte k a ha) (mul-byte l b hb) (mul-byte m c hc) (mul-byte n d hd)
@@ -81,25 +81,39 @@ mul-mixed k a b c d ha hb hc hd =
 
 -- ---- the four coefficients
 
--- the inverse row times one column of the matrix, of a byte
+-- the inverse row times one column of the matrix, and the same of a byte
+weight : ℕ → ℕ → ℕ → ℕ → ℕ
+weight k l m n = xor4 (mul 14 k) (mul 11 l) (mul 13 m) (mul 9 n)
+
 coefficient : ℕ → ℕ → ℕ → ℕ → ℕ → ℕ
 coefficient k l m n x = xor4 (mul 14 (mul k x)) (mul 11 (mul l x)) (mul 13 (mul m x)) (mul 9 (mul n x))
 
+weights : (weight 2 1 1 3 ≡ 1) × (weight 3 2 1 1 ≡ 0) × (weight 1 3 2 1 ≡ 0) × (weight 1 1 3 2 ≡ 0)
+unfolding weight xor4 mul times xtime xor
+weights = (refl, refl, refl, refl)
+
+by-weight : (k l m n w x : ℕ) → k < 256 → l < 256 → m < 256 → n < 256 → x < 256 → weight k l m n ≡ w → coefficient k l m n x ≡ mul w x
+unfolding weight coefficient xor4
+by-weight k l m n w x hk hl hm hn hx e =
+    (λ i. xor (alike 14 k hk (lit< tt) i) (xor (alike 11 l hl (lit< tt) i) (xor (alike 13 m hm (lit< tt) i) (alike 9 n hn (lit< tt) i))))
+    ∙ sym
+    (ap (λ (y : ℕ). mul y x) (sym e) ∙ xor-mul (mul 14 k) _ x hx
+    ∙ ap (xor (mul (mul 14 k) x)) (xor-mul (mul 11 l) _ x hx ∙ ap (xor (mul (mul 11 l) x)) (xor-mul (mul 13 m) (mul 9 n) x hx)))
+  where
+    alike : (c k : ℕ) → k < 256 → c < 256 → mul c (mul k x) ≡ mul (mul c k) x
+    alike c k h g = sym (times-assoc c k x g h hx)
+
 first : (x : ℕ) → x < 256 → coefficient 2 1 1 3 x ≡ x
-unfolding coefficient xor4 mul times xtime xor
-first = agree (coefficient 2 1 1 3) (λ x. x) 256 tt
+first x h = by-weight 2 1 1 3 1 x (lit< tt) (lit< tt) (lit< tt) (lit< tt) h (weights .0) ∙ one-times x h
 
 second : (x : ℕ) → x < 256 → coefficient 3 2 1 1 x ≡ 0
-unfolding coefficient xor4 mul times xtime xor
-second = agree (coefficient 3 2 1 1) (λ x. 0) 256 tt
+second x h = by-weight 3 2 1 1 0 x (lit< tt) (lit< tt) (lit< tt) (lit< tt) h (weights .1) ∙ zero-times x h
 
 third : (x : ℕ) → x < 256 → coefficient 1 3 2 1 x ≡ 0
-unfolding coefficient xor4 mul times xtime xor
-third = agree (coefficient 1 3 2 1) (λ x. 0) 256 tt
+third x h = by-weight 1 3 2 1 0 x (lit< tt) (lit< tt) (lit< tt) (lit< tt) h (weights .2) ∙ zero-times x h
 
 fourth : (x : ℕ) → x < 256 → coefficient 1 1 3 2 x ≡ 0
-unfolding coefficient xor4 mul times xtime xor
-fourth = agree (coefficient 1 1 3 2) (λ x. 0) 256 tt
+fourth x h = by-weight 1 1 3 2 0 x (lit< tt) (lit< tt) (lit< tt) (lit< tt) h (weights .3) ∙ zero-times x h
 
 pub unmixed-mixed : (a b c d : ℕ) → a < 256 → b < 256 → c < 256 → d < 256
     → unmixed (mixed a b c d) (mixed b c d a) (mixed c d a b) (mixed d a b c) ≡ a

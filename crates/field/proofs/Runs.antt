@@ -1,5 +1,4 @@
 -- A list given by its elements has them; a list that has them is that list, whether they were tested or filled in one by one.
--- Assumes nothing.
 use mathlib.Core.Path.{_≡_, refl, sym, ap, _∙_, subst}
 use mathlib.Core.List.{List}
 use Prim.Native.Nat.{ℕ, zero, suc, _+_, _≤_, _<_}
@@ -17,7 +16,7 @@ unfolding run
 run-length f i zero = refl
 run-length f i (suc n) = ap suc (run-length f (suc i) n)
 
-pub run-at {ℓ} : {A : Type ℓ} (f : ℕ → A) (i n k : ℕ) (d : A) → k < n → getD (run f i n) k d ≡ f (i + k)
+run-at {ℓ} : {A : Type ℓ} (f : ℕ → A) (i n k : ℕ) (d : A) → k < n → getD (run f i n) k d ≡ f (i + k)
 unfolding run
 run-at f i zero k d h = absurd (not-suc-le-zero h)
 run-at f i (suc n) zero d h = ap f (sym (add-zero i))

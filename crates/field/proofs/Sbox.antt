@@ -1,18 +1,14 @@
--- The substitution has the standard's rule at each byte, nothing else has it, and the substitution back undoes it. Assumes nothing.
-use mathlib.Core.Path.{_≡_, refl, sym, ap, ap₂, _∙_, subst}
-use mathlib.Core.Bool.{Bool}
-use Prim.Native.Nat.{ℕ, zero, suc, _+_, _*_, _/_, _%_, _^_, _≤_, _<_, min}
+-- The substitution has the standard's rule at each byte, nothing else has it, and the substitution back undoes it.
+use mathlib.Core.Path.{_≡_, refl, sym, ap, _∙_}
+use Prim.Native.Nat.{ℕ, zero, suc, _<_, min}
 use native.Mathlib.Omega.{arith}
-use native.Mathlib.Nat.{mod-lt, zero-mul, one-mul, div-lt-iff-lt-mul, pow-suc, mul-comm}
-use lib.Dec.{T, eqb, eqb→eq, lit<}
-use lib.Bits.{xor-shifted}
-use lib.Pow.{split, pow-pos}
+use lib.Dec.{lit<}
 use Rattle.field.specs.Xor.{xor}
 use Rattle.field.specs.Field.{xtime, times, mul, square, ones, inverse}
 use Rattle.field.specs.Sbox.{affine, unaffine, sbox, invSbox, Substitute}
-use Rattle.field.proofs.Xor.{is-bit-xor, self}
-use Rattle.field.proofs.Linear.{mul-byte, mul-xor}
-use Rattle.field.proofs.Below.{every, below, agree, bounded}
+use Rattle.field.proofs.Linear.{mul-byte}
+use Rattle.field.proofs.Product.{mul-zero, one-times, times-comm, times-assoc}
+use Rattle.field.proofs.Below.{agree}
 
 -- ---- b to the power of 254 is the inverse of b
 
@@ -48,64 +44,25 @@ sbox-substitutes b h =
       image = refl;
     }
 
--- ---- a byte has one inverse: times b and then times its inverse changes none of the eight digits, and so no byte
+-- ---- a byte has one inverse, and is the inverse of it
 
-back : ℕ → ℕ → ℕ
-back b d = mul (inverse b) (mul b d)
+one-inverse : (b y z : ℕ) → b < 256 → y < 256 → z < 256 → mul b y ≡ 1 → mul b z ≡ 1 → y ≡ z
+one-inverse b y z hb hy hz ey ez =
+    sym (one-times y hy) ∙ ap (λ (x : ℕ). mul x y) (sym (times-comm z b hz hb ∙ ez)) ∙ times-assoc z b y hz hb hy
+    ∙ ap (mul z) ey ∙ times-comm z 1 hz (lit< tt) ∙ one-times z hz
 
--- y undoes b at the digit j
-kept : ℕ → ℕ → ℕ → Bool
-kept b y j = eqb (mul y (mul b (2 ^ j))) (2 ^ j)
+inverse-positive : (b i : ℕ) → mul b i ≡ 1 → 0 < i
+inverse-positive b zero e = let z = mul-zero b in absurd (omega arith)
+inverse-positive b (suc i) e = omega arith
 
-row-kept : ℕ → ℕ → Bool
-row-kept b y = every (kept b y) 0 8
-
-all-kept : T (every (λ k. row-kept (suc k) (inverse (suc k))) 0 255)
-unfolding row-kept kept inverse square ones mul times xtime xor
-all-kept = tt
-
-mul-zero : (k : ℕ) → mul k 0 ≡ 0
-mul-zero k = ap (mul k) (sym (self 0)) ∙ mul-xor k 0 0 (lit< tt) (lit< tt) ∙ self (mul k 0)
-
-module _ (k : ℕ) (hk : k < 255) where
-  back-one : (j : ℕ) → j < 8 → back (suc k) (2 ^ j) ≡ 2 ^ j
-  unfolding row-kept kept back
-  back-one j hj =
-      eqb→eq (back (suc k) (2 ^ j)) (2 ^ j)
-      (below (kept (suc k) (inverse (suc k))) 8 (below (λ k. row-kept (suc k) (inverse (suc k))) 255 all-kept k hk) j hj)
-
-  back-xor : (a b : ℕ) → a < 256 → b < 256 → back (suc k) (xor a b) ≡ xor (back (suc k) a) (back (suc k) b)
-  unfolding back
-  back-xor a b ha hb =
-      ap (mul (inverse (suc k))) (mul-xor (suc k) a b ha hb)
-      ∙ mul-xor (inverse (suc k)) (mul (suc k) a) (mul (suc k) b) (mul-byte (suc k) a ha) (mul-byte (suc k) b hb)
-
-  back-zero : back (suc k) 0 ≡ 0
-  unfolding back
-  back-zero = ap (mul (inverse (suc k))) (mul-zero (suc k)) ∙ mul-zero (inverse (suc k))
-
-  back-digit : (b j : ℕ) → b < 2 → j < 8 → back (suc k) (b * 2 ^ j) ≡ b * 2 ^ j
-  back-digit zero j hb hj = ap (back (suc k)) (zero-mul (2 ^ j)) ∙ back-zero ∙ sym (zero-mul (2 ^ j))
-  back-digit (suc zero) j hb hj = ap (back (suc k)) (one-mul (2 ^ j)) ∙ back-one j hj ∙ sym (one-mul (2 ^ j))
-  back-digit (suc (suc b)) j hb hj = absurd (omega arith)
-
-  -- digit by digit, from the top
-  back-all : (n d : ℕ) → n ≤ 8 → d < 256 → d < 2 ^ n → back (suc k) d ≡ d
-  back-all zero d hn hd h = let z : d ≡ 0 = omega arith in ap (back (suc k)) z ∙ back-zero ∙ sym z
-  back-all (suc n) d hn hd h =
-      let parts : d / 2 ^ n * 2 ^ n + d % 2 ^ n ≡ d = split d n in
-      let low : d % 2 ^ n < 2 ^ n = mod-lt d (pow-pos n) in
-      let top : d / 2 ^ n < 2 = div-lt-iff-lt-mul (pow-pos n) .1 (subst (λ (m : ℕ). d < m) (pow-suc 2 n ∙ mul-comm (2 ^ n) 2) h) in
-      let e : xor (d / 2 ^ n * 2 ^ n) (d % 2 ^ n) ≡ d = is-bit-xor _ _ ∙ xor-shifted (d / 2 ^ n) n (d % 2 ^ n) low ∙ parts in
-      ap (back (suc k)) (sym e)
-      ∙ back-xor (d / 2 ^ n * 2 ^ n) (d % 2 ^ n) (omega (arith, parts)) (omega (arith, parts))
-      ∙ ap₂ xor (back-digit (d / 2 ^ n) n top (omega arith)) (back-all n (d % 2 ^ n) (omega arith) (omega (arith, parts)) low)
-      ∙ e
-
-  one-inverse : (y z : ℕ) → y < 256 → z < 256 → mul (suc k) y ≡ 1 → mul (suc k) z ≡ 1 → y ≡ z
-  unfolding back
-  one-inverse y z hy hz ey ez =
-      sym (back-all 8 y (omega arith) hy hy) ∙ ap (mul (inverse (suc k))) (ey ∙ sym ez) ∙ back-all 8 z (omega arith) hz hz
+inverse-inverse : (b : ℕ) → b < 256 → inverse (inverse b) ≡ b
+inverse-inverse zero h = ap inverse inverse-zero ∙ inverse-zero
+inverse-inverse (suc k) h =
+    let i = inverse (suc k) in
+    let hi : i < 256 = inverse-byte (suc k) h in
+    let e : mul (suc k) i ≡ 1 = inverts (suc k) h ∙ one-of-positive (suc k) (omega arith) in
+    one-inverse i (inverse i) (suc k) hi (inverse-byte i hi) h
+    (inverts i hi ∙ one-of-positive i (inverse-positive (suc k) i e)) (times-comm i (suc k) hi h ∙ e)
 
 pub only-sbox-substitutes : (b s : ℕ) → b < 256 → Substitute b s → s ≡ sbox b
 unfolding sbox
@@ -113,34 +70,30 @@ only-sbox-substitutes zero s h r = r .image ∙ ap affine (r .zero-to-zero refl 
 only-sbox-substitutes (suc k) s h r =
     r .image
     ∙ ap affine
-    (one-inverse k (omega arith) (r .inverted) (inverse (suc k)) (r .a-byte) (inverse-byte (suc k) h) (r .product-one (omega arith))
+    (one-inverse (suc k) (r .inverted) (inverse (suc k)) h (r .a-byte) (inverse-byte (suc k) h) (r .product-one (omega arith))
     (inverts (suc k) h ∙ one-of-positive (suc k) (omega arith)))
 
 -- ---- bytes to bytes, and back
 
-affine-byte : (b : ℕ) → b < 256 → affine b < 256
+affine-byte : (b : ℕ) → affine b < 256
 unfolding affine
-affine-byte = bounded affine 256 256 tt
+affine-byte b = omega arith
 
-unaffine-byte : (b : ℕ) → b < 256 → unaffine b < 256
+unaffine-byte : (b : ℕ) → unaffine b < 256
 unfolding unaffine
-unaffine-byte = bounded unaffine 256 256 tt
+unaffine-byte b = omega arith
 
 unaffine-affine : (b : ℕ) → b < 256 → unaffine (affine b) ≡ b
 unfolding unaffine affine
 unaffine-affine = agree (λ b. unaffine (affine b)) (λ b. b) 256 tt
 
-inverse-inverse : (b : ℕ) → b < 256 → inverse (inverse b) ≡ b
-unfolding inverse square ones mul times xtime xor
-inverse-inverse = agree (λ b. inverse (inverse b)) (λ b. b) 256 tt
-
 pub sbox-byte : (b : ℕ) → b < 256 → sbox b < 256
 unfolding sbox
-sbox-byte b h = affine-byte (inverse b) (inverse-byte b h)
+sbox-byte b h = affine-byte (inverse b)
 
 pub invSbox-byte : (b : ℕ) → b < 256 → invSbox b < 256
 unfolding invSbox
-invSbox-byte b h = inverse-byte (unaffine b) (unaffine-byte b h)
+invSbox-byte b h = inverse-byte (unaffine b) (unaffine-byte b)
 
 pub invSbox-sbox : (b : ℕ) → b < 256 → invSbox (sbox b) ≡ b
 unfolding invSbox sbox

@@ -1,4 +1,4 @@
--- Four looked-up words, added, are the column: the rows of their sum are the rows of the matrix, turned. Assumes nothing.
+-- Four looked-up words, added, are the column: the rows of their sum are the rows of the matrix, turned.
 use mathlib.Core.Path.{_≡_, refl, sym, ap, _∙_}
 use Prim.Native.Nat.{ℕ, _+_, _*_, _/_, _%_, _<_}
 use native.Mathlib.Nat.{mul-add-div-right, div-eq-of-lt}
@@ -17,7 +17,7 @@ use Rattle.field.proofs.Linear.{mul-byte}
 use Rattle.field.proofs.Mix.{turn}
 
 -- two words are added byte by byte; the highest byte may be any number
-pub xor-word : (a b c d e f g h : ℕ) → a < 256 → b < 256 → c < 256 → e < 256 → f < 256 → g < 256
+xor-word : (a b c d e f g h : ℕ) → a < 256 → b < 256 → c < 256 → e < 256 → f < 256 → g < 256
     → xor (word a b c d) (word e f g h) ≡ word (xor a e) (xor b f) (xor c g) (xor d h)
 unfolding xor
 xor-word a b c d e f g h ha hb hc he hf hg =
@@ -60,7 +60,7 @@ four-words p q r s e f g h i j k l m n o t hp hq hr he hf hg hi hj hk hm hn ho =
     (byte _ _ (byte _ _ hq hf) hj) (byte _ _ (byte _ _ hr hg) hk) hm hn ho
     ∙ words (from-left p e i m) (from-left q f j n) (from-left r g k o) (from-left s h l t)
 
-pub spread-column : (k l m n a b c d : ℕ) → a < 256 → b < 256 → c < 256 → d < 256
+spread-column : (k l m n a b c d : ℕ) → a < 256 → b < 256 → c < 256 → d < 256
     → xor (xor (xor (spread k l m n a) (spread l m n k b)) (spread m n k l c)) (spread n k l m d) ≡ column k l m n a b c d
 unfolding spread column row
 spread-column k l m n a b c d ha hb hc hd =
@@ -102,7 +102,8 @@ pub looked-up : (f : ℕ → ℕ) → ((x : ℕ) → x < 256 → f x < 256) → 
     ≡ column k l m n (f a) (f b) (f c) (f d)
 unfolding spread
 looked-up f bytes k l m n t e a b c d ha hb hc hd =
-    (λ i. xor (xor (xor (at a ha i % 4294967296) (at b hb i / 16777216 % 4294967296)) (at c hc i / 65536 % 4294967296)) (at d hd i / 256 % 4294967296))
+    (λ i. xor (xor (xor (at a ha i % 4294967296) (at b hb i / 16777216 % 4294967296)) (at c hc i / 65536 % 4294967296))
+    (at d hd i / 256 % 4294967296))
     ∙ (λ i. xor (xor (xor (on a ha turn0 i) (on b hb turn1 i)) (on c hc turn2 i)) (on d hd turn3 i))
     ∙ spread-column k l m n (f a) (f b) (f c) (f d) (bytes a ha) (bytes b hb) (bytes c hc) (bytes d hd)
   where

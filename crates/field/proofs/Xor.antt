@@ -1,8 +1,8 @@
--- The laws of `xor`. Assumes nothing.
+-- The laws of `xor`.
 use mathlib.Core.Path.{_≡_, refl, sym, ap, ap₂, _∙_}
-use Prim.Native.Nat.{ℕ, _*_, _/_, _<_}
+use Prim.Native.Nat.{ℕ, _*_, _/_, _%_, _<_}
 use native.Mathlib.Nat.{add-zero}
-use lib.Bits.{bitXor, xor-comm, xor-self, xor-zero-r, xor-zero-l, xor-shr, xor-lt, xor-block}
+use lib.Bits.{bitXor, xor-comm, xor-self, xor-zero-r, xor-zero-l, xor-shr, xor-mod, xor-lt, xor-block}
 use lib.Dec.{lit<}
 use Rattle.laws.proofs.Xor.{xor-assoc}
 use Rattle.field.specs.Xor.{xor}
@@ -35,7 +35,7 @@ pub assoc : (a b c : ℕ) → xor (xor a b) c ≡ xor a (xor b c)
 unfolding xor
 assoc = xor-assoc
 
-pub left-comm : (a b c : ℕ) → xor a (xor b c) ≡ xor b (xor a c)
+left-comm : (a b c : ℕ) → xor a (xor b c) ≡ xor b (xor a c)
 left-comm a b c = sym (assoc a b c) ∙ ap (λ (x : ℕ). xor x c) (comm a b) ∙ assoc b a c
 
 -- twice the same cancels
@@ -46,12 +46,20 @@ cancel a b = assoc a b b ∙ ap (xor a) (self b) ∙ zero-r a
 pub swap4 : (a b c d : ℕ) → xor (xor a b) (xor c d) ≡ xor (xor a c) (xor b d)
 swap4 a b c d = assoc a b (xor c d) ∙ ap (xor a) (left-comm b c d) ∙ sym (assoc a c (xor b d))
 
--- a sum doubled, and its eighth digit
+-- a sum doubled and halved, its lowest digit and its eighth
 pub double : (a b : ℕ) → xor a b * 2 ≡ xor (a * 2) (b * 2)
 unfolding xor
 double a b =
     sym (add-zero (bitXor a b * 2)) ∙ sym (xor-block 1 a b 0 0 (lit< tt) (lit< tt))
     ∙ ap₂ bitXor (add-zero (a * 2)) (add-zero (b * 2))
+
+pub half : (a b : ℕ) → xor a b / 2 ≡ xor (a / 2) (b / 2)
+unfolding xor
+half a b = xor-shr a b 1
+
+pub lowest : (a b : ℕ) → xor a b % 2 ≡ xor (a % 2) (b % 2)
+unfolding xor
+lowest a b = xor-mod a b 1
 
 pub top : (a b : ℕ) → xor a b / 128 ≡ xor (a / 128) (b / 128)
 unfolding xor

@@ -3,6 +3,7 @@
 use Prim.Native.Nat.{ℕ, zero, suc, _*_, _/_, _%_}
 use Rattle.field.specs.Xor.{xor}
 
+-- The polynomial's digits.
 abbrev pub polynomial : ℕ
 polynomial = 0x11B
 
@@ -19,6 +20,7 @@ times (suc n) a b = xor (a % 2 * b) (xtime (times n (a / 2) b))
 unfoldable pub mul : ℕ → ℕ → ℕ
 mul a b = times 8 a b
 
+-- A byte times itself.
 unfoldable pub square : ℕ → ℕ
 square b = mul b b
 

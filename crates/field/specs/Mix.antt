@@ -4,9 +4,11 @@ use Prim.Native.Nat.{ℕ}
 use Rattle.field.specs.Xor.{xor}
 use Rattle.field.specs.Field.{mul}
 
+-- The sum of four bytes.
 unfoldable pub xor4 : ℕ → ℕ → ℕ → ℕ → ℕ
 xor4 a b c d = xor a (xor b (xor c d))
 
+-- The row k l m n times the column a b c d.
 unfoldable pub row : ℕ → ℕ → ℕ → ℕ → ℕ → ℕ → ℕ → ℕ → ℕ
 row k l m n a b c d = xor4 (mul k a) (mul l b) (mul m c) (mul n d)
 

@@ -7,6 +7,7 @@ use Rattle.field.specs.Field.{mul}
 use Rattle.field.specs.Mix.{row}
 use Rattle.field.specs.Runs.{table}
 
+-- Four bytes as a word.
 abbrev pub word : ℕ → ℕ → ℕ → ℕ → ℕ
 word a b c d = ((d * 256 + c) * 256 + b) * 256 + a
 

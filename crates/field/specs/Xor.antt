@@ -3,5 +3,6 @@
 use Prim.Native.Nat.{ℕ}
 use lib.Bits.{bitXor}
 
+-- The exclusive or.
 unfoldable pub xor : ℕ → ℕ → ℕ
 xor a b = bitXor a b

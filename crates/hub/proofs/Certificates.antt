@@ -1,4 +1,4 @@
--- A certificate's place lies in its payload. Assumes nothing.
+-- A certificate's place lies in its payload.
 use Prim.Native.Nat.{ℕ, _+_, _≤_}
 use mathlib.Core.Path.{_≡_, refl}
 use mathlib.Core.List.{List}

@@ -1,4 +1,4 @@
--- The ways through `hear`, over plain values. Assumes nothing.
+-- The ways through `hear`, over plain values.
 use Prim.Native.Nat.{ℕ}
 use mathlib.Core.Path.{_≡_}
 use mathlib.Core.List.{List}

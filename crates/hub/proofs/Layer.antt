@@ -1,5 +1,4 @@
--- The step as the machine of demand 3: a fragment of the report that the reader reads is joined, and a quiet answer changes nothing.
--- Assumes nothing.
+-- The step as the machine of demand 3: a piece of the report that the reader reads is joined, and a quiet answer changes nothing.
 use Prim.Native.Nat.{ℕ, _≤_}
 use mathlib.Core.Path.{_≡_, refl, ap}
 use mathlib.Core.List.{List}
@@ -24,7 +23,7 @@ use Rattle.hub.specs.Answers.{answerOf, isQuiet, isComplete}
 use Rattle.hub.specs.Hear.{pieceIn, withProgress, joined, joins, heard, reportHeard}
 use Rattle.hub.specs.Step.{afterRead, reportRead, step, reportStepped}
 use Rattle.hub.proofs.Quiet.{Still, heard-still}
-use Rattle.hub.specs.Calls.{Call, Place}
+use Rattle.hub.specs.Calls.{Call, Standing}
 
 -- The call's verdict is 0 or 1, and its message is read as a Session message of this connection's session that brings the piece.
 pub record Brings (c : Connection) (p : Piece) (bytes : List ℕ) (x : Call) : Type 0 where
@@ -54,10 +53,12 @@ module _ (c : Connection) (m k w b : List ℕ) (v : ℕ) where
   pub step-still : Still c b (step c m k w b v) (reportStepped c m k w b v)
   unfolding step reportStepped
   step-still =
-      ways (ltb 1 v) (badSize (c .size)) _ _ _ _ (λ e. (refl, refl)) (λ e. (refl, refl)) (read-still (workingAfter m k w) (readMessage m k (length w)))
+      ways (ltb 1 v) (badSize (c .size)) _ _ _ _ (λ e. (refl, refl)) (λ e. (refl, refl))
+      (read-still (workingAfter m k w) (readMessage m k (length w)))
 
--- A fragment is joined, on a Ready connection.
-module _ (c : Connection) (ready : c .state ≡ 3) (sized : badSize (c .size) ≡ false) (h : Progress) (b : List ℕ) (p : Piece) (bytes : List ℕ) (x : Call)
+-- A piece is joined, on a Ready connection.
+module _ (c : Connection) (ready : c .state ≡ 3) (sized : badSize (c .size) ≡ false) (h : Progress) (b : List ℕ) (p : Piece)
+    (bytes : List ℕ) (x : Call)
     (i : Brings c p bytes x) where
   pub step-joins : (step (withProgress c h) (x .message) (x .keys) (x .working) b (x .verdict) ≡ joined c (join (c .size) h p bytes b))
       × (reportStepped (withProgress c h) (x .message) (x .keys) (x .working) b (x .verdict) ≡ reportAfter (c .size) h p bytes b)
@@ -71,26 +72,27 @@ module _ (c : Connection) (ready : c .state ≡ 3) (sized : badSize (c .size) �
 
 -- The machine.
 module _ (c : Connection) (ready : c .state ≡ 3) (sized : badSize (c .size) ≡ false) where
-  abbrev pub next : Place → Call → Place
+  abbrev pub next : Standing → Call → Standing
   next s x =
       record {
         connection = step (s .connection) (x .message) (x .keys) (x .working) (s .report) (x .verdict) .connection;
         report = reportStepped (s .connection) (x .message) (x .keys) (x .working) (s .report) (x .verdict);
       }
 
-  abbrev pub says : Place → Call → Answer
+  abbrev pub says : Standing → Call → Answer
   says s x = step (s .connection) (x .message) (x .keys) (x .working) (s .report) (x .verdict) .answer
 
-  pub place : {c c′ : Connection} {b b′ : List ℕ} → c ≡ c′ → b ≡ b′ → _≡_ {A = Place} (record { connection = c; report = b }) (record { connection = c′; report = b′ })
+  pub place : {c c′ : Connection} {b b′ : List ℕ} → c ≡ c′ → b ≡ b′ → _≡_ {A = Standing} (record { connection = c; report = b })
+      (record { connection = c′; report = b′ })
   place p q = λ i. record { connection = p i; report = q i }
 
-  pub still : (s : Place) (x : Call) → isQuiet (says s x) ≡ true → next s x ≡ s
+  pub still : (s : Standing) (x : Call) → isQuiet (says s x) ≡ true → next s x ≡ s
   still s x e = let k = step-still (s .connection) (x .message) (x .keys) (x .working) (s .report) (x .verdict) e in place (k .0) (k .1)
 
   abbrev pub hub : Machine (c .size)
   hub =
       record {
-        C = Place;
+        C = Standing;
         X = Call;
         A = Answer;
         next = next;
@@ -103,7 +105,6 @@ module _ (c : Connection) (ready : c .state ≡ 3) (sized : badSize (c .size) �
         joins = λ h b p bytes x i. let k = step-joins c ready sized h b p bytes x i in place (ap (λ (s : Stepped). s .connection) (k .0)) (k .1);
         answers = λ h b p bytes x i. ap (λ (s : Stepped). s .answer) (step-joins c ready sized h b p bytes x i .0);
         still = still;
-        done-complete = λ l k. refl;
         done-taken = λ k. refl;
         done-repeat = λ k. refl;
         done-refused = λ k. refl;

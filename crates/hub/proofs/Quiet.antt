@@ -1,4 +1,4 @@
--- A refusal and Again leave connection and report buffer alone. Assumes nothing.
+-- A refusal and Again leave connection and report buffer alone.
 use Prim.Native.Nat.{ℕ}
 use mathlib.Core.Path.{_≡_, refl, sym, ap}
 use mathlib.Core.List.{List}
@@ -21,7 +21,7 @@ use Rattle.hub.specs.Answers.{isQuiet, answerOf}
 use Rattle.hub.specs.Host.{refuse, knows, within, host}
 use Rattle.hub.specs.Hear.{certificate, connect, pieceIn, withProgress, joined, isForeign, joins, heard, reportHeard}
 
--- Where the answer is quiet, the connection is the one given and the buffer the one lent.
+-- Where the answer is quiet, the connection is the one given and the report buffer the one lent.
 abbrev pub Still : Connection → List ℕ → Stepped → List ℕ → Type 0
 Still c b s b′ = isQuiet (s .answer) ≡ true → (s .connection ≡ c) × (b′ ≡ b)
 
@@ -30,6 +30,10 @@ quiet-joined (refusedPiece n) e = refl
 quiet-joined (takenPiece k) e = e
 quiet-joined (repeatedPiece k) e = e
 quiet-joined (completePiece l k) e = e
+
+-- A Connect message is not joined.
+pub connect-apart : (c : Connection) (h : Header) → eqb (h .kind) 2 ≡ true → joins c h ≡ false
+connect-apart c h e = rw (eqb-true (h .kind) 2 e)
 
 module _ (c : Connection) (b : List ℕ) where
   -- One row of a table: the one above and the rest.
@@ -70,11 +74,9 @@ module _ (c : Connection) (b : List ℕ) where
     ways false false true x y z w b′ p q r s d = r
     ways false false false x y z w b′ p q r s d = s
 
-    apart : eqb (h .kind) 2 ≡ true → joins c h ≡ false
-    apart e = rw (eqb-true (h .kind) 2 e)
-
     pub heard-still : Still c b (heard c h p b v) (reportHeard c h p b)
     unfolding heard reportHeard
     heard-still =
-        ways (isForeign c h) (eqb (h .kind) 2) (joins c h) _ _ _ _ (reportAfter (c .size) (c .progress) (pieceIn h) p b) (refused-still otherSession) connect-still
-        joined-still (refused-still notAllowed) apart
+        ways (isForeign c h) (eqb (h .kind) 2) (joins c h) _ _ _ _ (reportAfter (c .size) (c .progress) (pieceIn h) p b)
+        (refused-still otherSession) connect-still
+        joined-still (refused-still notAllowed) (connect-apart c h)

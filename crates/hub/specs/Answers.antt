@@ -1,4 +1,4 @@
--- What a step's answer says, in the paper's own numbers.
+-- What a step's answer says, in document 01's own numbers.
 use Prim.Native.Nat.{ℕ}
 use mathlib.Core.Bool.{Bool, true, false}
 use Rattle.hub.specs.declared.Answer.{Answer}

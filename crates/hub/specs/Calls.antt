@@ -10,7 +10,7 @@ pub record Call : Type 0 where
   pub working : List ℕ
   pub verdict : ℕ
 
--- What a call leaves behind.
-pub record Place : Type 0 where
+-- Where connection and report buffer stand, before a call or after it.
+pub record Standing : Type 0 where
   pub connection : Connection
   pub report : List ℕ

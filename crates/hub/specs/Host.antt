@@ -58,12 +58,19 @@ within a b c = leb a (c .state) && leb (c .state) b
 -- What a Connect message of this type does, sentence by sentence of "Host states"; the rows exclude each other.
 abbrev pub hostRows : Connection → ℕ → ℕ → Request → List ℕ → ℕ → List (Bool × Stepped)
 hostRows c type session r digest verdict =
+    -- State 0, type 0: remember SessionID, nonce, X, Y; go to 1; reply Connection Response.
     (eqb type 0 && eqb (c .state) 0, stepped (requested c session r) (Reply 1))
+    -- States 1 to 3, type 0 with the same nonce, X and Y: Again, same reply.
     ∷ (eqb type 0 && within 1 3 c && knows c r, stepped c (Again 1))
+    -- State 1, type 2: remember the SHA-256 of the certificate; verdict 1 goes to 2 and replies type 3,
     ∷ (eqb type 2 && eqb (c .state) 1 && eqb verdict 1, stepped (judged c digest 2) (Reply 3))
+    -- verdict 0 goes to 4 and names Failure.
     ∷ (eqb type 2 && eqb (c .state) 1 && eqb verdict 0, stepped (judged c digest 4) Failure)
+    -- States 2 and 3, type 2 with the same certificate digest: Again, reply type 3, whatever the verdict.
     ∷ (eqb type 2 && within 2 3 c && same (c .digest) digest, stepped c (Again 3))
+    -- State 2, type 6: go to 3, reply type 7 with Status 0.
     ∷ (eqb type 6 && eqb (c .state) 2, stepped (judged c (c .digest) 3) (Reply 7))
+    -- State 3, type 6: Again, same reply.
     ∷ (eqb type 6 && eqb (c .state) 3, stepped c (Again 7))
     ∷ []
 

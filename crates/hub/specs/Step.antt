@@ -21,6 +21,7 @@ abbrev pub afterRead : Connection → List ℕ → List ℕ → List ℕ → ℕ
 afterRead c message working report verdict (Refused n) = refuse c n
 afterRead c message working report verdict (Read h sealed from size) = heard c h (payload message working sealed from size) report verdict
 
+-- The report buffer after a message, by what reading it answered.
 abbrev pub reportRead : Connection → List ℕ → List ℕ → List ℕ → MessageRead → List ℕ
 reportRead c message working report (Refused n) = report
 reportRead c message working report (Read h sealed from size) = reportHeard c h (payload message working sealed from size) report

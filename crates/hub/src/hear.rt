@@ -52,7 +52,8 @@ impl Connection {
     // A Session message in state 3.
     fn session(self, header: Header, payload: &[u8], report: &mut [u8]) -> Stepped
         ensures { λ r. ⌜ r ≡ joined self (join (self .size) (self .progress) (pieceIn header) (now (payload .entry)) (now (report .entry))) ⌝ }
-        ensures { λ _. ⌜ now (report .exit) ≡ reportAfter (self .size) (self .progress) (pieceIn header) (now (payload .entry)) (now (report .entry)) ⌝ }
+        ensures { λ _. ⌜ now (report .exit) ≡ reportAfter (self .size) (self .progress) (pieceIn header) (now (payload .entry))
+            (now (report .entry)) ⌝ }
     {
         let piece = Piece {
             sequence: header.sequence,

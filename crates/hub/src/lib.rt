@@ -27,15 +27,19 @@ pub struct Connection {
     pub progress: Progress,
 }
 
-// The states: waiting for a request, waiting for authentication, passed, Ready, Failed.
+// The states. Waiting for a Connection Request.
 pub const WAITING: u8 = 0;
 
+// Requested; waiting for the gateway's authentication.
 pub const REQUESTED: u8 = 1;
 
+// Authentication has passed.
 pub const PASSED: u8 = 2;
 
+// Ready for reports.
 pub const READY: u8 = 3;
 
+// A verdict was 0: all is refused.
 pub const FAILED: u8 = 4;
 
 // What a step answers.

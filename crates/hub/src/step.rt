@@ -17,7 +17,8 @@ impl Connection {
         verdict: u8,
     ) -> Stepped
         ensures { λ r. ⌜ r ≡ step self (now (message .entry)) (now (keys .entry)) (now (working .entry)) (now (report .entry)) verdict ⌝ }
-        ensures { λ _. ⌜ now (report .exit) ≡ reportStepped self (now (message .entry)) (now (keys .entry)) (now (working .entry)) (now (report .entry)) verdict ⌝ }
+        ensures { λ _. ⌜ now (report .exit) ≡ reportStepped self (now (message .entry)) (now (keys .entry)) (now (working .entry))
+            (now (report .entry)) verdict ⌝ }
         ensures { λ _. ⌜ now (working .exit) ≡ workingStepped self (now (message .entry)) (now (keys .entry)) (now (working .entry)) verdict ⌝ }
     {
         if 1 < verdict {

@@ -1,4 +1,4 @@
--- Eight indexes and their byte, both ways. Assumes nothing.
+-- Eight indexes and their byte, both ways.
 use Prim.Native.Nat.{ℕ, zero, suc, _+_, _*_, _/_, _%_, _^_, _≤_, _<_}
 use mathlib.Core.Path.{_≡_, refl, sym, ap, _∙_}
 use mathlib.Core.List.{List, [], _∷_, _++_}

@@ -1,4 +1,4 @@
--- A buffer that is filled whole, and the loops over the heard set. Assumes nothing.
+-- A buffer that is filled whole, and the loops over the heard set.
 use Prim.Native.Nat.{ℕ, zero, suc, _+_, _*_, _≤_, _<_}
 use mathlib.Core.Path.{_≡_, refl, sym, ap, _∙_}
 use mathlib.Core.List.{List, [], _∷_, _++_, append-assoc, append-nil}

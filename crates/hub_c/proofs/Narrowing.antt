@@ -1,5 +1,5 @@
 -- A field that is brought into its room changes nothing that the writer answers or writes: a number that has no room is refused by the row that
--- tests its field, before and after. Assumes nothing.
+-- tests its field, before and after.
 use Prim.Native.Nat.{ℕ, _≤_, _<_}
 use mathlib.Core.Path.{_≡_, refl, sym, ap, _∙_}
 use mathlib.Core.Logic.{_⊎_, inl, inr}
@@ -85,7 +85,13 @@ module _ (chain payload : List ℕ) (keys room : ℕ) where
           (seven h p q (index-over (h .kind) (h .index) (h .count) (omega arith))) refl
       indexes c false e =
           inl
-          (rw (narrow-fits 255 (h .kind) a, narrow-fits 65535 (h .flags) b, narrow-fits 4294967295 (h .sequence) s, narrow-fits 65535 (h .index) e, narrow-fits 65535 (h .count) c))
+          (rw (
+            narrow-fits 255 (h .kind) a,
+            narrow-fits 65535 (h .flags) b,
+            narrow-fits 4294967295 (h .sequence) s,
+            narrow-fits 65535 (h .index) e,
+            narrow-fits 65535 (h .count) c,
+          ))
 
       counts : (t : Bool) → ltb 65535 (h .count) ≡ t → Alike (narrowed h) h
       counts true e =
@@ -141,7 +147,8 @@ module _ (chain payload : List ℕ) (keys room : ℕ) where
 
 -- The output that the writer leaves.
 module _ (chain payload keys out : List ℕ) (h : Header) (s : ltb 4294967295 (h .sequence) ≡ false) where
-  by-output : Alike chain payload (length keys) (length out) (narrowed h) h → writtenInto (narrowed h) chain payload keys out ≡ writtenInto h chain payload keys out
+  by-output : Alike chain payload (length keys) (length out) (narrowed h) h
+      → writtenInto (narrowed h) chain payload keys out ≡ writtenInto h chain payload keys out
   unfolding writtenInto
   by-output (inl e) = ap (λ (g : Header). writtenInto g chain payload keys out) e
   by-output (inr e) = rw (e .0, e .1)

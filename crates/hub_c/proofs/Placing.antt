@@ -1,4 +1,4 @@
--- The place in words and the part that is handed out. Assumes nothing.
+-- The place in words and the part that is handed out.
 use Prim.Native.Nat.{ℕ, _+_}
 use mathlib.Core.Path.{_≡_, refl}
 use mathlib.Core.List.{List}

@@ -1,4 +1,4 @@
--- Buffers that have their sizes, and what the calls over them come to, as laws over numbers and lists. Assumes nothing.
+-- Buffers that have their sizes, and what the calls over them come to, as laws over numbers and lists.
 use Prim.Native.Nat.{ℕ, _*_}
 use mathlib.Core.Path.{_≡_, refl, ap}
 use mathlib.Core.List.{List, [], _∷_}

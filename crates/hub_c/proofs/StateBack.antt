@@ -1,14 +1,15 @@
--- The connection that a state was made of is read back from it. Assumes nothing.
+-- The connection that a state was made of is read back from it.
 use Prim.Native.Nat.{ℕ, _+_, _*_, _/_, _%_, _^_, _≤_, _<_}
 use mathlib.Core.Path.{_≡_, refl, sym, ap, ap₂, _∙_}
 use mathlib.Core.List.{List, [], _∷_, _++_, append-nil}
 use mathlib.Core.Bool.{Bool, false}
 use native.Mathlib.Omega.{arith}
-use native.Mathlib.Nat.{add-assoc, div-add-mod'}
+use native.Mathlib.Nat.{div-add-mod'}
 use lib.Dec.{eqb}
 use lib.ListN.{length, length-append, List·getD-append}
-use lib.Seq.{getD-append-add, take-at, ext-getD}
+use lib.Seq.{take-at, ext-getD}
 use Rattle.laws.specs.Bytes.{be8, be16, be32, be64, bytesAt, bytes16, bytes32, bytes64}
+use Rattle.laws.proofs.Numbers.{be8-past, be16-past, be32-past, be64-past}
 use Rattle.laws.proofs.Parts.{part-back, bytesAt-take}
 use Rattle.joining.specs.Heard.{has}
 use Rattle.joining.specs.declared.Progress.{Progress}
@@ -16,20 +17,6 @@ use Rattle.hub.specs.declared.Connection.{Connection}
 use Rattle.hub_c.specs.State.{bitAt, heardAt, eight, heardBytes, progressAt, connectionAt, progressBytes, gatewayBytes, stateBytes, Fits, ReadBack}
 use Rattle.hub_c.proofs.Filling.{length-heardAt, front, length-front, length-progress}
 use Rattle.hub_c.proofs.Bits.{eight-bit, has-heardAt, heardBytes-at}
-
--- Numbers behind the first n elements of a list.
-module _ (a b : List ℕ) (n : ℕ) (e : length a ≡ n) where
-  be8-past : (i : ℕ) → be8 (a ++ b) (n + i) ≡ be8 b i
-  be8-past i = ap (λ (k : ℕ). be8 (a ++ b) (k + i)) (sym e) ∙ getD-append-add a b i 0
-
-  be16-past : (i : ℕ) → be16 (a ++ b) (n + i) ≡ be16 b i
-  be16-past i = rw (be8-past i, add-assoc n i 1, be8-past (i + 1))
-
-  be32-past : (i : ℕ) → be32 (a ++ b) (n + i) ≡ be32 b i
-  be32-past i = rw (be16-past i, add-assoc n i 2, be16-past (i + 2))
-
-  be64-past : (i : ℕ) → be64 (a ++ b) (n + i) ≡ be64 b i
-  be64-past i = rw (be32-past i, add-assoc n i 4, be32-past (i + 4))
 
 -- Bytes in the front of a list, and at its end.
 in-front : (a b : List ℕ) (k at n : ℕ) → length a ≡ k → at + n ≤ k → bytesAt (a ++ b) at n ≡ bytesAt a at n
@@ -122,18 +109,21 @@ module _ (c : Connection) (f : Fits c) where
 
   y-back : bytesAt (stateBytes c) 57 32 ≡ c .y
   unfolding stateBytes gatewayBytes
-  y-back = in-front (gatewayBytes c) rest 121 57 32 l121 (omega arith) ∙ in-front a89 (c .digest) 89 57 32 l89 (omega arith) ∙ at-end a57 (c .y) 57 32 l57 (f .y)
+  y-back = in-front (gatewayBytes c) rest 121 57 32 l121 (omega arith) ∙ in-front a89 (c .digest) 89 57 32 l89 (omega arith)
+      ∙ at-end a57 (c .y) 57 32 l57 (f .y)
 
   x-back : bytesAt (stateBytes c) 25 32 ≡ c .x
   unfolding stateBytes gatewayBytes
   x-back =
-      in-front (gatewayBytes c) rest 121 25 32 l121 (omega arith) ∙ in-front a89 (c .digest) 89 25 32 l89 (omega arith) ∙ in-front a57 (c .y) 57 25 32 l57 (omega arith)
+      in-front (gatewayBytes c) rest 121 25 32 l121 (omega arith) ∙ in-front a89 (c .digest) 89 25 32 l89 (omega arith)
+      ∙ in-front a57 (c .y) 57 25 32 l57 (omega arith)
       ∙ at-end a25 (c .x) 25 32 l25 (f .x)
 
   nonce-back : bytesAt (stateBytes c) 17 8 ≡ c .nonce
   unfolding stateBytes gatewayBytes
   nonce-back =
-      in-front (gatewayBytes c) rest 121 17 8 l121 (omega arith) ∙ in-front a89 (c .digest) 89 17 8 l89 (omega arith) ∙ in-front a57 (c .y) 57 17 8 l57 (omega arith)
+      in-front (gatewayBytes c) rest 121 17 8 l121 (omega arith) ∙ in-front a89 (c .digest) 89 17 8 l89 (omega arith)
+      ∙ in-front a57 (c .y) 57 17 8 l57 (omega arith)
       ∙ in-front a25 (c .x) 25 17 8 l25 (omega arith)
       ∙ at-end numbers (c .nonce) 17 8 refl (f .nonce)
 

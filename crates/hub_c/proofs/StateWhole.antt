@@ -1,4 +1,4 @@
--- The state of the connection that 151 bytes are read as is those bytes. Assumes nothing.
+-- The state of the connection that 151 bytes are read as is those bytes.
 use Prim.Native.Nat.{ℕ, zero, suc, _+_, _*_, _/_, _%_, _≤_, _<_}
 use mathlib.Core.Path.{_≡_, refl, sym, ap, ap₂, _∙_}
 use mathlib.Core.List.{List, [], _∷_, _++_, append-assoc, append-nil}

@@ -5,8 +5,8 @@ use mathlib.Core.Bool.{Bool, cond, not, _||_}
 use lib.Dec.{eqb, ltb}
 use lib.ListN.{length, getD}
 use Rattle.wire.specs.declared.header.Header.{Header}
-use Rattle.wire.specs.declared.writer.Written.{Written}
-use Rattle.wire.specs.declared.writer.Written.the-variants.{Refused, Bytes}
+use Rattle.writer.specs.declared.Written.{Written}
+use Rattle.writer.specs.declared.Written.the-variants.{Refused, Bytes}
 use Rattle.hub_c.specs.declared.writing.Wrote.{Wrote}
 use Rattle.hub_c.specs.Sizes.{fieldsSize}
 

@@ -64,7 +64,8 @@ fn said_of(answer: Answer) -> Said
 #[no_mangle]
 pub extern "C" fn hub_open(fragment_size: u64, state: &mut [u8]) -> u8
     ensures { λ r. ⌜ r ≡ sized stateSize (now (state .entry)) (opened «fragment_size» .refusal) ⌝ }
-    ensures { λ _. ⌜ now (state .exit) ≡ kept stateSize (now (state .entry)) (stateBytes (opened «fragment_size» .connection)) (now (state .entry)) ⌝ }
+    ensures { λ _. ⌜ now (state .exit) ≡ kept stateSize (now (state .entry)) (stateBytes (opened «fragment_size» .connection))
+        (now (state .entry)) ⌝ }
 {
     if state.len() != STATE {
         return WRONG_BUFFER;
@@ -105,11 +106,20 @@ pub extern "C" fn hub_step(
     verdict: u8,
     answer: &mut [u64],
 ) -> u8
-    ensures { λ r. ⌜ r ≡ cond (wrongStep (now (state .entry)) (now (answer .entry))) wrongBuffer (said (step (connectionAt (now (state .entry))) (now (message .entry)) (now (keys .entry)) (now (working .entry)) (now (report .entry)) verdict .answer) .refusal) ⌝ }
-    ensures { λ _. ⌜ now (state .exit) ≡ cond (wrongStep (now (state .entry)) (now (answer .entry))) (now (state .entry)) (stateAfter (step (connectionAt (now (state .entry))) (now (message .entry)) (now (keys .entry)) (now (working .entry)) (now (report .entry)) verdict) (now (state .entry))) ⌝ }
-    ensures { λ _. ⌜ now (working .exit) ≡ cond (wrongStep (now (state .entry)) (now (answer .entry))) (now (working .entry)) (workingStepped (connectionAt (now (state .entry))) (now (message .entry)) (now (keys .entry)) (now (working .entry)) verdict) ⌝ }
-    ensures { λ _. ⌜ now (report .exit) ≡ cond (wrongStep (now (state .entry)) (now (answer .entry))) (now (report .entry)) (reportStepped (connectionAt (now (state .entry))) (now (message .entry)) (now (keys .entry)) (now (working .entry)) (now (report .entry)) verdict) ⌝ }
-    ensures { λ _. ⌜ now (answer .exit) ≡ cond (wrongStep (now (state .entry)) (now (answer .entry))) (now (answer .entry)) (answerAfter (step (connectionAt (now (state .entry))) (now (message .entry)) (now (keys .entry)) (now (working .entry)) (now (report .entry)) verdict) (now (answer .entry))) ⌝ }
+    ensures { λ r. ⌜ r ≡ cond (wrongStep (now (state .entry)) (now (answer .entry))) wrongBuffer
+        (said (step (connectionAt (now (state .entry))) (now (message .entry)) (now (keys .entry)) (now (working .entry))
+        (now (report .entry)) verdict .answer) .refusal) ⌝ }
+    ensures { λ _. ⌜ now (state .exit) ≡ cond (wrongStep (now (state .entry)) (now (answer .entry))) (now (state .entry))
+        (stateAfter (step (connectionAt (now (state .entry))) (now (message .entry)) (now (keys .entry)) (now (working .entry))
+        (now (report .entry)) verdict) (now (state .entry))) ⌝ }
+    ensures { λ _. ⌜ now (working .exit) ≡ cond (wrongStep (now (state .entry)) (now (answer .entry))) (now (working .entry))
+        (workingStepped (connectionAt (now (state .entry))) (now (message .entry)) (now (keys .entry)) (now (working .entry)) verdict) ⌝ }
+    ensures { λ _. ⌜ now (report .exit) ≡ cond (wrongStep (now (state .entry)) (now (answer .entry))) (now (report .entry))
+        (reportStepped (connectionAt (now (state .entry))) (now (message .entry)) (now (keys .entry)) (now (working .entry))
+        (now (report .entry)) verdict) ⌝ }
+    ensures { λ _. ⌜ now (answer .exit) ≡ cond (wrongStep (now (state .entry)) (now (answer .entry))) (now (answer .entry))
+        (answerAfter (step (connectionAt (now (state .entry))) (now (message .entry)) (now (keys .entry)) (now (working .entry))
+        (now (report .entry)) verdict) (now (answer .entry))) ⌝ }
 {
     if (state.len() != STATE) | (answer.len() != TRIPLE) {
         return WRONG_BUFFER;

@@ -13,7 +13,8 @@ ghost use Rattle.hub_c.specs.Pieces.{cutWords};
 #[no_mangle]
 pub extern "C" fn hub_cut(report: &[u8], fragment_size: u64, index: u64, piece: &mut [u64]) -> u8
     ensures { λ r. ⌜ r ≡ sized tripleSize (now (piece .entry)) (cutRefusal «fragment_size» (length (now (report .entry))) index) ⌝ }
-    ensures { λ _. ⌜ now (piece .exit) ≡ kept tripleSize (now (piece .entry)) (cutWords «fragment_size» (now (report .entry)) index) (now (piece .entry)) ⌝ }
+    ensures { λ _. ⌜ now (piece .exit) ≡ kept tripleSize (now (piece .entry)) (cutWords «fragment_size» (now (report .entry)) index)
+        (now (piece .entry)) ⌝ }
 {
     if piece.len() != TRIPLE {
         return WRONG_BUFFER;

@@ -18,9 +18,12 @@ ghost use Rattle.hub_c.specs.Line.{lineText, wrongLine};
 // and its length into the one word of `size`. The answer is the refusal's number, 0 where the message is listed.
 #[no_mangle]
 pub extern "C" fn hub_list(message: &[u8], line: &mut [u8], size: &mut [u64]) -> u8
-    ensures { λ r. ⌜ r ≡ cond (wrongLine (now (line .entry)) (now (size .entry))) wrongBuffer (ofHeader (readHeader (now (message .entry))) .refusal) ⌝ }
-    ensures { λ _. ⌜ now (line .exit) ≡ cond (wrongLine (now (line .entry)) (now (size .entry))) (now (line .entry)) (sets (now (line .entry)) 0 (lineText (now (message .entry)))) ⌝ }
-    ensures { λ _. ⌜ now (size .exit) ≡ cond (wrongLine (now (line .entry)) (now (size .entry))) (now (size .entry)) (length (lineText (now (message .entry))) ∷ []) ⌝ }
+    ensures { λ r. ⌜ r ≡ cond (wrongLine (now (line .entry)) (now (size .entry))) wrongBuffer
+        (ofHeader (readHeader (now (message .entry))) .refusal) ⌝ }
+    ensures { λ _. ⌜ now (line .exit) ≡ cond (wrongLine (now (line .entry)) (now (size .entry))) (now (line .entry))
+        (sets (now (line .entry)) 0 (lineText (now (message .entry)))) ⌝ }
+    ensures { λ _. ⌜ now (size .exit) ≡ cond (wrongLine (now (line .entry)) (now (size .entry))) (now (size .entry))
+        (length (lineText (now (message .entry))) ∷ []) ⌝ }
 {
     if (line.len() != LINE) | (size.len() != 1) {
         return WRONG_BUFFER;

@@ -138,7 +138,8 @@ fn hand(found: Found, out: &mut [u64]) -> u8
 #[no_mangle]
 pub extern "C" fn hub_read_header(message: &[u8], header: &mut [u64]) -> u8
     ensures { λ r. ⌜ r ≡ sized headerSize (now (header .entry)) (ofHeader (readHeader (now (message .entry))) .refusal) ⌝ }
-    ensures { λ _. ⌜ now (header .exit) ≡ kept headerSize (now (header .entry)) (handed (ofHeader (readHeader (now (message .entry)))) (now (header .entry))) (now (header .entry)) ⌝ }
+    ensures { λ _. ⌜ now (header .exit) ≡ kept headerSize (now (header .entry))
+        (handed (ofHeader (readHeader (now (message .entry)))) (now (header .entry))) (now (header .entry)) ⌝ }
 {
     if header.len() != HEADER {
         return WRONG_BUFFER;
@@ -155,9 +156,13 @@ pub extern "C" fn hub_read(
     working: &mut [u8],
     header: &mut [u64],
 ) -> u8
-    ensures { λ r. ⌜ r ≡ sized headerSize (now (header .entry)) (ofMessage (readMessage (now (message .entry)) (now (keys .entry)) (length (now (working .entry)))) .refusal) ⌝ }
-    ensures { λ _. ⌜ now (working .exit) ≡ kept headerSize (now (header .entry)) (workingAfter (now (message .entry)) (now (keys .entry)) (now (working .entry))) (now (working .entry)) ⌝ }
-    ensures { λ _. ⌜ now (header .exit) ≡ kept headerSize (now (header .entry)) (handed (ofMessage (readMessage (now (message .entry)) (now (keys .entry)) (length (now (working .entry))))) (now (header .entry))) (now (header .entry)) ⌝ }
+    ensures { λ r. ⌜ r ≡ sized headerSize (now (header .entry)) (ofMessage
+        (readMessage (now (message .entry)) (now (keys .entry)) (length (now (working .entry)))) .refusal) ⌝ }
+    ensures { λ _. ⌜ now (working .exit) ≡ kept headerSize (now (header .entry))
+        (workingAfter (now (message .entry)) (now (keys .entry)) (now (working .entry))) (now (working .entry)) ⌝ }
+    ensures { λ _. ⌜ now (header .exit) ≡ kept headerSize (now (header .entry))
+        (handed (ofMessage (readMessage (now (message .entry)) (now (keys .entry)) (length (now (working .entry))))) (now (header .entry)))
+        (now (header .entry)) ⌝ }
 {
     if header.len() != HEADER {
         return WRONG_BUFFER;
@@ -166,6 +171,38 @@ pub extern "C" fn hub_read(
         of_message(message::reading::read(message, keys, working)),
         header,
     )
+}
+
+// A part of one of the two buffers: 0 is the message, 1 the working buffer.
+struct Place {
+    buffer: u64,
+    from: usize,
+    size: usize,
+}
+
+// The place of a payload by the numbers of a header, in a message and a working buffer of so many bytes.
+fn place_of(message: usize, working: usize, which: u64, from: usize, size: usize) -> Place
+    ensures { λ r. ⌜ r .buffer ∷ r .from ∷ r .size ∷ [] ≡ placeOf message working which from size ⌝ }
+{
+    if (which == 0) & !lacks(message, from, size) {
+        return Place {
+            buffer: 0,
+            from,
+            size,
+        };
+    }
+    if (which == 1) & !lacks(working, from, size) {
+        return Place {
+            buffer: 1,
+            from,
+            size,
+        };
+    }
+    Place {
+        buffer: 0,
+        from: 0,
+        size: 0,
+    }
 }
 
 // Where the payload lies of a message that was read: which buffer (0 the message, 1 the working buffer), from where, how many bytes. No number
@@ -178,22 +215,20 @@ pub extern "C" fn hub_payload(
     place: &mut [u64],
 ) -> u8
     ensures { λ r. ⌜ r ≡ cond (wrongPlace (now (header .entry)) (now (place .entry))) wrongBuffer 0 ⌝ }
-    ensures { λ _. ⌜ now (place .exit) ≡ cond (wrongPlace (now (header .entry)) (now (place .entry))) (now (place .entry)) (placeOf (length (now (message .entry))) (length (now (working .entry))) (getD (now (header .entry)) 8 0) (getD (now (header .entry)) 9 0) (getD (now (header .entry)) 10 0)) ⌝ }
+    ensures { λ _. ⌜ now (place .exit) ≡ cond (wrongPlace (now (header .entry)) (now (place .entry))) (now (place .entry))
+        (placeOf (length (now (message .entry))) (length (now (working .entry))) (getD (now (header .entry)) 8 0)
+        (getD (now (header .entry)) 9 0) (getD (now (header .entry)) 10 0)) ⌝ }
 {
     if (header.len() != HEADER) | (place.len() != TRIPLE) {
         return WRONG_BUFFER;
     }
-    let which = word(header, 8);
-    let from = word(header, 9) as usize;
-    let size = word(header, 10) as usize;
-    if (which == 0) & !lacks(message.len(), from, size) {
-        put_triple(place, 0, from as u64, size as u64);
-        return 0;
-    }
-    if (which == 1) & !lacks(working.len(), from, size) {
-        put_triple(place, 1, from as u64, size as u64);
-        return 0;
-    }
-    put_triple(place, 0, 0, 0);
+    let found = place_of(
+        message.len(),
+        working.len(),
+        word(header, 8),
+        word(header, 9) as usize,
+        word(header, 10) as usize,
+    );
+    put_triple(place, found.buffer, found.from as u64, found.size as u64);
     0
 }

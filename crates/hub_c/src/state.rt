@@ -11,10 +11,11 @@ use wire::numbers::byte;
 use wire::numbers::number16;
 use wire::numbers::number32;
 use wire::numbers::number64;
-use wire::stores::store8;
-use wire::stores::store16;
-use wire::stores::store32;
-use wire::stores::store64;
+use writer::stores::store_bytes;
+use writer::stores::store8;
+use writer::stores::store16;
+use writer::stores::store32;
+use writer::stores::store64;
 ghost use mathlib.Core.Path.{_≡_};
 ghost use Prim.Native.Nat.{_≤_, _<_, _+_, _*_, _/_, _%_, _^_};
 ghost use lib.Dec.{eqb};
@@ -106,26 +107,16 @@ pub(crate) fn decode(s: &[u8]) -> Connection
     }
 }
 
-// A run of bytes from a place on: that part of the output is lent to a copy.
-fn put(out: &mut [u8], at: usize, bytes: &[u8])
-    requires { ⌜ at + length (now bytes) ≤ length (now out) ⌝ }
-    ensures { λ _. ⌜ now (out .exit) ≡ sets (now (out .entry)) at (now (bytes .entry)) ⌝ }
-{
-    bytes::copy(bytes, &mut out[at..]);
-}
-
 fn put_nonce(out: &mut [u8], nonce: [u8; 8])
-    requires { ⌜ length (now out) ≡ stateSize ⌝ }
     ensures { λ _. ⌜ (now (out .exit) ≡ sets (now (out .entry)) 17 nonce) × (length nonce ≡ 8) ⌝ }
 {
-    put(out, 17, &nonce);
+    store_bytes(out, 17, &nonce);
 }
 
 fn put_key(out: &mut [u8], at: usize, key: [u8; 32])
-    requires { ⌜ at + 32 ≤ length (now out) ⌝ }
     ensures { λ _. ⌜ (now (out .exit) ≡ sets (now (out .entry)) at key) × (length key ≡ 32) ⌝ }
 {
-    put(out, at, &key);
+    store_bytes(out, at, &key);
 }
 
 // A bit by its value.

@@ -3,9 +3,10 @@ use super::words::WRONG_BUFFER;
 use super::words::put_length;
 use super::words::word;
 use wire::header::Header;
-use wire::writer::Written;
+use writer::Written;
 ghost use mathlib.Core.Path.{_≡_};
 ghost use mathlib.Core.Bool.{cond};
+ghost use Prim.Native.Nat.{_≤_};
 ghost use lib.ListN.{length};
 ghost use Rattle.message.specs.Writing.{writeAnswer, writtenInto};
 ghost use Rattle.hub_c.specs.Sizes.{wrongBuffer};
@@ -35,31 +36,14 @@ fn of_written(written: Written) -> Wrote
     }
 }
 
-fn narrow8(x: u64) -> u8
-    ensures { λ r. ⌜ r ≡ narrow 255 x ⌝ }
+// A number that is at most `most`: one that is more becomes that.
+fn narrow(most: u64, x: u64) -> u64
+    ensures { λ r. ⌜ (r ≡ narrow most x) × (r ≤ most) ⌝ }
 {
-    if 255 < x {
-        return 255;
+    if most < x {
+        return most;
     }
-    x as u8
-}
-
-fn narrow16(x: u64) -> u16
-    ensures { λ r. ⌜ r ≡ narrow 65535 x ⌝ }
-{
-    if 65535 < x {
-        return 65535;
-    }
-    x as u16
-}
-
-fn narrow32(x: u64) -> u32
-    ensures { λ r. ⌜ r ≡ narrow 4294967295 x ⌝ }
-{
-    if 4294967295 < x {
-        return 4294967295;
-    }
-    x as u32
+    x
 }
 
 // The header of these words. A number that has no room in its field becomes the greatest that has: both are refused by the same row.
@@ -67,12 +51,12 @@ fn header_of(fields: &[u64]) -> Header
     ensures { λ r. ⌜ r ≡ narrowed (fieldsOf (now (fields .entry))) ⌝ }
 {
     Header {
-        kind: narrow8(word(fields, 0)),
-        flags: narrow16(word(fields, 1)),
-        sequence: narrow32(word(fields, 2)),
+        kind: narrow(255, word(fields, 0)) as u8,
+        flags: narrow(65535, word(fields, 1)) as u16,
+        sequence: narrow(MOST_SEQUENCE, word(fields, 2)) as u32,
         request: word(fields, 3),
-        index: narrow16(word(fields, 4)),
-        count: narrow16(word(fields, 5)),
+        index: narrow(65535, word(fields, 4)) as u16,
+        count: narrow(65535, word(fields, 5)) as u16,
         session: word(fields, 6),
         channel: word(fields, 7),
     }
@@ -102,9 +86,15 @@ pub extern "C" fn hub_write(
     out: &mut [u8],
     size: &mut [u64],
 ) -> u8
-    ensures { λ r. ⌜ r ≡ cond (wrongFields (now (fields .entry)) (now (size .entry))) wrongBuffer (ofWritten (writeAnswer (fieldsOf (now (fields .entry))) (now (chain .entry)) (now (payload .entry)) (length (now (keys .entry))) (length (now (out .entry)))) .refusal) ⌝ }
-    ensures { λ _. ⌜ now (out .exit) ≡ cond (wrongFields (now (fields .entry)) (now (size .entry))) (now (out .entry)) (writtenInto (fieldsOf (now (fields .entry))) (now (chain .entry)) (now (payload .entry)) (now (keys .entry)) (now (out .entry))) ⌝ }
-    ensures { λ _. ⌜ now (size .exit) ≡ cond (wrongFields (now (fields .entry)) (now (size .entry))) (now (size .entry)) (lengthAfter (ofWritten (writeAnswer (fieldsOf (now (fields .entry))) (now (chain .entry)) (now (payload .entry)) (length (now (keys .entry))) (length (now (out .entry))))) (now (size .entry))) ⌝ }
+    ensures { λ r. ⌜ r ≡ cond (wrongFields (now (fields .entry)) (now (size .entry))) wrongBuffer
+        (ofWritten (writeAnswer (fieldsOf (now (fields .entry))) (now (chain .entry)) (now (payload .entry)) (length (now (keys .entry)))
+        (length (now (out .entry)))) .refusal) ⌝ }
+    ensures { λ _. ⌜ now (out .exit) ≡ cond (wrongFields (now (fields .entry)) (now (size .entry))) (now (out .entry))
+        (writtenInto (fieldsOf (now (fields .entry))) (now (chain .entry)) (now (payload .entry)) (now (keys .entry))
+        (now (out .entry))) ⌝ }
+    ensures { λ _. ⌜ now (size .exit) ≡ cond (wrongFields (now (fields .entry)) (now (size .entry))) (now (size .entry))
+        (lengthAfter (ofWritten (writeAnswer (fieldsOf (now (fields .entry))) (now (chain .entry)) (now (payload .entry))
+        (length (now (keys .entry))) (length (now (out .entry))))) (now (size .entry))) ⌝ }
 {
     if (fields.len() != FIELDS) | (size.len() != 1) | (MOST_SEQUENCE < word(fields, 2)) {
         return WRONG_BUFFER;

@@ -1,4 +1,7 @@
-// A program's standard input, a part of it at a time in a buffer that is read into, taken from at the front and read into again.
+// A program's standard input, a part of it at a time in a buffer that is read into, taken from at the front and read into again. And what else the
+// programs share: the lesser of two numbers, the lines of a text, the report of a sweep.
+pub mod sweeps;
+
 use libc::STDIN_FILENO;
 ghost use Prim.Native.Nat.{_≤_};
 ghost use lib.ListN.{length};
@@ -15,6 +18,15 @@ pub fn least(a: usize, b: usize) -> usize
     ensures { λ r. ⌜ (r ≤ a) × (r ≤ b) ⌝ }
 {
     if a < b { a } else { b }
+}
+
+// The place behind the next byte of a text that is the mark, or the text's end.
+pub fn behind(text: &[u8], at: usize, mark: u8) -> usize
+    ensures { λ r. ⌜ r ≤ length (now (text .entry)) ⌝ }
+{
+    let end = text.len();
+    let found = bytes::scan::find(text, least(at, end), end, mark);
+    if found < end { found + 1 } else { end }
 }
 
 // Moves what stands between two places of the buffer to its front, and answers how much that is.

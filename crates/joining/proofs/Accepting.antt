@@ -1,5 +1,4 @@
 -- What is remembered of the expected message is which indexes were accepted, and each count that is answered is theirs: of any pieces whatever.
--- Assumes nothing.
 use Prim.Native.Nat.{ℕ, zero, suc, _+_, _-_, _*_, _≤_, _<_}
 use mathlib.Core.Path.{_≡_, refl, sym, ap, _∙_}
 use mathlib.Core.List.{List, [], _∷_, _++_}
@@ -114,7 +113,8 @@ module _ (F : ℕ) (h : Progress) (p : Piece) (bytes report : List ℕ) (es : Li
       (record { progress = extended h p (length bytes); answer = Taken (tally S) }))
   ends e q true c =
       let n : p .count ≡ howMany most now =
-      sym (eqb-true (come (p .count) S) (p .count) c) ∙ sym (tally-come (p .count) S (λ j l. none-behind e (p .count) j (omega arith) l)) ∙ tally-now e in
+      sym (eqb-true (come (p .count) S) (p .count) c) ∙ sym (tally-come (p .count) S (λ j l. none-behind e (p .count) j (omega arith) l))
+      ∙ tally-now e in
       (nothing-holds (expecting (h .expected + 1)) refl, (sym (w .alike (p .index)) ∙ q, n))
   ends e q false c = (
     record { long = length-set (h .heard) (p .index) true ∙ w .long; alike = alike-now e; below = below-now e },

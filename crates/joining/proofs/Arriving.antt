@@ -1,4 +1,4 @@
--- Piece i comes when S has come: then all is as when S with i has come. Assumes nothing.
+-- Piece i comes when S has come: then all is as when S with i has come.
 use Prim.Native.Nat.{ℕ, _+_, _-_, _*_, _≤_, _<_}
 use mathlib.Core.Path.{_≡_, refl, _∙_}
 use mathlib.Core.List.{List}
@@ -35,7 +35,7 @@ module _ (s : Start) (f : Fair s) (S : List Bool) (w : Lawful s S) (i : ℕ) (l 
   at = s .size * i
 
   -- One piece more: what is remembered, the answer, and the report buffer.
-  abbrev pub Arrives : Type 0
+  abbrev Arrives : Type 0
   Arrives =
       (join (s .size) (heldAt s S) (pieceOf s i) bytes (bufferAt s S) ≡ record { progress = heldAt s (mark S i); answer = answerAt s S i })
       × (reportAfter (s .size) (heldAt s S) (pieceOf s i) bytes (bufferAt s S) ≡ bufferAt s (mark S i))
@@ -49,8 +49,11 @@ module _ (s : Start) (f : Fair s) (S : List Bool) (w : Lawful s S) (i : ℕ) (l 
   when-heard : (come (s .count) S ≡ s .count → ⊥) → has S i ≡ true → Arrives
   unfolding join reportAfter
   when-heard m h =
-      let k : mark S i ≡ S = mark-known S i h in
-      (rw (k, ne-eqb (come (s .count) S) (s .count) m, unrefused s f S w i l, h), rw (k, ne-eqb (come (s .count) S) (s .count) m, unrefused s f S w i l, h))
+      let k : mark S i ≡ S = mark-known S i h in (
+        rw (k, ne-eqb (come (s .count) S) (s .count) m, unrefused s f S w i l, h),
+        rw
+            (k, ne-eqb (come (s .count) S) (s .count) m, unrefused s f S w i l, h),
+      )
 
   -- The remembered length, with this piece too.
   last-more : lastOf (partHeld s S) (pieceOf s i) (length bytes) ≡ cond (has (mark S i) (s .count - 1)) (lastSize s) (s .held .last)
@@ -71,8 +74,11 @@ module _ (s : Start) (f : Fair s) (S : List Bool) (w : Lawful s S) (i : ℕ) (l 
       → (join (s .size) (heldAt s S) (pieceOf s i) bytes (bufferAt s S) ≡ taken (s .size) (partHeld s S) (pieceOf s i) (length bytes))
       × (reportAfter (s .size) (heldAt s S) (pieceOf s i) bytes (bufferAt s S) ≡ bufferAt s (mark S i))
   unfolding join reportAfter
-  new m h =
-      (rw (ne-eqb (come (s .count) S) (s .count) m, unrefused s f S w i l, h), rw (ne-eqb (come (s .count) S) (s .count) m, unrefused s f S w i l, h) (put-buffer s f S w i l))
+  new m h = (
+    rw (ne-eqb (come (s .count) S) (s .count) m, unrefused s f S w i l, h),
+    rw
+        (ne-eqb (come (s .count) S) (s .count) m, unrefused s f S w i l, h) (put-buffer s f S w i l),
+  )
 
   when-missing : (come (s .count) S ≡ s .count → ⊥) → has S i ≡ false → (come (s .count) S + 1 ≡ s .count → ⊥) → Arrives
   when-missing m h a =
@@ -99,7 +105,8 @@ module _ (s : Start) (f : Fair s) (S : List Bool) (w : Lawful s S) (i : ℕ) (l 
       let c : come (s .count) (mark S i) ≡ come (s .count) S + 1 = come-mark (s .count) S i l (in-set s f S w i l) h in
       let k : has (mark S i) (s .count - 1) ≡ true = come-full (s .count) (mark S i) (c ∙ a) (s .count - 1) (omega arith) in
       let z : s .size * (s .count - 1) ≤ length (s .report) = begins (f .cut) (s .count - 1) (omega arith) in
-      let r : s .size * (s .count - 1) + lastOf (partHeld s S) (pieceOf s i) (length bytes) ≡ length (s .report) = rw (last-more, k) (omega arith) in (
+      let r : s .size * (s .count - 1) + lastOf (partHeld s S) (pieceOf s i) (length bytes)
+      ≡ length (s .report) = rw (last-more, k) (omega arith) in (
         n .0 ∙ rw (c, ne-eqb (come (s .count) S) (s .count) m, h, eq-eqb (come (s .count) S + 1) (s .count) a, r),
         n .1,
       )

@@ -1,4 +1,4 @@
--- The report buffer with one piece more: where piece i is put once S has come, it is as once S with i has come. Assumes nothing.
+-- The report buffer with one piece more: where piece i is put once S has come, it is as once S with i has come.
 use Prim.Native.Nat.{ℕ, _+_, _-_, _*_, _/_, _≤_, _<_}
 use mathlib.Core.Path.{_≡_, sym, _∙_}
 use mathlib.Core.List.{List}
@@ -66,7 +66,8 @@ module _ (s : Start) (f : Fair s) (S : List Bool) (w : Lawful s S) (i : ℕ) (l 
       after : (j : ℕ) → k ≡ at + (length bytes + j) → getD (put (bufferAt s S) at bytes) k 0 ≡ getD (bufferAt s S) k 0
       after j e = rw e (put-after (bufferAt s S) at bytes room j)
 
-      third : (j : ℕ) → k ≡ at + (length bytes + j) → Dec (k / s .size ≡ i) → getD (put (bufferAt s S) at bytes) k 0 ≡ getD (bufferAt s (mark S i)) k 0
+      third : (j : ℕ) → k ≡ at + (length bytes + j) → Dec (k / s .size ≡ i)
+          → getD (put (bufferAt s S) at bytes) k 0 ≡ getD (bufferAt s (mark S i)) k 0
       third j e (yes d) =
           kept (after j e)
           (past k (omega (arith, ends-within (s .size) i k (f .cut .pos) d, part-length (s .report) (f .cut) i l)))
@@ -86,7 +87,8 @@ module _ (s : Start) (f : Fair s) (S : List Bool) (w : Lawful s S) (i : ℕ) (l 
   pub put-buffer : put (bufferAt s S) at bytes ≡ bufferAt s (mark S i)
   put-buffer =
       ext-getD 0 (put (bufferAt s S) at bytes) (bufferAt s (mark S i))
-      (put-length (bufferAt s S) at bytes room ∙ listed-length (length (s .buffer)) (byteAt s S) ∙ sym (listed-length (length (s .buffer)) (byteAt s (mark S i))))
+      (put-length (bufferAt s S) at bytes room ∙ listed-length (length (s .buffer)) (byteAt s S)
+      ∙ sym (listed-length (length (s .buffer)) (byteAt s (mark S i))))
       put-at
 
   -- A piece that has come is what the buffer holds.

@@ -1,4 +1,4 @@
--- The set of the pieces that have come over a course: it has just these, and depends on nothing else. Assumes nothing.
+-- The set of the pieces that have come over a course: it has just these, and depends on nothing else.
 use Prim.Native.Nat.{ℕ, _≤_, _<_}
 use mathlib.Core.Path.{_≡_, refl, sym, ap, _∙_}
 use mathlib.Core.List.{List, [], _∷_}

@@ -1,5 +1,5 @@
 -- What is remembered, and what the report buffer holds, once a set of the pieces of one report has come: they depend on the set and on how
--- they began, and on nothing else. Assumes nothing.
+-- they began, and on nothing else.
 use Prim.Native.Nat.{ℕ, zero, suc, _+_, _-_, _*_, _/_, _≤_, _<_}
 use mathlib.Core.Path.{_≡_, refl, ap, _∙_}
 use mathlib.Core.List.{List, [], _∷_}

@@ -1,4 +1,4 @@
--- The heard count over any course: it is the number of different pieces that have come. Assumes nothing.
+-- The heard count over any course: it is the number of different pieces that have come.
 use Prim.Native.Nat.{ℕ, zero, suc, _+_, _≤_, _<_}
 use mathlib.Core.Path.{_≡_, refl, sym, ap, _∙_}
 use mathlib.Core.List.{List, [], _∷_}

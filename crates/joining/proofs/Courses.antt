@@ -1,5 +1,5 @@
 -- Demand 3 in the abstract: over any machine that joins the pieces of a report and leaves all alone at what comes between, and over any
--- course of pieces, in any order, with repeats. Assumes nothing.
+-- course of pieces, in any order, with repeats.
 use Prim.Native.Nat.{ℕ, _+_, _<_}
 use mathlib.Core.Path.{_≡_, refl, sym, ap, ap₂, _∙_}
 use mathlib.Core.List.{List, [], _∷_}
@@ -45,7 +45,6 @@ pub record Machine (F : ℕ) : Type 1 where
   pub answers : (h : Progress) (b : List ℕ) (p : Piece) (bytes : List ℕ) (x : X) → Brings p bytes x
       → says (seat h b) x ≡ answer (join F h p bytes b .answer)
   pub still : (c : C) (x : X) → Quiet (says c x) → next c x ≡ c
-  pub done-complete : (l k : ℕ) → done (answer (Complete l k)) ≡ true
   pub done-taken : (k : ℕ) → done (answer (Taken k)) ≡ false
   pub done-repeat : (k : ℕ) → done (answer (Repeat k)) ≡ false
   pub done-refused : (k : ℕ) → done (answer (Refused k)) ≡ false
@@ -70,7 +69,7 @@ under (rests q r) = under r
 
 module _ (s : Start) (f : Fair s) (m : Machine (s .size)) where
   -- The state once S has come.
-  abbrev pub seated : List Bool → m .C
+  abbrev seated : List Bool → m .C
   seated S = m .seat (heldAt s S) (bufferAt s S)
 
   -- How the machine began.
@@ -97,7 +96,7 @@ module _ (s : Start) (f : Fair s) (m : Machine (s .size)) where
   course-at S w e (rests {c = c} {x = x} q r) = course-at S w (m .still c x q ∙ e) r
 
   -- After any course the state is that of the set of pieces that have come.
-  pub ends-at : {xs : List (m .X)} {es : List Event} → Course s m began xs es → final m began xs ≡ seated (setOf es)
+  ends-at : {xs : List (m .X)} {es : List Event} → Course s m began xs es → final m began xs ≡ seated (setOf es)
   ends-at r = course-at (none most) (none-lawful s f) (ap₂ (m .seat) (sym (held-none s f)) (sym (buffer-none s f))) r
 
   -- "connection and report buffer depend only on how they began and which fragments have come"

@@ -1,4 +1,4 @@
--- What the rules of cutting come to: places and lengths of the pieces, over any number of them. Assumes nothing.
+-- What the rules of cutting come to: places and lengths of the pieces, over any number of them.
 use Prim.Native.Nat.{ℕ, zero, suc, _+_, _-_, _*_, _/_, _≤_, _<_, min}
 use mathlib.Core.Path.{_≡_, refl, ap}
 use mathlib.Core.List.{List}
@@ -59,7 +59,6 @@ passed false k x n e = (refl, e)
 pub record Cuttable (F L i : ℕ) : Type 0 where
   pub cut : Cut F most (pieceCount F L) L
   pub small : F ≤ 16384
-  pub one : i < pieceCount F L
   pub within : F * i ≤ L
 
 -- A piece begins within the report.
@@ -76,7 +75,7 @@ cuttable F L i e =
     let f = good-size F (a .0) in
     let c = cuts F most L (f .0) (omega arith) (ltb-false (F * most) L (n .0)) in
     let l = leb-false (pieceCount F L) i (n .1) in
-    record { cut = c; small = f .1; one = l; within = begins c i l }
+    record { cut = c; small = f .1; within = begins c i l }
 
 module _ {F N n : ℕ} (R : List ℕ) (c : Cut F N n (length R)) (i : ℕ) (l : i < n) where
   pub part-length : length (part R (F * i) F) ≡ min F (length R - F * i)

@@ -1,4 +1,4 @@
--- Laws of the heard set, over any number of indexes. Assumes nothing.
+-- Laws of the heard set, over any number of indexes.
 use Prim.Native.Nat.{ℕ, zero, suc, _+_, _≤_, _<_, zero-le}
 use mathlib.Core.Path.{_≡_, refl, sym, ap, _∙_}
 use mathlib.Core.List.{List, [], _∷_}

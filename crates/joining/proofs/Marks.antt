@@ -1,5 +1,5 @@
 -- An index marked place by place, as code does that writes each place: up to place i all is as with the index marked, from there on as it
--- was. Assumes nothing.
+-- was.
 use Prim.Native.Nat.{ℕ, _+_, _<_}
 use mathlib.Core.Path.{_≡_, sym, ap, _∙_}
 use mathlib.Core.List.{List}

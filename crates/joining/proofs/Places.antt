@@ -1,13 +1,11 @@
--- A piece put into a buffer: the length and the byte at each place of what comes of it. Assumes nothing.
-use Prim.Native.Nat.{ℕ, _+_, _-_, _≤_, _<_, min}
+-- A piece put into a buffer: the length and the byte at each place of what comes of it.
+use Prim.Native.Nat.{ℕ, _+_, _≤_, _<_, min}
 use mathlib.Core.Path.{_≡_, sym, ap, _∙_}
-use mathlib.Core.List.{List, _++_, append-nil}
+use mathlib.Core.List.{List, _++_}
 use native.Mathlib.Omega.{arith}
 use native.Mathlib.Decide.{decLt}
-use borrow.Rule.Slice.PartMut.{putMid}
-use lib.ListN.{length, getD, take, drop, length-append, length-take, length-drop, drop-of-length-le, List·getD-append}
-use lib.Seq.{getD-append-add, getD-take, getD-drop, length-take-le, take-length, take-all, drop-drop}
-use Rattle.laws.proofs.Lists.{part-from}
+use lib.ListN.{length, getD, take, drop, length-append, length-take, length-drop, List·getD-append}
+use lib.Seq.{getD-append-add, getD-take, getD-drop, length-take-le, take-all}
 use Rattle.joining.specs.Report.{put}
 
 -- To take no more than there is takes the same.
@@ -17,14 +15,6 @@ take-least n l k e = go (decLt n k)
     go : Dec (n < k) → take (min n k) l ≡ take n l
     go (yes h) = let m : min n k ≡ n = omega arith in rw m
     go (no h) = let m : min n k ≡ k = omega arith in rw m (take-all k l (omega arith) ∙ sym (take-all n l (omega arith)))
-
-module _ (b : List ℕ) (at : ℕ) (p : List ℕ) where
-  -- The part of the buffer from place `at` on was lent, and came back with the piece over its first bytes.
-  pub put-lent : at + length p ≤ length b → (y : List ℕ) → y ≡ take (length p) p ++ drop (length p) (take (length b - at) (drop at b))
-      → putMid at (length b - at) b y ≡ put b at p
-  put-lent fits y e =
-      let k : length b ≤ at + (length b - at) = omega arith in
-      rw (e, take-length p, part-from b at, drop-drop (length p) at b, drop-drop (length b - at) at b, drop-of-length-le b k, append-nil)
 
 module _ (b : List ℕ) (at : ℕ) (p : List ℕ) (fits : at + length p ≤ length b) where
   pub put-length : length (put b at p) ≡ length b

@@ -1,4 +1,4 @@
--- What is known of a piece that no row refuses. Assumes nothing.
+-- What is known of a piece that no row refuses.
 use Prim.Native.Nat.{ℕ, _+_, _*_, _≤_, _<_}
 use mathlib.Core.Path.{_≡_, refl, sym, _∙_}
 use mathlib.Core.List.{List}
@@ -46,7 +46,7 @@ in-turn F expected p e =
     }
 
 module _ (F : ℕ) (h : Progress) (p : Piece) (bytes report : List ℕ) where
-  pub refusal-two : joinRefusal F h p bytes report ≡ orElse (first (turnRows F (h .expected) p)) (first (placeRows F h p bytes report))
+  refusal-two : joinRefusal F h p bytes report ≡ orElse (first (turnRows F (h .expected) p)) (first (placeRows F h p bytes report))
   unfolding joinRefusal
   refusal-two = first-append (turnRows F (h .expected) p) (placeRows F h p bytes report) refl
 

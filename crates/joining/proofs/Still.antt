@@ -1,4 +1,4 @@
--- A refusal leaves what is remembered and the report buffer alone. Assumes nothing.
+-- A refusal leaves what is remembered and the report buffer alone.
 use Prim.Native.Nat.{ℕ}
 use mathlib.Core.Path.{_≡_, refl, sym, _∙_}
 use mathlib.Core.List.{List}
@@ -26,7 +26,8 @@ loud true x y e d = e
 loud false x y e d = d
 
 module _ (F : ℕ) (h : Progress) (p : Piece) (bytes b : List ℕ) where
-  ways : (t u : Bool) (r n : Joined) (b′ : List ℕ) → isRefused (r .answer) ≡ false → n .progress ≡ h → isRefused (cond {A = Joined} t r n .answer) ≡ true
+  ways : (t u : Bool) (r n : Joined) (b′ : List ℕ) → isRefused (r .answer) ≡ false → n .progress ≡ h
+      → isRefused (cond {A = Joined} t r n .answer) ≡ true
       → (cond {A = Joined} t r n .progress ≡ h) × (cond t (cond u b b′) b ≡ b)
   ways true u r n b′ l e q = absurd (true≢false (sym q ∙ l))
   ways false u r n b′ l e q = (e, refl)

@@ -1,4 +1,4 @@
--- The ways through `advance` and `join`, over plain values. Assumes nothing.
+-- The ways through `advance` and `join`, over plain values.
 use Prim.Native.Nat.{ℕ, _+_, _-_, _*_}
 use mathlib.Core.Path.{_≡_}
 use mathlib.Core.List.{List}
@@ -47,7 +47,8 @@ module _ (F : ℕ) (h : Progress) (p : Piece) (bytes report : List ℕ) (r : ℕ
     way-repeat k n e =
         (rw (← given, eq-eqb r 0 none, k, e, mark-known (h .heard) (p .index) k), rw (← given, eq-eqb r 0 none, k))
 
-    pub way-new : has (h .heard) (p .index) ≡ false → (j : Joined) → j ≡ taken F h p (length bytes) → (b : List ℕ) → b ≡ put report (F * p .index) bytes
+    pub way-new : has (h .heard) (p .index) ≡ false → (j : Joined) → j ≡ taken F h p (length bytes) → (b : List ℕ)
+        → b ≡ put report (F * p .index) bytes
         → Joins j b
     unfolding join reportAfter
     way-new k j e b d = (rw (← given, eq-eqb r 0 none, k) e, rw (← given, eq-eqb r 0 none, k) d)

@@ -104,7 +104,8 @@ fn conflict(
     payload: &[u8],
     report: &[u8],
 ) -> bool
-    requires { ⌜ (now heard ≡ held .heard) × (piece .index < piece .count) × (piece .count ≤ most) × (size * piece .index + length (now payload) ≤ length (now report)) ⌝ }
+    requires { ⌜ (now heard ≡ held .heard) × (piece .index < piece .count) × (piece .count ≤ most)
+        × (size * piece .index + length (now payload) ≤ length (now report)) ⌝ }
     ensures { λ r. ⌜ r ≡ conflict size held piece (now (payload .entry)) (now (report .entry)) ⌝ }
 {
     let index = piece.index;

@@ -1,4 +1,4 @@
--- A sum of tests is false where each is, a product true where each is. Assumes nothing.
+-- A sum of tests is false where each is, a product true where each is.
 use mathlib.Core.Path.{_≡_, refl, sym}
 use mathlib.Core.Bool.{Bool, true, false, _&&_, _||_, true≢false}
 

@@ -1,5 +1,5 @@
 -- What a table's answer says, for every table: a number other than 0 is that of the first row whose test holds, and 0 says that no
--- test holds. Of tables one behind the other the second is asked where no row of the first applies. Assumes nothing.
+-- test holds. Of tables one behind the other the second is asked where no row of the first applies.
 use Prim.Native.Nat.{ℕ, _≤_}
 use mathlib.Core.Path.{_≡_, refl, sym}
 use mathlib.Core.Logic.{inl, inr}

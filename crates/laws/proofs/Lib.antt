@@ -1,5 +1,5 @@
 pub mod Tests
-pub mod Tables
+pub mod ByteLists
 pub mod Firsts
 pub mod Lists
 pub mod Xor

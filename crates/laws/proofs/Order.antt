@@ -1,4 +1,4 @@
--- Two numbers compared, as a choice of two cases. Assumes nothing.
+-- Two numbers compared, as a choice of two cases.
 use mathlib.Core.Logic.{_⊎_, inl, inr, ⊎-elim}
 use Prim.Native.Nat.{ℕ, zero, suc, _<_, _≤_, zero-le, suc-le-suc}
 

@@ -1,5 +1,5 @@
 -- The bytes at a place, `bytesAt`: how many they are, that they are a part of the list where it has them, and that a list filled from
--- its start one byte after the other comes to hold them. Assumes nothing.
+-- its start one byte after the other comes to hold them.
 use Prim.Native.Nat.{ℕ, zero, suc, _+_, _≤_, _<_}
 use mathlib.Core.Path.{_≡_, refl, sym}
 use mathlib.Core.List.{List, [], _∷_, _++_, append-assoc, append-nil}

@@ -1,4 +1,4 @@
--- `same` decides equality of lists of bytes, both ways; how it goes over lists that end in a byte each. Assumes nothing.
+-- `same` decides equality of lists of bytes, both ways; how it goes over lists that end in a byte each.
 use Prim.Native.Nat.{ℕ}
 use mathlib.Core.Path.{_≡_, refl, ap, ap₂, sym}
 use mathlib.Core.List.{List, [], _∷_, _++_}
@@ -22,7 +22,7 @@ same→eq (x ∷ xs) (y ∷ ys) e =
     let both = and-true (eqb x y) (same xs ys) e in
     ap₂ (λ (z : ℕ) (zs : List ℕ). z ∷ zs) (eqb-true x y (both .0)) (same→eq xs ys (both .1))
 
-pub ne→same : (xs ys : List ℕ) → (xs ≡ ys → ⊥) → same xs ys ≡ false
+ne→same : (xs ys : List ℕ) → (xs ≡ ys → ⊥) → same xs ys ≡ false
 ne→same xs ys n = go (same xs ys) refl
   where
     go : (t : Bool) → same xs ys ≡ t → t ≡ false

@@ -1,12 +1,12 @@
--- Runs of stores: two, the second where the first ends, are one. Assumes nothing.
-use Prim.Native.Nat.{ℕ, suc, _+_, _≤_, _<_}
-use mathlib.Core.Path.{_≡_, refl, ap, _∙_}
+-- Runs of stores: two, the second where the first ends, are one; what is stored past the end is dropped.
+use Prim.Native.Nat.{ℕ, zero, suc, _+_, _≤_, _<_}
+use mathlib.Core.Path.{_≡_, refl, sym, ap, _∙_}
 use mathlib.Core.List.{List, [], _∷_, _++_}
 use native.Mathlib.Omega.{arith}
 use native.Mathlib.Nat.{add-zero, zero-add}
 use native.Mathlib.Numerals.{add-one}
-use lib.ListN.{length, getD, take, drop, set}
-use lib.Seq.{sets, sets-eq, take-suc, length-take-le}
+use lib.ListN.{length, getD, take, drop, set, length-set}
+use lib.Seq.{sets, sets-eq, set-out, take-suc, length-take-le}
 
 pub sets-sets : (a b l : List ℕ) (i j : ℕ) → j ≡ i + length a → sets (sets l i a) j b ≡ sets l i (a ++ b)
 sets-sets [] b l i j e = ap (λ (k : ℕ). sets l k b) (e ∙ add-zero i)
@@ -26,6 +26,17 @@ stored-more s l at i b h e p q =
 -- A run from the start that the list has room for.
 pub sets-start : (a l : List ℕ) → length a ≤ length l → sets l 0 a ≡ a ++ drop (length a) l
 sets-start a l h = sets-eq a l 0 (omega arith) ∙ ap (λ (k : ℕ). a ++ drop k l) (zero-add (length a))
+
+-- A run that begins past the end.
+pub sets-past : (s l : List ℕ) (at : ℕ) → length l ≤ at → sets l at s ≡ l
+sets-past [] l at h = refl
+sets-past (x ∷ s) l at h = rw (set-out l at x h) (sets-past s l (suc at) (omega arith))
+
+-- A run that is cut at the end of the list.
+pub sets-cut : (s l : List ℕ) (at n : ℕ) → length l ≤ at + n → sets l at (take n s) ≡ sets l at s
+sets-cut s l at zero h = sym (sets-past s l at (omega arith))
+sets-cut [] l at (suc n) h = refl
+sets-cut (x ∷ s) l at (suc n) h = sets-cut s (set l at x) (suc at) n (rw length-set (omega arith))
 
 -- `m` is `l` with `bs` stored from place i on. A store behind them makes the run longer.
 pub record Run (i : ℕ) (l bs m : List ℕ) : Type 0 where

@@ -1,5 +1,5 @@
 -- What closes the returns of `if … { return n; }` code against a table of rows: each branch's fact turns a test into true or false,
--- and a `cond` on a test that is known gives its arm. Assumes nothing.
+-- and a `cond` on a test that is known gives its arm.
 use borrow.Author.Needs.{needs}
 use borrow.Author.Tests.{lt-ltb, le-ltb, le-leb, lt-leb, eq-eqb, ne-eqb}
 use mathlib.Core.Path.{_≡_}

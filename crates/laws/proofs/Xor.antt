@@ -1,4 +1,4 @@
--- `bitXor` is associative, and 0 of equals only; sums of four regroup; an or is 0 of zeros only. Assumes nothing.
+-- `bitXor` is associative, and 0 of equals only; an or is 0 of zeros only.
 use mathlib.Core.Path.{_≡_, _∙_, sym, ap, ap₂, refl}
 use Prim.Native.Nat.{ℕ, zero, suc, _+_, _*_, _/_, _%_, _<_, _≤_}
 use native.Mathlib.Nat.{mod-lt, not-suc-le-zero, le-of-suc-le-suc, zero-lt-suc}
@@ -43,13 +43,6 @@ xor-assoc a =
     ∙ ap₂ (λ (x y : ℕ). x * 2 + y) (ih (b / 2) (c / 2)) (differ-assoc (n % 2) (b % 2) (c % 2) (even n) (even b) (even c))
     ∙ sym (ap₂ (λ (x y : ℕ). bitXor (n / 2) x * 2 + differ (n % 2) y) (half b c) (odd b c))
     ∙ sym (xor-step n (bitXor b c))) a
-
--- two sums of two, by columns
-pub xor4 : (a b c d : ℕ) → bitXor (bitXor a b) (bitXor c d) ≡ bitXor (bitXor a c) (bitXor b d)
-xor4 a b c d =
-    xor-assoc a b (bitXor c d)
-    ∙ ap (bitXor a) (sym (xor-assoc b c d) ∙ ap (λ (x : ℕ). bitXor x d) (xor-comm b c) ∙ xor-assoc c b d)
-    ∙ sym (xor-assoc a c (bitXor b d))
 
 pub or-zero : (a b : ℕ) → bitOr a b ≡ 0 → (a ≡ 0) × (b ≡ 0)
 or-zero a b e =

@@ -1,4 +1,4 @@
--- Digits: how many they are, and that they may be put into a buffer the last one first. Assumes nothing.
+-- Digits: how many they are, and that they may be put into a buffer the last one first.
 use Prim.Native.Nat.{ℕ, zero, suc, _+_, _-_, _/_, _%_, _≤_, _<_}
 use mathlib.Core.Path.{_≡_, refl}
 use mathlib.Core.List.{List, [], _∷_, _++_}

@@ -1,4 +1,4 @@
--- The listing's example, computed. Assumes nothing.
+-- The listing's example, computed.
 use mathlib.Core.Path.{_≡_, refl}
 use mathlib.Core.List.{[]}
 use mathlib.Core.Bool.{true}
@@ -8,15 +8,15 @@ use Rattle.wire.specs.Fields.{badKind, badFlags, badPiece, mostPieces, isSealed
 use Rattle.wire.specs.Reader.{roomOf, chainOf, headerRows, rowsOf, refusalWith, refusalOf, readHeader, wanted}
 use Rattle.lines.specs.Text.{digits, places, field}
 use Rattle.lines.specs.Stream.{ahead}
-use Rattle.lines.specs.Listing.{headerLine, lineOf, step, turn, manyTurns, list}
+use Rattle.lines.specs.Listing.{headerLine, lineOf, turnAt, turn, manyTurns, list}
 use Rattle.lines.specs.Examples.{p1Line, ended, outputRoom}
 
 -- "For the message of P1 the whole output is `1 0 0 1 43` and a newline".
 pub p1-listed : list p1 true outputRoom ≡ ended 43 p1Line
-unfolding list manyTurns turn step ahead wanted lineOf headerLine field places digits readHeader refusalOf refusalWith rowsOf headerRows chainOf roomOf readChain mostEntries chain entryOf badKind badFlags badPiece mostPieces isSealed tagSize
+unfolding list manyTurns turn turnAt ahead wanted lineOf headerLine field places digits readHeader refusalOf refusalWith rowsOf headerRows chainOf roomOf readChain mostEntries chain entryOf badKind badFlags badPiece mostPieces isSealed tagSize
 p1-listed = refl
 
 -- "for no input, nothing".
 pub none-listed : list [] true outputRoom ≡ ended 0 []
-unfolding list manyTurns turn step ahead wanted
+unfolding list manyTurns turn turnAt ahead wanted
 none-listed = refl

@@ -1,5 +1,5 @@
 pub mod Digits
 pub mod Puts
 pub mod Streams
-pub mod Steps
+pub mod Turns
 pub mod Examples

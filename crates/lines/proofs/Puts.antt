@@ -1,4 +1,4 @@
--- A text that is put, with room and without. Assumes nothing.
+-- A text that is put, with room and without.
 use Prim.Native.Nat.{ℕ, _+_, _≤_, _<_}
 use mathlib.Core.Path.{_≡_, refl}
 use mathlib.Core.List.{List, [], _∷_}

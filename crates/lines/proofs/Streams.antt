@@ -1,4 +1,4 @@
--- The first message of a stream: its bounds. Assumes nothing.
+-- The first message of a stream: its bounds.
 use Prim.Native.Nat.{ℕ, _≤_, _<_}
 use mathlib.Core.Path.{_≡_, refl}
 use mathlib.Core.List.{List}

@@ -39,29 +39,29 @@ isRefused (Read h start rest) = false
 
 -- What one turn does: the line that it writes, the bytes of the stream that it takes, whether the run goes on with this stream, and
 -- whether it is over.
-pub record Step : Type 0 where
+pub record Turn : Type 0 where
   pub line : List ℕ
   pub size : ℕ
   pub going : Bool
   pub over : Bool
 
 -- A turn that takes nothing: it waits for more of the stream or for room, or the run is over.
-abbrev pub stops : Bool → Step
+abbrev pub stops : Bool → Turn
 stops over = record { line = []; size = 0; going = false; over = over }
 
 -- A turn that tells of a message. "A refusal .. ends the run."
-abbrev pub tells : ℕ → HeaderRead → Step
+abbrev pub tells : ℕ → HeaderRead → Turn
 tells size answer = record { line = lineOf answer size; size = size; going = not (isRefused answer); over = isRefused answer }
 
 -- The turn by what the rest of the stream begins with.
-abbrev pub stepBy : List ℕ → Next → Step
-stepBy rest (Message size) = tells size (readHeader (take size rest))
-stepBy rest More = stops false
-stepBy rest End = stops true
+abbrev pub turnBy : List ℕ → Next → Turn
+turnBy rest (Message size) = tells size (readHeader (take size rest))
+turnBy rest More = stops false
+turnBy rest End = stops true
 
 -- The turn, with an output of `room` bytes of which so many are written.
-unfoldable pub step : List ℕ → Bool → (room written : ℕ) → Step
-step rest ended room written = cond (ltb room (written + lineRoom)) (stops false) (stepBy rest (ahead rest ended))
+unfoldable pub turnAt : List ℕ → Bool → (room written : ℕ) → Turn
+turnAt rest ended room written = cond (ltb room (written + lineRoom)) (stops false) (turnBy rest (ahead rest ended))
 
 -- How far a run has come: the bytes taken of the stream and the text written; whether it goes on with this stream; whether it is over.
 pub record Run : Type 0 where
@@ -75,12 +75,12 @@ abbrev pub begun : Run
 begun = record { read = 0; text = []; going = true; over = false }
 
 -- The run behind a turn.
-abbrev pub behind : Run → Step → Run
+abbrev pub behind : Run → Turn → Run
 behind b s = record { read = b .read + s .size; text = b .text ++ s .line; going = s .going; over = s .over }
 
 -- The run after one turn.
 unfoldable pub turn : List ℕ → Bool → ℕ → Run → Run
-turn stream ended room b = behind b (step (drop (b .read) stream) ended room (length (b .text)))
+turn stream ended room b = behind b (turnAt (drop (b .read) stream) ended room (length (b .text)))
 
 -- Turn after turn, as long as the run goes on.
 unfoldable pub manyTurns : ℕ → List ℕ → Bool → ℕ → Run → Run
@@ -97,5 +97,5 @@ abbrev pub listed : Run → Listed
 listed b = record { read = b .read; written = length (b .text); going = b .going; over = b .over }
 
 -- A turn as the code has it.
-abbrev pub stepped : Listed → Step → Listed
-stepped l s = record { read = l .read + s .size; written = l .written + length (s .line); going = s .going; over = s .over }
+abbrev pub turned : Listed → Turn → Listed
+turned l s = record { read = l .read + s .size; written = l .written + length (s .line); going = s .going; over = s .over }

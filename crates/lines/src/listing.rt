@@ -13,7 +13,7 @@ ghost use lib.ListN.{length, drop};
 ghost use lib.Seq.{sets};
 ghost use Rattle.wire.specs.Reader.{readHeader};
 ghost use Rattle.lines.specs.Text.{put, putEnd};
-ghost use Rattle.lines.specs.Listing.{headerLine, lineOf, isRefused, stops, tells, step, stepped, list, listed};
+ghost use Rattle.lines.specs.Listing.{headerLine, lineOf, isRefused, stops, tells, turnAt, turned, list, listed};
 
 // The room that a line wants in the output.
 pub const LINE: usize = 64;
@@ -78,7 +78,7 @@ pub struct Listed {
 
 // No more is to be done with this stream.
 fn stopped(run: Listed, over: bool) -> Listed
-    ensures { λ r. ⌜ r ≡ stepped run (stops over) ⌝ }
+    ensures { λ r. ⌜ r ≡ turned run (stops over) ⌝ }
 {
     Listed {
         read: run.read,
@@ -92,7 +92,7 @@ fn stopped(run: Listed, over: bool) -> Listed
 fn tell(run: Listed, message: &[u8], size: u16, out: &mut [u8]) -> Listed
     requires { ⌜ run .read + size < 2 ^ 64 ⌝ }
     requires { ⌜ run .written + 64 ≤ length (now out) ⌝ }
-    ensures { λ r. ⌜ r ≡ stepped run (tells size (readHeader (now (message .entry)))) ⌝ }
+    ensures { λ r. ⌜ r ≡ turned run (tells size (readHeader (now (message .entry)))) ⌝ }
     ensures { λ _. ⌜ now (out .exit) ≡ sets (now (out .entry)) (run .written) (lineOf (readHeader (now (message .entry))) size) ⌝ }
 {
     let answer = read_header(message);
@@ -109,8 +109,9 @@ fn tell(run: Listed, message: &[u8], size: u16, out: &mut [u8]) -> Listed
 // One turn: a message is listed if there is a whole one and room for its line.
 fn turn(run: Listed, stream: &[u8], ended: bool, out: &mut [u8]) -> Listed
     requires { ⌜ run .read ≤ length (now stream) ⌝ }
-    ensures { λ r. ⌜ r ≡ stepped run (step (drop (run .read) (now (stream .entry))) ended (length (now (out .entry))) (run .written)) ⌝ }
-    ensures { λ _. ⌜ now (out .exit) ≡ sets (now (out .entry)) (run .written) (step (drop (run .read) (now (stream .entry))) ended (length (now (out .entry))) (run .written) .line) ⌝ }
+    ensures { λ r. ⌜ r ≡ turned run (turnAt (drop (run .read) (now (stream .entry))) ended (length (now (out .entry))) (run .written)) ⌝ }
+    ensures { λ _. ⌜ now (out .exit) ≡ sets (now (out .entry)) (run .written)
+        (turnAt (drop (run .read) (now (stream .entry))) ended (length (now (out .entry))) (run .written) .line) ⌝ }
 {
     let from = run.read;
     let at = run.written;

@@ -1,5 +1,6 @@
 // Text that is put into a buffer at a place: numbers in decimal, and a name with a number.
 use super::places::places;
+use writer::stores::store_bytes;
 ghost use mathlib.Core.Path.{_≡_};
 ghost use Prim.Native.Nat.{_+_, _%_, _≤_};
 ghost use lib.ListN.{length};
@@ -58,25 +59,13 @@ pub(crate) fn put_field(number: u32, behind: u8, out: &mut [u8], at: usize) -> u
     end + 1
 }
 
-// Puts bytes at a place.
-fn put_bytes(bytes: &[u8], out: &mut [u8], at: usize)
-    requires { ⌜ at + length (now bytes) ≤ length (now out) ⌝ }
-    ensures { λ _. ⌜ now (out .exit) ≡ sets (now (out .entry)) at (now (bytes .entry)) ⌝ }
-{
-    let mut i = 0;
-    while i < bytes.len() {
-        out[at + i] = bytes[i];
-        i += 1;
-    }
-}
-
 // Puts the line of a name, which ends in a blank, and a number at a place, and answers the place behind it.
 pub(crate) fn put_name(name: &[u8], number: u32, out: &mut [u8], at: usize) -> usize
     requires { ⌜ at + (length (now name) + 11) ≤ length (now out) ⌝ }
     ensures { λ r. ⌜ r ≡ at + length (named (now (name .entry)) number) ⌝ }
     ensures { λ _. ⌜ now (out .exit) ≡ sets (now (out .entry)) at (named (now (name .entry)) number) ⌝ }
 {
-    put_bytes(name, out, at);
+    store_bytes(out, at, name);
     put_field(number, b'\n', out, at + name.len())
 }
 
@@ -103,6 +92,6 @@ pub fn put_text(text: &[u8], out: &mut [u8], at: usize) -> usize
     if lacks(out.len(), at, text.len()) {
         return at;
     }
-    put_bytes(text, out, at);
+    store_bytes(out, at, text);
     at + text.len()
 }

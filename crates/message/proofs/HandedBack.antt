@@ -1,5 +1,4 @@
 -- The payload that is handed out of an opened message is that of its plain text; out of a written message, the one that was written.
--- Assumes nothing.
 use Prim.Native.Nat.{ℕ, _+_, _-_, _≤_, _<_}
 use mathlib.Core.Path.{_≡_, refl, sym, ap, _∙_}
 use mathlib.Core.List.{List}
@@ -12,7 +11,7 @@ use Rattle.wire.specs.Fields.{isSealed}
 use Rattle.wire.specs.declared.header.Header.{Header}
 use Rattle.seal.specs.Padding.{sealedSize, payloadOf}
 use Rattle.seal.specs.Opening.{openRefusal, openedInto}
-use Rattle.seal.proofs.ByteLists.{AllBytes}
+use Rattle.laws.proofs.ByteLists.{AllBytes}
 use Rattle.seal.proofs.Padded.{told-plainText}
 use Rattle.seal.proofs.Accepted.{accepted, told-after, fits-after, payload-after}
 use Rattle.message.specs.Handed.{payload}
@@ -47,7 +46,8 @@ module _ (h : Header) (chain bytes keys working : List ℕ) (space : ℕ) (good 
     unfolding finishedLength
     long = length-messageBytes h chain bytes keys ∙ rw plain
 
-    pub handed-plain : payload (messageBytes h chain bytes keys) (workingAfter (messageBytes h chain bytes keys) keys working) false (40 + length chain) (length bytes) ≡ bytes
+    pub handed-plain : payload (messageBytes h chain bytes keys) (workingAfter (messageBytes h chain bytes keys) keys working) false
+        (40 + length chain) (length bytes) ≡ bytes
     handed-plain =
         let at = 40 + length chain in
         let n : 40 + length chain + length bytes - (40 + length chain) ≡ length bytes = omega arith in
@@ -56,7 +56,8 @@ module _ (h : Header) (chain bytes keys working : List ℕ) (space : ℕ) (good 
         (whole m at (length bytes) false (sym (le-ltb (length m) (at + length bytes) (omega (arith, long)))) refl) in
         sym q ∙ ap (λ (k : ℕ). take k (drop at m)) n ∙ payload-plain h chain bytes keys (length working) space good plain
 
-  module _ (sealed : isSealed (h .flags) ≡ true) (of-keys : AllBytes keys) (of-chain : AllBytes chain) (of-bytes : AllBytes bytes) (widths : InWidth h) where
+  module _ (sealed : isSealed (h .flags) ≡ true) (of-keys : AllBytes keys) (of-chain : AllBytes chain) (of-bytes : AllBytes bytes)
+      (widths : InWidth h) where
     working-after : workingAfter m keys working ≡ openedInto keys m (40 + length chain) working
     unfolding workingAfter
     working-after = rw (sealed-header h chain bytes keys (length working) space good sealed of-keys of-chain of-bytes widths, sealed)

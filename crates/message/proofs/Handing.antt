@@ -1,4 +1,4 @@
--- The part that the choosing function hands out, by whether the numbers fit. Assumes nothing.
+-- The part that the choosing function hands out, by whether the numbers fit.
 use Prim.Native.Nat.{ℕ, _+_, _-_, _≤_, _<_}
 use mathlib.Core.Path.{_≡_, refl, sym, _∙_}
 use mathlib.Core.List.{List, []}

@@ -1,4 +1,4 @@
--- The way through the reader: each return is the row that led there. Assumes nothing.
+-- The way through the reader: each return is the row that led there.
 use Prim.Native.Nat.{ℕ, _+_, _-_, _≤_}
 use mathlib.Core.Path.{_≡_, sym, ap, _∙_}
 use mathlib.Core.List.{List}

@@ -1,4 +1,4 @@
--- The way through `write`: what the table leaves, and the output step by step. Assumes nothing.
+-- The way through `write`: what the table leaves, and the output step by step.
 use Prim.Native.Nat.{ℕ, _+_, _≤_, _<_}
 use mathlib.Core.Path.{_≡_, refl, sym, ap, _∙_}
 use mathlib.Core.List.{List, _++_}
@@ -12,10 +12,11 @@ use Rattle.laws.proofs.Firsts.{first-quiet}
 use Rattle.wire.specs.Fields.{badKind, badFlags, badPiece, isSealed}
 use Rattle.wire.specs.Chain.{badChain}
 use Rattle.wire.specs.Payload.{badPayload}
-use Rattle.wire.specs.Writer.{headerBytes, output}
+use Rattle.writer.specs.Header.{headerBytes}
+use Rattle.writer.specs.Written.{output}
 use Rattle.wire.specs.declared.header.Header.{Header}
-use Rattle.wire.specs.declared.writer.Written.{Written}
-use Rattle.wire.specs.declared.writer.Written.the-variants.{Refused, Bytes}
+use Rattle.writer.specs.declared.Written.{Written}
+use Rattle.writer.specs.declared.Written.the-variants.{Refused, Bytes}
 use Rattle.wire.proofs.Chains.{chain-long}
 use Rattle.seal.specs.Padding.{sealedSize, padding}
 use Rattle.seal.specs.Sealed.{sealedMessage, sealRefusal, sealedInto}
@@ -53,7 +54,7 @@ rest-kept : (front out : List ℕ) (k j : ℕ) {m : List ℕ} → length front �
 rest-kept front out k j {m} l p = rw (← drop-drop j k m, p, drop-at front (drop k out) k l) (drop-drop j k out)
 
 -- and bytes that are put there.
-pub put-behind : (front bytes out : List ℕ) (k : ℕ) {m n : List ℕ} → length front ≡ k → k + length bytes ≤ length out
+put-behind : (front bytes out : List ℕ) (k : ℕ) {m n : List ℕ} → length front ≡ k → k + length bytes ≤ length out
     → m ≡ front ++ drop k out → n ≡ sets m k bytes → n ≡ (front ++ bytes) ++ drop (k + length bytes) out
 put-behind front bytes out k {m} l fits p q =
     let d = length-drop k out in
@@ -69,7 +70,7 @@ length-header h size = refl
 pub front-written : (h : Header) (size : ℕ) (chain out : List ℕ) {m n : List ℕ} → 40 + length chain ≤ length out
     → m ≡ output false 40 (headerBytes h size) out → n ≡ sets m 40 chain
     → n ≡ (headerBytes h size ++ chain) ++ drop (40 + length chain) out
-unfolding output Rattle.wire.specs.Writer.writeRefusal
+unfolding output Rattle.writer.specs.Written.writeRefusal
 front-written h size chain out fits p q =
     put-behind (headerBytes h size) chain out 40 (length-header h size) fits (p ∙ rw (le-ltb (length out) 40 (omega arith))) q
 
@@ -84,7 +85,7 @@ unfolding finishedLength
 front-within sealed chain payload = omega arith
 
 -- so that sealing does not refuse it.
-pub seal-allowed : (chain payload keys room : ℕ) → 2 ≤ chain → chain ≤ 2058 → payload ≤ 16384 → keys ≡ 64 → finishedLength true chain payload ≤ room
+seal-allowed : (chain payload keys room : ℕ) → 2 ≤ chain → chain ≤ 2058 → payload ≤ 16384 → keys ≡ 64 → finishedLength true chain payload ≤ room
     → sealRefusal keys (40 + chain) payload room ≡ 0
 unfolding sealRefusal finishedLength
 seal-allowed chain payload keys room long short small k roomy =
@@ -149,19 +150,18 @@ module _ (h : Header) (chain payload keys out : List ℕ) where
       unfolding finishedLength
       sealed-length s = rw (whole, s) (omega arith)
 
-      pub plain-fits : sealed ≡ false → 40 + length chain + length payload ≤ length m
-      plain-fits s = omega (arith, plain-length s, roomy, same-room)
-
       plain-bytes : sealed ≡ false → messageBytes h chain payload keys ≡ front ++ payload
       unfolding messageBytes
       plain-bytes s =
-          ap (λ (b : Bool). cond b (sealedMessage keys (beforePayload h chain payload) payload) (beforePayload h chain payload ++ payload)) (sym seals ∙ s)
+          ap (λ (b : Bool). cond b (sealedMessage keys (beforePayload h chain payload) payload) (beforePayload h chain payload ++ payload))
+          (sym seals ∙ s)
           ∙ ap (λ (l : List ℕ). l ++ payload) (sym is-front)
 
       sealed-bytes : sealed ≡ true → messageBytes h chain payload keys ≡ sealedMessage keys front payload
       unfolding messageBytes
       sealed-bytes s =
-          ap (λ (b : Bool). cond b (sealedMessage keys (beforePayload h chain payload) payload) (beforePayload h chain payload ++ payload)) (sym seals ∙ s)
+          ap (λ (b : Bool). cond b (sealedMessage keys (beforePayload h chain payload) payload) (beforePayload h chain payload ++ payload))
+          (sym seals ∙ s)
           ∙ ap (λ (l : List ℕ). sealedMessage keys l payload) (sym is-front)
 
       pub wrote-plain : {n : List ℕ} → sealed ≡ false → n ≡ sets m (40 + length chain) payload → Answered (Bytes size) n

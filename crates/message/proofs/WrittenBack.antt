@@ -1,4 +1,4 @@
--- What the writer wrote the reader reads back: the same fields, and the payload's bytes where it says they are. Assumes nothing.
+-- What the writer wrote the reader reads back: the same fields, and the payload's bytes where it says they are.
 use Prim.Native.Nat.{ℕ, _+_, _≤_, _<_}
 use mathlib.Core.Path.{_≡_, sym, ap, _∙_}
 use mathlib.Core.List.{List, [], _++_, append-assoc, append-nil}
@@ -9,19 +9,19 @@ use lib.Seq.{drop-at, take-length}
 use Rattle.wire.specs.Fields.{isSealed}
 use Rattle.wire.specs.Payload.{badPayload}
 use Rattle.wire.specs.Reader.{readHeader}
-use Rattle.wire.specs.Writer.{headerBytes}
+use Rattle.writer.specs.Header.{headerBytes}
 use Rattle.wire.specs.declared.header.Header.{Header}
 use Rattle.wire.specs.declared.header.HeaderRead.the-variants as head
 use Rattle.wire.proofs.Chains.{chain-long}
 use Rattle.wire.proofs.Sound.{sealed-tag, plain-tag}
-use Rattle.wire.proofs.ReadBack.{size, message, read-back}
+use Rattle.writer.proofs.ReadBack.{size, message, read-back}
 use Rattle.aes.specs.Key.{expandKey}
 use Rattle.aes.specs.Cbc.{cbcEncrypt}
 use Rattle.seal.specs.Keys.{encryptionKey, vector, tagOf}
 use Rattle.seal.specs.Padding.{sealedSize, plainText, payloadOf}
 use Rattle.seal.specs.Opening.{openRefusal}
 use Rattle.seal.specs.Sealed.{sealedBody, sealedMessage}
-use Rattle.seal.proofs.ByteLists.{AllBytes, append-bytes, cons-bytes, nil-bytes, bytes16-bytes, bytes32-bytes, bytes64-bytes}
+use Rattle.laws.proofs.ByteLists.{AllBytes, append-bytes, cons-bytes, nil-bytes, bytes16-bytes, bytes32-bytes, bytes64-bytes}
 use Rattle.seal.proofs.Padded.{sealedSize-blocks, told-plainText, payload-plainText}
 use Rattle.seal.proofs.Seals.{length-sealed, length-tag}
 use Rattle.seal.proofs.Unsealed.{in-parts, opened-back, opens-back}
@@ -98,7 +98,8 @@ module _ (h : Header) (chain payload keys : List ℕ) (room space : ℕ) (good :
         rw (plain-header, plain, payload-plain, shaped)
 
   -- A sealed message.
-  module _ (sealed : isSealed (h .flags) ≡ true) (of-keys : AllBytes keys) (of-chain : AllBytes chain) (of-payload : AllBytes payload) (widths : InWidth h) where
+  module _ (sealed : isSealed (h .flags) ≡ true) (of-keys : AllBytes keys) (of-chain : AllBytes chain) (of-payload : AllBytes payload)
+      (widths : InWidth h) where
     abbrev part : List ℕ
     part = cbcEncrypt (expandKey (encryptionKey keys)) (vector keys before) (plainText payload)
 
@@ -129,7 +130,8 @@ module _ (h : Header) (chain payload keys : List ℕ) (room space : ℕ) (good :
         ∙ sym (in-parts keys before payload) ∙ sym sealed-is
 
     pub sealed-header : readHeader (messageBytes h chain payload keys)
-        ≡ head.Read h (40 + length chain) (length (cbcEncrypt (expandKey (encryptionKey keys)) (vector keys (beforePayload h chain payload)) (plainText payload)))
+        ≡ head.Read h (40 + length chain) (length (cbcEncrypt (expandKey (encryptionKey keys))
+        (vector keys (beforePayload h chain payload)) (plainText payload)))
     sealed-header =
         let b = sealedSize-blocks (length payload) in
         ap readHeader (sym sealed-message)

@@ -1,4 +1,4 @@
--- How long the messages are that the writer writes. Assumes nothing.
+-- How long the messages are that the writer writes.
 use Prim.Native.Nat.{ℕ, _+_, _*_, _/_}
 use mathlib.Core.Path.{_≡_, refl, _∙_}
 use mathlib.Core.List.{List, _++_}
@@ -14,7 +14,7 @@ use Rattle.message.specs.Writing.{finishedLength, lengthOf, beforePayloa
 use Rattle.message.proofs.Written.{length-header}
 
 -- 16 × ceiling((4 + P) / 16)
-pub sealedSize-is : (p : ℕ) → sealedSize p ≡ 16 * ((4 + p + 15) / 16)
+sealedSize-is : (p : ℕ) → sealedSize p ≡ 16 * ((4 + p + 15) / 16)
 unfolding sealedSize padding
 sealedSize-is p = omega arith
 

@@ -1,4 +1,4 @@
--- A chain that the writer accepts has at most 8 × 257 + 2 bytes, and a payload at most 16,384. Assumes nothing.
+-- A chain that the writer accepts has at most 8 × 257 + 2 bytes, and a payload at most 16,384.
 use Prim.Native.Nat.{ℕ, zero, suc, _+_, _*_, _≤_}
 use mathlib.Core.Path.{_≡_, refl, sym}
 use mathlib.Core.Logic.{_⊎_, inl, inr, ⊎-elim}
@@ -18,7 +18,7 @@ use Rattle.wire.specs.declared.chain.Entry.{Entry}
 use Rattle.wire.specs.declared.chain.Chain.the-variants.{Broken}
 use Rattle.wire.specs.declared.chain.Entry.the-variants.{End, Spans, Wrong}
 use Rattle.wire.proofs.Sound.{kinds}
-use Rattle.seal.proofs.ByteLists.{AllBytes, drop-bytes}
+use Rattle.laws.proofs.ByteLists.{AllBytes, drop-bytes}
 
 -- An entry that spans bytes of a chain spans at most 257.
 abbrev spansFew : Entry → Type 0
@@ -72,7 +72,8 @@ either false b e = inr e
 module _ (p : List ℕ) where
   exchange-size : exchanges p ≡ true → length p ≡ 86
   unfolding exchanges
-  exchange-size e = eqb-true (length p) 86 (first-true (eqb (length p) 86) (eqb (be16 p 4) 32) (eqb (be32 p 14) 16384) (eqb (be16 p 18) 32) (eqb (be16 p 52) 32) e)
+  exchange-size e = eqb-true (length p) 86 (first-true (eqb (length p) 86) (eqb (be16 p 4) 32) (eqb (be32 p 14) 16384) (eqb (be16 p 18) 32)
+      (eqb (be16 p 52) 32) e)
 
   presence-short : isPresenceRequest p ≡ true → length p ≤ 16384
   unfolding isPresenceRequest
@@ -84,7 +85,8 @@ module _ (p : List ℕ) where
 
   response-short : isConnectionResponse p ≡ true → length p ≤ 16384
   unfolding isConnectionResponse
-  response-short e = by (either (eqb (be8 p 3) 1 && exchanges p) (not (eqb (be8 p 3) 1) && leb (be8 p 3) 3 && eqb (length p) 4) (and-true (starts 1 p) _ e .1))
+  response-short e = by (either (eqb (be8 p 3) 1 && exchanges p) (not (eqb (be8 p 3) 1) && leb (be8 p 3) 3 && eqb (length p) 4)
+      (and-true (starts 1 p) _ e .1))
     where
       by : ((eqb (be8 p 3) 1 && exchanges p) ≡ true) ⊎ ((not (eqb (be8 p 3) 1) && leb (be8 p 3) 3 && eqb (length p) 4) ≡ true) → length p ≤ 16384
       by (inl a) = omega (arith, exchange-size (and-true (eqb (be8 p 3) 1) (exchanges p) a .1))
@@ -116,7 +118,8 @@ module _ (p : List ℕ) where
   Short [] = Unit
   Short (row ∷ rows) = ((row .2) p ≡ true → length p ≤ 16384) × Short rows
 
-  shape-short : (kind : ℕ) (sealed : Bool) (rows : List (ℕ × Bool × (List ℕ → Bool))) → Short rows → hasShape kind sealed p rows ≡ true → length p ≤ 16384
+  shape-short : (kind : ℕ) (sealed : Bool) (rows : List (ℕ × Bool × (List ℕ → Bool))) → Short rows → hasShape kind sealed p rows ≡ true
+      → length p ≤ 16384
   shape-short kind sealed [] s e = absurd (true≢false (sym e))
   shape-short kind sealed (row ∷ rows) s e =
       ⊎-elim

@@ -50,6 +50,7 @@ behindHeader (head.Read h start size) m keys room =
 unfoldable pub readMessage : List ℕ → List ℕ → ℕ → MessageRead
 readMessage m keys room = behindHeader (readHeader m) m keys room
 
+-- The working buffer after a message, by what reading its header answered.
 abbrev pub workingBehind : HeaderRead → List ℕ → List ℕ → List ℕ → List ℕ
 workingBehind (head.Refused n) m keys working = working
 workingBehind (head.Read h start size) m keys working = cond (isSealed (h .flags)) (openedInto keys m start working) working

@@ -6,14 +6,14 @@ use mathlib.Core.Bool.{Bool, cond, not, _&&_}
 use lib.ListN.{length, drop}
 use lib.Dec.{ltb, eqb}
 use Rattle.laws.specs.Rows.{first}
-use Rattle.wire.specs.Refusals.{wrongKind, wrongFlags, wrongPiece, wrongChain, wrongKeys, wrongPayload, wrongPieceSize, noRoom}
+use Rattle.wire.specs.Refusals.{wrongType, wrongFlags, wrongPiece, wrongChain, wrongKeys, wrongPayload, wrongPieceSize, noRoom}
 use Rattle.wire.specs.Fields.{badKind, badFlags, badPiece, isSealed}
 use Rattle.wire.specs.Chain.{badChain}
 use Rattle.wire.specs.Payload.{badPayload}
-use Rattle.wire.specs.Writer.{headerBytes}
+use Rattle.writer.specs.Header.{headerBytes}
 use Rattle.wire.specs.declared.header.Header.{Header}
-use Rattle.wire.specs.declared.writer.Written.{Written}
-use Rattle.wire.specs.declared.writer.Written.the-variants.{Refused, Bytes}
+use Rattle.writer.specs.declared.Written.{Written}
+use Rattle.writer.specs.declared.Written.the-variants.{Refused, Bytes}
 use Rattle.seal.specs.Padding.{sealedSize}
 use Rattle.seal.specs.Sealed.{sealedMessage}
 
@@ -35,7 +35,7 @@ module _ (h : Header) (chain payload : List ℕ) where
   -- The table of the writer, row by row, given so many key bytes and an output of `room` bytes.
   abbrev pub writeRows : (keys room : ℕ) → List (ℕ × Bool)
   writeRows keys room =
-      (wrongKind, badKind (h .kind))
+      (wrongType, badKind (h .kind))
       ∷ (wrongFlags, badFlags (h .kind) (h .flags))
       ∷ (wrongPiece, badPiece (h .kind) (h .index) (h .count))
       ∷ (wrongChain, badChain chain)

@@ -12,7 +12,8 @@ ghost use lib.ListN.{length};
 ghost use Rattle.message.specs.Reading.{plainRead, sealedRead, readMessage, workingAfter};
 ghost use Rattle.seal.specs.Opening.{openedInto};
 
-// What reading answers: a refusal by its number; or the header and where the payload lies, in the message or, if it was sealed, in the working buffer.
+// What reading answers: a refusal by its number; or the header and where the payload lies, in the message or, if it was sealed, in the
+// working buffer.
 pub enum MessageRead {
     Refused(u8),
     Read {

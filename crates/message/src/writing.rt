@@ -17,18 +17,18 @@ use wire::refusals::NO_ROOM;
 use wire::refusals::WRONG_CHAIN;
 use wire::refusals::WRONG_FLAGS;
 use wire::refusals::WRONG_KEYS;
-use wire::refusals::WRONG_KIND;
 use wire::refusals::WRONG_PAYLOAD;
 use wire::refusals::WRONG_PIECE;
 use wire::refusals::WRONG_PIECE_SIZE;
-use wire::writer::Written;
-use wire::writer::write_header;
+use wire::refusals::WRONG_TYPE;
+use writer::Written;
+use writer::header::write_header;
+use writer::stores::store_bytes;
 ghost use mathlib.Core.Path.{_≡_};
 ghost use mathlib.Core.List.{_++_};
-ghost use Prim.Native.Nat.{_+_, _≤_, _<_};
+ghost use Prim.Native.Nat.{_+_, _≤_};
 ghost use lib.ListN.{length, drop};
-ghost use lib.Seq.{sets};
-ghost use Rattle.wire.specs.Writer.{headerBytes};
+ghost use Rattle.writer.specs.Header.{headerBytes};
 ghost use Rattle.message.specs.Writing.{finishedLength, writeRefusal, writeAnswer, writtenInto};
 
 // The most bytes of a Session payload.
@@ -53,7 +53,7 @@ fn refused(header: Header, chain: &[u8], payload: &[u8], keys: usize, room: usiz
     ensures { λ r. ⌜ r ≡ writeRefusal header (now (chain .entry)) (now (payload .entry)) keys room ⌝ }
 {
     if bad_kind(header.kind) {
-        return WRONG_KIND;
+        return WRONG_TYPE;
     }
     if bad_flags(header.kind, header.flags) {
         return WRONG_FLAGS;
@@ -80,21 +80,14 @@ fn refused(header: Header, chain: &[u8], payload: &[u8], keys: usize, room: usiz
     0
 }
 
-// A run of bytes from a place on: that part of the output is lent to a copy.
-fn put(out: &mut [u8], at: usize, bytes: &[u8])
-    requires { ⌜ at + length (now bytes) ≤ length (now out) ⌝ }
-    ensures { λ _. ⌜ now (out .exit) ≡ sets (now (out .entry)) at (now (bytes .entry)) ⌝ }
-{
-    bytes::copy(bytes, &mut out[at..]);
-}
-
 // The header of a message of `size` bytes, and its chain.
 fn put_front(header: Header, size: u16, chain: &[u8], out: &mut [u8])
     requires { ⌜ 40 + length (now chain) ≤ length (now out) ⌝ }
-    ensures { λ _. ⌜ now (out .exit) ≡ (headerBytes header size ++ now (chain .entry)) ++ drop (40 + length (now (chain .entry))) (now (out .entry)) ⌝ }
+    ensures { λ _. ⌜ now (out .exit) ≡ (headerBytes header size ++ now (chain .entry))
+        ++ drop (40 + length (now (chain .entry))) (now (out .entry)) ⌝ }
 {
     write_header(header, size, out);
-    put(out, Header::LENGTH, chain);
+    store_bytes(out, Header::LENGTH, chain);
 }
 
 // Writes a message with these fields, this chain (given with its end entry) and this payload at the start of the output, or refuses and leaves
@@ -115,6 +108,6 @@ pub fn write(header: Header, chain: &[u8], payload: &[u8], keys: &[u8], out: &mu
         seal::sealing::seal(keys, payload, start, out);
         return Written::Bytes(size);
     }
-    put(out, start, payload);
+    store_bytes(out, start, payload);
     Written::Bytes(size)
 }

@@ -27,18 +27,6 @@ pub fn is_painted(noise: &[u8], buffer: &[u8], from: usize) -> bool {
     check::same(&buffer[from..end], &noise[from..end])
 }
 
-// Whether a part of a buffer holds these bytes.
-pub fn holds_at(buffer: &[u8], from: usize, size: usize, bytes: &[u8]) -> bool {
-    if buffer.len() < from {
-        return false;
-    }
-    if buffer.len() - from < size {
-        return false;
-    }
-    let end = from + size;
-    check::same(&buffer[from..end], bytes)
-}
-
 // Sets a byte.
 pub fn set(out: &mut [u8], at: usize, byte: u8) {
     if at < out.len() {
@@ -46,9 +34,11 @@ pub fn set(out: &mut [u8], at: usize, byte: u8) {
     }
 }
 
-// Flips the bits of a byte that a mask has.
-pub fn flip(out: &mut [u8], at: usize, mask: u8) {
+// Flips the bits of a byte that a mask has, if there is such a byte.
+pub fn flip(out: &mut [u8], at: usize, mask: u8) -> bool {
     if at < out.len() {
         out[at] = out[at] ^ mask;
+        return true;
     }
+    false
 }

@@ -5,6 +5,7 @@ use crate::buffers::paint;
 use crate::hand::encrypt;
 use crate::hand::plain_text;
 use crate::hand::tag;
+use crate::trips::KEYS;
 use crate::trips::header_of;
 use crate::trips::sealed_of;
 use crate::trips::session_length;
@@ -12,14 +13,61 @@ use crate::trips::size_of;
 use crate::trips::write_with;
 use message::reading::MessageRead;
 use wire::header::SESSION;
-use wire::writer::Written;
+use writer::Written;
+ghost use Prim.Native.Nat.{_≤_};
+ghost use lib.ListN.{length};
 
-// What reading the first bytes of a buffer answers: a refusal's number, or 0.
-fn answer(message: &[u8], given: usize, keys: &[u8], working: &mut [u8]) -> u8 {
-    if message.len() < given {
-        return 255;
+// What the reader answers in a sweep: a refusal's number, or 0. Sweep 0 has no fault.
+fn number_read(sweep: u8) -> u8 {
+    match sweep {
+        2 | 3 => 11,
+        4 | 5 | 6 => 13,
+        8 => 10,
+        9 => 12,
+        _ => 0,
     }
-    match message::reading::read(&message[0..given], keys, working) {
+}
+
+// What the writer answers.
+fn number_written(sweep: u8) -> u8 {
+    match sweep {
+        8 => 10,
+        10 => 22,
+        _ => 0,
+    }
+}
+
+// One byte less, or not.
+fn room(whole: usize, is_short: bool) -> usize
+    requires { ⌜ 16 ≤ whole ⌝ }
+    ensures { λ r. ⌜ r ≤ whole ⌝ }
+{
+    if is_short { whole - 1 } else { whole }
+}
+
+fn refusal(written: Written) -> u8 {
+    match written {
+        Written::Refused(n) => n,
+        Written::Bytes(_) => 0,
+    }
+}
+
+// Whether writing a Session message is answered as in a sweep. Its payload, of a size, and its keys, so many, are the first bytes of the noise; in
+// sweep 10 the output is one byte short.
+fn writes(sweep: u8, size: usize, chain: u32, keys: usize, noise: &[u8], message: &mut [u8]) -> bool
+    requires { ⌜ (size ≤ 16384) × (keys ≤ 65) × (16384 ≤ length (now noise)) × (16502 ≤ length (now message)) ⌝ }
+{
+    let number = number_written(sweep);
+    let room = room(session_length(size, chain), sweep == 10);
+    let header = header_of(SESSION, true);
+    paint(noise, message);
+    let out = &mut message[0..room];
+    let written = write_with(header, chain, &noise[0..size], &noise[0..keys], out);
+    (refusal(written) == number) & ((number == 0) | is_painted(noise, message, 0))
+}
+
+fn number_of(read: MessageRead) -> u8 {
+    match read {
         MessageRead::Refused(n) => n,
         MessageRead::Read {
             header: _,
@@ -30,25 +78,25 @@ fn answer(message: &[u8], given: usize, keys: &[u8], working: &mut [u8]) -> u8 {
     }
 }
 
-fn refusal(written: Written) -> u8 {
-    match written {
-        Written::Refused(n) => n,
-        Written::Bytes(_) => 0,
-    }
-}
-
-// What writing a Session message with a payload of so many bytes answers: a refusal's number, or 0.
-fn writes(size: usize, chain: u32, keys: &[u8], noise: &[u8], message: &mut [u8]) -> u8 {
-    if noise.len() < size {
-        return 255;
-    }
-    refusal(write_with(
-        header_of(SESSION, true),
-        chain,
-        &noise[0..size],
-        keys,
-        message,
-    ))
+// Whether reading that message is answered as in a sweep. The keys, so many, are the first bytes of the noise; in sweep 9 the working buffer is one
+// byte short.
+fn reads(
+    sweep: u8,
+    size: usize,
+    chain: u32,
+    keys: usize,
+    noise: &[u8],
+    message: &[u8],
+    working: &mut [u8],
+) -> bool
+    requires { ⌜ (keys ≤ 65) × (16384 ≤ length (now noise)) × (16502 ≤ length (now message)) × (16400 ≤ length (now working)) ⌝ }
+{
+    let number = number_read(sweep);
+    let given = session_length(size, chain);
+    let room = room(sealed_of(size), sweep == 9);
+    paint(noise, working);
+    let read = message::reading::read(&message[0..given], &noise[0..keys], &mut working[0..room]);
+    (number_of(read) == number) & ((number == 0) | is_painted(noise, working, 0))
 }
 
 fn bit(i: u32) -> u8 {
@@ -64,91 +112,12 @@ fn bit(i: u32) -> u8 {
     }
 }
 
-// A message of 186 bytes is accepted, a bit of it is flipped, and it is refused: 11.
-fn flip_holds(
-    place: usize,
-    mask: u8,
-    keys: &[u8],
-    noise: &[u8],
-    message: &mut [u8],
-    working: &mut [u8],
-) -> bool {
-    let written = writes(100, 0, keys, noise, message);
-    let before = answer(message, 186, keys, working);
-    flip(message, place, mask);
-    paint(noise, working);
-    let after = answer(message, 186, keys, working);
-    (written == 0) & (before == 0) & (after == 11) & is_painted(noise, working, 0)
-}
-
-// A bit of its tag.
-pub fn tag_holds(
-    i: u32,
-    keys: &[u8],
-    noise: &[u8],
-    message: &mut [u8],
-    working: &mut [u8],
-) -> bool {
-    let place = 154 + (i / 8 % 32) as usize;
-    flip_holds(place, bit(i), keys, noise, message, working)
-}
-
-// A bit of its sealed part, which has 112 bytes.
-pub fn part_holds(
-    i: u32,
-    keys: &[u8],
-    noise: &[u8],
-    message: &mut [u8],
-    working: &mut [u8],
-) -> bool {
-    let place = 42 + (i / 8 % 112) as usize;
-    flip_holds(place, bit(i), keys, noise, message, working)
-}
-
-// What a message is answered with whose plain text is sealed by hand.
-fn by_hand(
-    text: [u8; 32],
-    keys: &[u8],
-    noise: &[u8],
-    message: &mut [u8],
-    working: &mut [u8],
-) -> u8 {
-    if writes(28, 0, keys, noise, message) != 0 {
-        return 255;
+// A place in the tag of a message of 186 bytes, for sweep 2, or in its sealed part, which has 112.
+fn place(sweep: u8, i: u32) -> usize {
+    if sweep == 2 {
+        return 154 + (i / 8 % 32) as usize;
     }
-    if !encrypt(text, keys, message) {
-        return 255;
-    }
-    if !tag(keys, message) {
-        return 255;
-    }
-    paint(noise, working);
-    answer(message, 106, keys, working)
-}
-
-// A plain text that is not as the rule gives: 13.
-fn text_holds(
-    text: [u8; 32],
-    keys: &[u8],
-    noise: &[u8],
-    message: &mut [u8],
-    working: &mut [u8],
-) -> bool {
-    let refusal = by_hand(text, keys, noise, message, working);
-    (refusal == 13) & is_painted(noise, working, 0)
-}
-
-// 13 bytes of payload and fifteen of padding, one of which is not 15.
-pub fn padding_holds(
-    i: u32,
-    keys: &[u8],
-    noise: &[u8],
-    message: &mut [u8],
-    working: &mut [u8],
-) -> bool {
-    let at = 17 + (i / 255 % 15) as usize;
-    let byte = ((16 + i % 255) % 256) as u8;
-    text_holds(plain_text(13, 15, at, byte), keys, noise, message, working)
+    42 + (i / 8 % 112) as usize
 }
 
 // Sizes that a sealed part of 32 bytes does not have. The first two would wrap.
@@ -163,112 +132,81 @@ fn told(i: u32) -> u32 {
     }
 }
 
-// Such a size, with each number that padding could have and more.
-pub fn size_holds(
-    i: u32,
-    keys: &[u8],
-    noise: &[u8],
-    message: &mut [u8],
-    working: &mut [u8],
-) -> bool {
-    let filler = (i / 6 % 32) as u8;
-    text_holds(
-        plain_text(told(i), filler, 31, filler),
-        keys,
-        noise,
-        message,
-        working,
-    )
+// A plain text of two blocks whose padding bytes are all the same.
+fn padded(told: u32, filler: u32) -> [u8; 32] {
+    let byte = (filler % 32) as u8;
+    plain_text(told, byte, 31, byte)
 }
 
-// 12 bytes of payload and sixteen of padding, where the rule gives none.
-pub fn block_holds(
-    i: u32,
-    keys: &[u8],
-    noise: &[u8],
-    message: &mut [u8],
-    working: &mut [u8],
-) -> bool {
-    let filler = (i % 32) as u8;
-    text_holds(
-        plain_text(12, filler, 31, filler),
-        keys,
-        noise,
-        message,
-        working,
-    )
+// 13 bytes of payload and fifteen of padding, one of which is not 15.
+fn one_wrong(i: u32) -> [u8; 32] {
+    let at = 17 + (i / 255 % 15) as usize;
+    plain_text(13, 15, at, ((16 + i % 255) % 256) as u8)
 }
 
-// By the rule: accepted.
-pub fn rule_holds(
-    i: u32,
-    keys: &[u8],
-    noise: &[u8],
-    message: &mut [u8],
-    working: &mut [u8],
-) -> bool {
-    let filler = (i % 16) as u8;
-    let text = plain_text(28 - i % 16, filler, 31, filler);
-    by_hand(text, keys, noise, message, working) == 0
-}
-
-// 63 key bytes, or 65 of which the first 64 are right: 10, from the reader and from the writer.
-pub fn keys_hold(
-    i: u32,
-    keys: &[u8],
-    noise: &[u8],
-    message: &mut [u8],
-    working: &mut [u8],
-) -> bool {
-    let count: usize = if i % 2 == 0 { 63 } else { 65 };
-    if noise.len() < count {
-        return false;
+// The plain texts that are sealed by hand: a padding byte wrong; a size that there is not, with each number that padding could have and more; 12
+// bytes of payload and sixteen of padding, where the rule gives none; and by the rule.
+fn text(sweep: u8, i: u32) -> [u8; 32] {
+    match sweep {
+        4 => one_wrong(i),
+        5 => padded(told(i), i / 6),
+        6 => padded(12, i),
+        _ => padded(28 - i % 16, i % 16),
     }
-    let first = writes(100, 0, keys, noise, message);
-    paint(noise, working);
-    let read = answer(message, 186, &noise[0..count], working);
-    paint(noise, message);
-    let second = writes(100, 0, &noise[0..count], noise, message);
-    (first == 0)
-        & (read == 10)
-        & is_painted(noise, working, 0)
-        & (second == 10)
-        & is_painted(noise, message, 0)
 }
 
-// A working buffer one byte shorter than the sealed part: 12; as long: accepted.
-pub fn working_holds(
+// Does to a message what its sweep is about.
+fn tamper(sweep: u8, i: u32, noise: &[u8], message: &mut [u8]) -> bool
+    requires { ⌜ (64 ≤ length (now noise)) × (106 ≤ length (now message)) ⌝ }
+{
+    match sweep {
+        2 | 3 => flip(message, place(sweep, i), bit(i)),
+        4 | 5 | 6 | 7 => encrypt(text(sweep, i), noise, message) & tag(noise, message),
+        _ => true,
+    }
+}
+
+// The payload's size.
+fn size(sweep: u8, i: u32) -> usize
+    ensures { λ r. ⌜ r ≤ 16384 ⌝ }
+{
+    match sweep {
+        2 | 3 | 8 => 100,
+        4 | 5 | 6 | 7 => 28,
+        _ => size_of(i),
+    }
+}
+
+fn chain(sweep: u8, i: u32) -> u32 {
+    if sweep == 10 { i / 10 } else { 0 }
+}
+
+// How many key bytes are given: in sweep 8 63, or 65 of which the first 64 are right.
+fn keys(sweep: u8, i: u32) -> usize
+    ensures { λ r. ⌜ r ≤ 65 ⌝ }
+{
+    if sweep != 8 {
+        return KEYS;
+    }
+    if i % 2 == 0 { 63 } else { 65 }
+}
+
+// A message is written and read. Then it is tampered with, and read and written as in the sweep.
+pub(crate) fn fault_holds(
+    sweep: u8,
     i: u32,
-    keys: &[u8],
     noise: &[u8],
     message: &mut [u8],
     working: &mut [u8],
-) -> bool {
-    let part = sealed_of(i);
-    let short = part - 1;
-    if working.len() < part {
-        return false;
-    }
-    let length = session_length(i, 0);
-    let written = writes(size_of(i), 0, keys, noise, message);
-    paint(noise, working);
-    let less = answer(message, length, keys, &mut working[0..short]);
-    let untouched = is_painted(noise, working, 0);
-    let enough = answer(message, length, keys, &mut working[0..part]);
-    (written == 0) & (less == 12) & untouched & (enough == 0) & is_painted(noise, working, part)
-}
-
-// An output one byte shorter than the message: 22; as long: written.
-pub fn output_holds(i: u32, keys: &[u8], noise: &[u8], message: &mut [u8]) -> bool {
-    let chain = i / 10;
-    let length = session_length(i, chain);
-    let short = length - 1;
-    if message.len() < length {
-        return false;
-    }
-    paint(noise, message);
-    let less = writes(size_of(i), chain, keys, noise, &mut message[0..short]);
-    let untouched = is_painted(noise, message, 0);
-    let enough = writes(size_of(i), chain, keys, noise, &mut message[0..length]);
-    (less == 22) & untouched & (enough == 0) & is_painted(noise, message, length)
+) -> bool
+    requires { ⌜ (16384 ≤ length (now noise)) × (16502 ≤ length (now message)) × (16400 ≤ length (now working)) ⌝ }
+{
+    let size = size(sweep, i);
+    let chain = chain(sweep, i);
+    let keys = keys(sweep, i);
+    writes(0, size, chain, KEYS, noise, message)
+        & reads(0, size, chain, KEYS, noise, message, working)
+        & tamper(sweep, i, noise, message)
+        & reads(sweep, size, chain, keys, noise, message, working)
+        & writes(sweep, size, chain, keys, noise, message)
 }

@@ -7,6 +7,8 @@ use crate::buffers::set;
 use aes::block::encrypt_block;
 use aes::block::load_block;
 use aes::key::expand_key;
+ghost use Prim.Native.Nat.{_+_, _≤_};
+ghost use lib.ListN.{length};
 
 // A plain text that tells a size, has one byte in all its other places, and another at one place.
 pub fn plain_text(told: u32, filler: u8, at: usize, byte: u8) -> [u8; 32] {
@@ -22,53 +24,44 @@ pub fn plain_text(told: u32, filler: u8, at: usize, byte: u8) -> [u8; 32] {
 }
 
 // SessionID, SequenceNumber, FragmentIndex and FragmentCount, joined.
-fn vector_block(m: &[u8]) -> [u8; 16] {
-    if m.len() < 40 {
-        return [0u8; 16];
-    }
-    [
-        m[24],
-        m[25],
-        m[26],
-        m[27],
-        m[28],
-        m[29],
-        m[30],
-        m[31],
-        m[8],
-        m[9],
-        m[10],
-        m[11],
-        m[20],
-        m[21],
-        m[22],
-        m[23],
-    ]
+fn join(message: &[u8], block: &mut [u8])
+    requires { ⌜ (40 ≤ length (now message)) × (16 ≤ length (now block)) ⌝ }
+{
+    bytes::copy(&message[24..32], &mut block[0..8]);
+    bytes::copy(&message[8..12], &mut block[8..12]);
+    bytes::copy(&message[20..24], &mut block[12..16]);
+}
+
+// The vector of a message.
+fn vector(keys: &[u8], message: &[u8]) -> [u8; 16]
+    requires { ⌜ (64 ≤ length (now keys)) × (106 ≤ length (now message)) ⌝ }
+{
+    let mut block = [0u8; 16];
+    join(message, &mut block);
+    encrypt_block(&round_keys(keys, 16), block)
+}
+
+// The round keys of the key at a place.
+fn round_keys(keys: &[u8], from: usize) -> [[u8; 16]; 11]
+    requires { ⌜ from + 16 ≤ length (now keys) ⌝ }
+{
+    let end = from + 16;
+    expand_key(load_block(&keys[from..end]))
 }
 
 // Puts the plain text into a message and encrypts it.
-pub fn encrypt(text: [u8; 32], keys: &[u8], message: &mut [u8]) -> bool {
-    if keys.len() != 64 {
-        return false;
-    }
-    if message.len() < 106 {
-        return false;
-    }
-    let vector_key = expand_key(load_block(&keys[16..32]));
-    let vector = encrypt_block(&vector_key, vector_block(message));
-    let round_keys = expand_key(load_block(&keys[0..16]));
+pub(crate) fn encrypt(text: [u8; 32], keys: &[u8], message: &mut [u8]) -> bool
+    requires { ⌜ (64 ≤ length (now keys)) × (106 ≤ length (now message)) ⌝ }
+{
+    let vector = vector(keys, message);
     bytes::copy(&text, &mut message[42..74]);
-    aes::cbc::cbc_encrypt_in_place(&round_keys, vector, &mut message[42..74])
+    aes::cbc::cbc_encrypt_in_place(&round_keys(keys, 0), vector, &mut message[42..74])
 }
 
 // Puts the tag behind it, which sees a MessageLength of 74.
-pub fn tag(keys: &[u8], message: &mut [u8]) -> bool {
-    if keys.len() != 64 {
-        return false;
-    }
-    if message.len() < 106 {
-        return false;
-    }
+pub(crate) fn tag(keys: &[u8], message: &mut [u8]) -> bool
+    requires { ⌜ (64 ≤ length (now keys)) × (106 ≤ length (now message)) ⌝ }
+{
     set(message, 3, 74);
     let tag = sha256::hmac(&keys[32..64], &message[0..74]);
     set(message, 3, 106);

@@ -1,5 +1,4 @@
 // Messages of each kind and size class: written, and read back.
-use crate::buffers::holds_at;
 use message::reading::MessageRead;
 use wire::header::CONNECT;
 use wire::header::DISCOVERY;
@@ -7,8 +6,12 @@ use wire::header::Header;
 use wire::header::SESSION;
 use wire::header::is_sealed;
 use wire::payload::Request;
-use wire::writer::Written;
+use writer::Written;
 ghost use Prim.Native.Nat.{_≤_};
+ghost use lib.ListN.{length};
+
+// The bytes of the keys, which are the first of the noise.
+pub const KEYS: usize = 64;
 
 // The fields of a message of a type: flag 8 or 1 beside those that say whether it is sealed.
 pub fn header_of(kind: u8, sealed: bool) -> Header {
@@ -35,6 +38,21 @@ pub fn entries_of(chain: u32) -> usize
     }
 }
 
+// Writes a message with the last of these bytes as its chain: so many, and the end.
+fn write_behind(
+    header: Header,
+    entries: usize,
+    chain: &[u8],
+    payload: &[u8],
+    keys: &[u8],
+    out: &mut [u8],
+) -> Written
+    requires { ⌜ (entries ≤ 28) × (30 ≤ length (now chain)) ⌝ }
+{
+    let from = 28 - entries;
+    message::writing::write(header, &chain[from..], payload, keys, out)
+}
+
 // Writes a message with a chain of no entry, of one, or of eight.
 pub fn write_with(
     header: Header,
@@ -43,17 +61,14 @@ pub fn write_with(
     keys: &[u8],
     out: &mut [u8],
 ) -> Written {
-    match chain % 3 {
-        0 => message::writing::write(header, b"\x00\x00", payload, keys, out),
-        1 => message::writing::write(header, b"\x01\x03abc\x00\x00", payload, keys, out),
-        _ => message::writing::write(
-            header,
-            b"\x01\x00\x02\x01a\x03\x02bc\x01\x03def\x02\x00\x03\x01g\x01\x02hi\x02\x03jkl\x00\x00",
-            payload,
-            keys,
-            out,
-        ),
-    }
+    write_behind(
+        header,
+        entries_of(chain),
+        b"\x01\x00\x02\x01a\x03\x02bc\x01\x03def\x02\x00\x03\x01g\x01\x02hi\x02\x03jkl\x00\x00",
+        payload,
+        keys,
+        out,
+    )
 }
 
 fn same_fields(a: Header, b: Header) -> bool {
@@ -87,12 +102,12 @@ fn reads_back(
             from,
             size,
         } => {
-            if sealed {
-                return same_fields(h, header)
-                    & is_sealed(h.flags)
-                    & holds_at(working, from, size, payload);
-            }
-            same_fields(h, header) & !is_sealed(h.flags) & holds_at(message, from, size, payload)
+            same_fields(h, header)
+                & (sealed == is_sealed(h.flags))
+                & check::same(
+                    message::payload::payload(message, working, sealed, from, size),
+                    payload,
+                )
         }
     }
 }
@@ -114,7 +129,9 @@ fn trip(
 }
 
 // The sizes on both sides of the padding rule's edges, and the largest.
-pub fn size_of(i: u32) -> usize {
+pub fn size_of(i: u32) -> usize
+    ensures { λ r. ⌜ r ≤ 16384 ⌝ }
+{
     match i % 10 {
         0 => 0,
         1 => 1,
@@ -129,44 +146,40 @@ pub fn size_of(i: u32) -> usize {
     }
 }
 
-// The sealed part of each of them.
-pub fn sealed_of(i: u32) -> usize
+// The sealed part of each of them, and of 100.
+pub fn sealed_of(size: usize) -> usize
     ensures { λ r. ⌜ (16 ≤ r) × (r ≤ 16400) ⌝ }
 {
-    match i % 10 {
-        0 | 1 | 2 | 3 => 16,
-        4 | 5 | 6 => 32,
-        7 => 48,
+    match size {
+        0 | 1 | 11 | 12 => 16,
+        13 | 27 | 28 => 32,
+        29 => 48,
+        100 => 112,
         _ => 16400,
     }
 }
 
 // The bytes of a Session message of a size, with a chain of a number of entries.
-pub fn session_length(i: u32, chain: u32) -> usize
+pub fn session_length(size: usize, chain: u32) -> usize
     ensures { λ r. ⌜ (90 ≤ r) × (r ≤ 16502) ⌝ }
 {
-    74 + entries_of(chain) + sealed_of(i)
+    74 + entries_of(chain) + sealed_of(size)
 }
 
 // A Session message of a size, with a chain of a number of entries.
-pub fn session_holds(
-    i: u32,
-    keys: &[u8],
-    noise: &[u8],
-    message: &mut [u8],
-    working: &mut [u8],
-) -> bool {
+pub(crate) fn session_holds(i: u32, noise: &[u8], message: &mut [u8], working: &mut [u8]) -> bool
+    requires { ⌜ 16384 ≤ length (now noise) ⌝ }
+{
     let size = size_of(i);
     let chain = i / 10;
-    if noise.len() < size {
-        return false;
-    }
+    let header = header_of(SESSION, true);
+    let length = session_length(size, chain);
     trip(
-        header_of(SESSION, true),
+        header,
         chain,
-        session_length(i, chain),
+        length,
         &noise[0..size],
-        keys,
+        &noise[0..KEYS],
         message,
         working,
     )
@@ -187,23 +200,29 @@ fn request() -> Request {
     }
 }
 
-// The payload of a Presence Request, or a Connect payload of each type; its bytes.
-fn put_payload(i: u32, out: &mut [u8]) -> usize {
+// The payload of a Presence Request, or a Connect payload of a type that goes plain; its bytes.
+fn put_plain(i: u32, out: &mut [u8]) -> usize {
     match i {
-        0 => bytes_in(wire::writer::write_presence_request(out)),
-        1 => bytes_in(wire::writer::write_connection_request(2, request(), out)),
-        2 => bytes_in(wire::writer::write_connection_response(1, 1, request(), out)),
-        3 => bytes_in(wire::writer::write_connection_response(0, 3, request(), out)),
-        4 => bytes_in(wire::writer::write_device_authentication(2, 1, b"certificate", b"", out)),
-        5 => bytes_in(wire::writer::write_device_authentication(
+        0 => bytes_in(writer::payload::write_presence_request(out)),
+        1 => bytes_in(writer::payload::write_connection_request(2, request(), out)),
+        2 => bytes_in(writer::payload::write_connection_response(1, 1, request(), out)),
+        _ => bytes_in(writer::payload::write_connection_response(0, 3, request(), out)),
+    }
+}
+
+// A Connect payload of a type that goes sealed; its bytes.
+fn put_sealed(i: u32, out: &mut [u8]) -> usize {
+    match i {
+        4 => bytes_in(writer::payload::write_device_authentication(2, 1, b"certificate", b"", out)),
+        5 => bytes_in(writer::payload::write_device_authentication(
             3,
             1,
             b"certificate",
             b"print",
             out,
         )),
-        6 => bytes_in(wire::writer::write_done_request(1, out)),
-        _ => bytes_in(wire::writer::write_done_response(1, 4, out)),
+        6 => bytes_in(writer::payload::write_done_request(1, out)),
+        _ => bytes_in(writer::payload::write_done_response(1, 4, out)),
     }
 }
 
@@ -219,8 +238,21 @@ fn length_of(i: u32, chain: u32) -> usize {
     }
 }
 
+fn put_payload(i: u32, out: &mut [u8]) -> usize {
+    if i < 4 {
+        return put_plain(i, out);
+    }
+    put_sealed(i, out)
+}
+
+fn connect_header(i: u32) -> Header {
+    header_of(if i == 0 { DISCOVERY } else { CONNECT }, 3 < i)
+}
+
 // A Presence Request or a Connect message of each type, with a chain of a number of entries.
-pub fn connect_holds(i: u32, keys: &[u8], message: &mut [u8], working: &mut [u8]) -> bool {
+pub(crate) fn connect_holds(i: u32, noise: &[u8], message: &mut [u8], working: &mut [u8]) -> bool
+    requires { ⌜ 16384 ≤ length (now noise) ⌝ }
+{
     let mut payload = [0u8; 100];
     let kind = i % 8;
     let chain = i / 8;
@@ -228,13 +260,14 @@ pub fn connect_holds(i: u32, keys: &[u8], message: &mut [u8], working: &mut [u8]
     if 100 < size {
         return false;
     }
-    let header = header_of(if kind == 0 { DISCOVERY } else { CONNECT }, 3 < kind);
+    let header = connect_header(kind);
+    let length = length_of(kind, chain);
     trip(
         header,
         chain,
-        length_of(kind, chain),
+        length,
         &payload[0..size],
-        keys,
+        &noise[0..KEYS],
         message,
         working,
     )

@@ -1,4 +1,4 @@
--- Demand 2's count: joining counts the indexes accepted, and nothing but joining touches what is remembered of them. Assumes nothing.
+-- Demand 2's count: joining counts the indexes accepted, and nothing but joining touches what is remembered of them.
 use Prim.Native.Nat.{ℕ}
 use mathlib.Core.Path.{_≡_, sym, ap}
 use mathlib.Core.List.{List, [], _∷_}
@@ -26,7 +26,7 @@ use Rattle.promises.specs.Counted.{indexIn, accepted, acceptedAll, Count
 use Rattle.promises.proofs.Ways.{first-has, heard-has, step-read}
 use Rattle.promises.proofs.ReadAgain.{read-header}
 use Rattle.joining.specs.Events.{Event}
-use Rattle.hub.specs.Calls.{Call, Place}
+use Rattle.hub.specs.Calls.{Call, Standing}
 
 -- Joining's answer as the step's.
 lifted : (h : Progress) (a : Arrival) (i : ℕ) (es : List Event) → Holds h (joining.accepted a i es) × joining.Counts a i es
@@ -65,7 +65,7 @@ module _ (c : Connection) (es : List Event) (w : Holds (c .progress) es) where
       heard-counts (be16 m 20) h (sym (ap (λ (h : Header). h .index) (read-header m keys working h s from size e)))
       (payload m (workingAfter m keys working) s from size) report v)
 
-since : (p : Place) (es : List Event) → Holds (p .connection .progress) es → (xs : List Call)
+since : (p : Standing) (es : List Event) → Holds (p .connection .progress) es → (xs : List Call)
     → Holds (afterAll p xs .connection .progress) (acceptedAll p xs es)
 since p es w [] = w
 since p es w (x ∷ xs) =

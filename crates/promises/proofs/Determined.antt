@@ -1,4 +1,4 @@
--- Two values that equal a third are equal. Assumes nothing.
+-- Two values that equal a third are equal.
 use mathlib.Core.Path.{sym, _∙_}
 use Rattle.promises.specs.Determinacy.{OneResult, OneOutcome}
 

@@ -1,4 +1,4 @@
--- The premises of `RepeatedStep` can be met: three messages, as the writer writes them, enrol a gateway. Assumes nothing.
+-- The premises of `RepeatedStep` can be met: three messages, as the writer writes them, enrol a gateway.
 use Prim.Native.Nat.{ℕ, _≤_, _<_}
 use mathlib.Core.Path.{_≡_, refl, ap, _∙_}
 use mathlib.Core.List.{List, [], _∷_, _++_}
@@ -27,7 +27,7 @@ use Rattle.promises.proofs.ReadBack.{steps-by-state}
 use Rattle.promises.proofs.Writes.{wrote}
 use Rattle.promises.proofs.Witness.{are-bytes}
 use Rattle.message.specs.Widths.{InWidth}
-use Rattle.hub.specs.Calls.{Call, Place}
+use Rattle.hub.specs.Calls.{Call, Standing}
 
 abbrev header : ℕ → Header
 header flags = record { kind = 2; flags = flags; sequence = 0; request = 0; index = 0; count = 1; session = 7; channel = 0 }
@@ -65,7 +65,7 @@ module _ (keys report : List ℕ) (of-keys : AreBytes keys) (whole : length keys
   abbrev callWith : ℕ → List ℕ → Call
   callWith flags bytes = record { message = messageBytes (header flags) end bytes keys; keys = keys; working = replicate 96 0; verdict = 1 }
 
-  abbrev at : Connection → Place
+  abbrev at : Connection → Standing
   at c = record { connection = c; report = report }
 
   -- A Connect message leaves the report buffer alone.
@@ -79,7 +79,8 @@ module _ (keys report : List ℕ) (of-keys : AreBytes keys) (whole : length keys
       → heard c (header flags) bytes report 1 ≡ stepped d (Reply t)
       → (answer (at c) (callWith flags bytes) ≡ Reply t) × (after (at c) (callWith flags bytes) ≡ at d)
   enrols c d flags bytes t z w l e =
-      let s = steps-by-state c (header flags) end bytes keys (messageBytes (header flags) end bytes keys) w (replicate 96 0) report 1 (λ o. l) (omega arith) z in
+      let s = steps-by-state c (header flags) end bytes keys (messageBytes (header flags) end bytes keys) w (replicate 96 0) report 1
+      (λ o. l) (omega arith) z in
       let p = s .0 ∙ e in
       let q = s .1 ∙ unjoined c flags bytes in
       (ap (λ (s : Stepped). s .answer) p, λ i. record { connection = p i .connection; report = q i })
@@ -122,11 +123,14 @@ module _ (keys report : List ℕ) (of-keys : AreBytes keys) (whole : length keys
     unfolding sealedSize padding
     fits = (omega arith, omega arith, omega arith)
 
-    pub enrolled : Enrolled F keys report
+    enrolled : Enrolled F keys report
     enrolled =
-        let a = wrote (header 0) end requestBytes keys (widths 0 (omega arith)) (are-bytes end refl) (are-bytes requestBytes refl) of-keys request-allowed in
-        let b = wrote (header 6) end deviceBytes keys (widths 6 (omega arith)) (are-bytes end refl) (are-bytes deviceBytes refl) of-keys device-allowed in
-        let d = wrote (header 6) end finishBytes keys (widths 6 (omega arith)) (are-bytes end refl) (are-bytes finishBytes refl) of-keys finish-allowed in
+        let a = wrote (header 0) end requestBytes keys (widths 0 (omega arith)) (are-bytes end refl)
+        (are-bytes requestBytes refl) of-keys request-allowed in
+        let b = wrote (header 6) end deviceBytes keys (widths 6 (omega arith)) (are-bytes end refl)
+        (are-bytes deviceBytes refl) of-keys device-allowed in
+        let d = wrote (header 6) end finishBytes keys (widths 6 (omega arith)) (are-bytes end refl)
+        (are-bytes finishBytes refl) of-keys finish-allowed in
         let x = callWith 0 requestBytes in
         let y = callWith 6 deviceBytes in
         let z = callWith 6 finishBytes in
@@ -138,8 +142,8 @@ module _ (keys report : List ℕ) (of-keys : AreBytes keys) (whole : length keys
           device = y;
           finish = z;
           first = p .0;
-          second = ap (λ (s : Place). answer s y) (p .1) ∙ q .0;
-          third = ap (λ (s : Place). answer (after s y) z) (p .1) ∙ ap (λ (s : Place). answer s z) (q .1) ∙ r .0;
+          second = ap (λ (s : Standing). answer s y) (p .1) ∙ q .0;
+          third = ap (λ (s : Standing). answer (after s y) z) (p .1) ∙ ap (λ (s : Standing). answer s z) (q .1) ∙ r .0;
         }
 
 pub can-enrol : CanEnrol

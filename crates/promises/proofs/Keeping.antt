@@ -1,4 +1,4 @@
--- What an enrolment step remembers is never overwritten until a step names Failure, which only a verdict of 0 makes it do. Assumes nothing.
+-- What an enrolment step remembers is never overwritten until a step names Failure, which only a verdict of 0 makes it do.
 use Prim.Native.Nat.{ℕ, _≤_}
 use mathlib.Core.Path.{_≡_, refl}
 use mathlib.Core.List.{List}
@@ -57,14 +57,16 @@ module _ (c : Connection) (low : 1 ≤ c .state) (high : c .state ≤ 3) where
           (λ e f. same-kept),
           (
             (λ e f.
-                let z = eqb-true (c .state) 1 (and-true (eqb type 2) (eqb (c .state) 1) (and-true (eqb type 2 && eqb (c .state) 1) (eqb v 1) e .0) .1) in
+                let z = eqb-true (c .state) 1 (and-true (eqb type 2) (eqb (c .state) 1)
+                (and-true (eqb type 2 && eqb (c .state) 1) (eqb v 1) e .0) .1) in
                 moved d 2 (omega arith) (omega arith) (λ l. absurd (omega arith))),
             (
               (λ e f. absurd (f refl)),
               (
                 (λ e f. same-kept),
                 (
-                  (λ e f. let z = eqb-true (c .state) 2 (and-true (eqb type 6) (eqb (c .state) 2) e .1) in moved (c .digest) 3 (omega arith) (omega arith) (λ l. refl)),
+                  (λ e f. let z = eqb-true (c .state) 2 (and-true (eqb type 6) (eqb (c .state) 2) e .1) in moved (c .digest) 3
+                      (omega arith) (omega arith) (λ l. refl)),
                   ((λ e f. same-kept), tt),
                 ),
               ),

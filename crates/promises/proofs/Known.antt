@@ -1,5 +1,4 @@
 -- What a repeat is compared with: a message that was answered with a reply is known to the connection since, and a known message gets Again.
--- Assumes nothing.
 use Prim.Native.Nat.{ℕ, _≤_}
 use mathlib.Core.Path.{_≡_, refl, sym, _∙_}
 use mathlib.Core.List.{List}

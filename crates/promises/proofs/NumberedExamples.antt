@@ -1,4 +1,4 @@
--- The numbered examples, computed. Assumes nothing.
+-- The numbered examples, computed.
 use mathlib.Core.Path.{refl}
 use Rattle.field.specs.Xor.{xor}
 use Rattle.field.specs.Field.{xtime, times, mul, square, ones, inverse}

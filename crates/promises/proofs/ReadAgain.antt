@@ -1,4 +1,4 @@
--- A message that was read is read alike with another working buffer that is long enough: only 12 looks at it. Assumes nothing.
+-- A message that was read is read alike with another working buffer that is long enough: only 12 looks at it.
 use Prim.Native.Nat.{ℕ, _≤_}
 use mathlib.Core.Path.{_≡_, refl, sym, ap, _∙_}
 use mathlib.Core.List.{List, [], _∷_}
@@ -36,7 +36,8 @@ read-none n r h s from size = by (eqb n 0) refl
     by false e q = let z : _≡_ {A = ℕ} 0 1 = cc in absurd (omega arith)
 
 -- What opens with one working buffer opens with another that is long enough.
-room-only : (keys m : List ℕ) (at room other : ℕ) → openRefusal keys m at room ≡ 0 → length (sealedPart m at) ≤ other → openRefusal keys m at other ≡ 0
+room-only : (keys m : List ℕ) (at room other : ℕ) → openRefusal keys m at room ≡ 0 → length (sealedPart m at) ≤ other
+    → openRefusal keys m at other ≡ 0
 unfolding openRefusal partRefusal
 room-only keys m at room other e l =
     let ok = accepted keys m at room e in
@@ -63,7 +64,7 @@ module _ (m keys w : List ℕ) (h : Header) (s : Bool) (from size : ℕ) (e : re
       by false q = let k = rw q at e in let z : _≡_ {A = ℕ} 0 1 = cc in absurd (omega arith)
 
   abbrev at : ℕ
-  at = start m keys
+  at = start m
 
   module _ (f : isSealed (be16 m 6) ≡ true) where
     sealed-way : (n : ℕ) → readMessage m keys n ≡ sealedRead m keys (headerOf m) at n
@@ -78,7 +79,7 @@ module _ (m keys w : List ℕ) (h : Header) (s : Bool) (from size : ℕ) (e : re
     none : (openRefusal keys m at (length w) ≡ 0) × (first ((14, badPayload (be8 m 5) true (payloadOf (opened m keys at))) ∷ []) ≡ 0)
     none = neither _ _ (inside .0)
 
-    pub sealed-again : (other : ℕ) → length (sealedPart m (start m keys)) ≤ other → readMessage m keys other ≡ Read h s from size
+    sealed-again : (other : ℕ) → length (sealedPart m (start m)) ≤ other → readMessage m keys other ≡ Read h s from size
     unfolding sealedRead
     sealed-again other l =
         let shaped = first-quiet ((14, badPayload (be8 m 5) true (payloadOf (opened m keys at))) ∷ []) refl (none .1) .0 in
@@ -89,7 +90,7 @@ module _ (m keys w : List ℕ) (h : Header) (s : Bool) (from size : ℕ) (e : re
     into = rw (read-good m good, f)
 
     -- The payload is that of the plain text, whatever the working buffer held.
-    pub sealed-payload : payload m (workingAfter m keys w) s from size ≡ payloadOf (opened m keys (start m keys))
+    sealed-payload : payload m (workingAfter m keys w) s from size ≡ payloadOf (opened m keys (start m))
     sealed-payload =
         ap (handedBy m (workingAfter m keys w)) (sym (inside .1))
         ∙ ap (λ (v : List ℕ). payload m v true 4 (be32 (opened m keys at) 0)) into
@@ -100,7 +101,7 @@ module _ (m keys w : List ℕ) (h : Header) (s : Bool) (from size : ℕ) (e : re
     unfolding readMessage
     plain-way n = rw (read-good m good, f)
 
-    pub plain-again : (other : ℕ) → readMessage m keys other ≡ Read h s from size
+    plain-again : (other : ℕ) → readMessage m keys other ≡ Read h s from size
     plain-again other = plain-way other ∙ sym (plain-way (length w)) ∙ e
 
     plainly : Read (headerOf m) false at (leaves (chainOf m)) ≡ Read h s from size
@@ -110,7 +111,7 @@ module _ (m keys w : List ℕ) (h : Header) (s : Bool) (from size : ℕ) (e : re
         (sym (plain-way (length w)) ∙ e) .1
 
     -- The payload is a part of the message.
-    pub plain-payload : (v : List ℕ) → payload m v s from size ≡ partOf m (start m keys) (leaves (chainOf m))
+    plain-payload : (v : List ℕ) → payload m v s from size ≡ partOf m (start m) (leaves (chainOf m))
     unfolding payload
     plain-payload v = ap (handedBy m v) (sym plainly)
 
@@ -127,7 +128,7 @@ read-header m keys w h s from size e = by (isSealed (be16 m 6)) refl
     by false f = ap (fieldsOf h) (plainly m keys w h s from size e f)
 
 pub read-again : (h : Header) (bytes m keys w v : List ℕ) → ReadAs h bytes m keys w
-    → (sealed m keys ≡ true → length (sealedPart m (start m keys)) ≤ length v) → ReadAs h bytes m keys v
+    → (sealed m ≡ true → length (sealedPart m (start m)) ≤ length v) → ReadAs h bytes m keys v
 read-again h bytes m keys w v r room = by (isSealed (be16 m 6)) refl
   where
     by : (t : Bool) → isSealed (be16 m 6) ≡ t → ReadAs h bytes m keys v

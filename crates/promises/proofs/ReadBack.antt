@@ -1,4 +1,4 @@
--- Demand 2's messages: what the writer's answer and output say gives message's theorems their premises. Assumes nothing.
+-- Demand 2's messages: what the writer's answer and output say gives message's theorems their premises.
 use Prim.Native.Nat.{ℕ, _+_, _≤_}
 use mathlib.Core.Path.{_≡_, refl, _∙_}
 use mathlib.Core.List.{List}
@@ -10,7 +10,7 @@ use lib.Dec.{eqb}
 use borrow.Author.Tests.{eqb-true, le-ltb}
 use Rattle.wire.specs.Fields.{isSealed}
 use Rattle.wire.specs.declared.header.Header.{Header}
-use Rattle.seal.proofs.ByteLists.{AllBytes}
+use Rattle.laws.proofs.ByteLists.{AllBytes}
 use Rattle.message.specs.Writing.{lengthOf, writeRefusal, messageBytes, writeAnswer, writtenInto}
 use Rattle.message.proofs.WrittenLengths.{length-messageBytes}
 use Rattle.message.proofs.WrittenBack.{read-plain, read-sealed}
@@ -36,7 +36,7 @@ module _ (h : Header) (chain bytes keys message : List ℕ) (w : Wrote h chain b
       by true e = let k = rw e at (w .answered) in let z : lengthOf h chain bytes ≡ w .size = cc in (eqb-true _ 0 e, z)
       by false e = let k = rw e at (w .answered) in let z : _≡_ {A = ℕ} 0 1 = cc in absurd (omega arith)
 
-  pub is-message : message ≡ messageBytes h chain bytes keys
+  is-message : message ≡ messageBytes h chain bytes keys
   unfolding writtenInto
   is-message =
       w .bytes

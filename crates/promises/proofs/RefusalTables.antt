@@ -1,5 +1,4 @@
 -- Demand 1 for reader, step and cutter: each call's refusal is the first number of its table, and laws' both directions do the rest.
--- Assumes nothing.
 use Prim.Native.Nat.{ℕ, _-_, _≤_}
 use mathlib.Core.Path.{_≡_, refl, sym, ap, _∙_}
 use mathlib.Core.List.{List}
@@ -53,18 +52,19 @@ in-turn false false false true x = refl
 in-turn false false false false x = refl
 
 module _ (m keys : List ℕ) (room : ℕ) (bytes : AreBytes m) where
-  pub header-first : first (headerTable m keys) ≡ refusalOf m
+  pub header-first : first (headerTable m) ≡ refusalOf m
   unfolding refusalOf refusalWith rowsOf headerRows
   header-first = refl
 
   pub reader-first : first (readerTable m keys room) ≡ orElse (refusalOf m) (first (openingTable m keys room))
-  reader-first = first-append (headerTable m keys) (openingTable m keys room) refl ∙ ap (λ (n : ℕ). orElse n (first (openingTable m keys room))) header-first
+  reader-first = first-append (headerTable m) (openingTable m keys room) refl
+      ∙ ap (λ (n : ℕ). orElse n (first (openingTable m keys room))) header-first
 
   -- What was read.
   abbrev pub whatIsRead : MessageRead
   whatIsRead =
-      read.Read (headerOf m) (sealed m keys) (cond (sealed m keys) 4 (start m keys))
-      (cond (sealed m keys) (be32 (opened m keys (start m keys)) 0) (leaves (chainOf m)))
+      read.Read (headerOf m) (sealed m) (cond (sealed m) 4 (start m))
+      (cond (sealed m) (be32 (opened m keys (start m)) 0) (leaves (chainOf m)))
 
   module _ (z : refusalOf m ≡ 0) where
     g : wire.Good m
@@ -74,27 +74,28 @@ module _ (m keys : List ℕ) (room : ℕ) (bytes : AreBytes m) where
     short = omega (arith, g .size, bytes 2, bytes 3)
 
     -- What seal tests for itself never applies to what passed 1 to 9.
-    pub part-there : isSealed (be16 m 6) ≡ true → noPart (length m) (start m keys) ≡ 0
+    pub part-there : isSealed (be16 m 6) ≡ true → noPart (length m) (start m) ≡ 0
     unfolding noPart
     part-there s =
-        let w = wire.read-sound m (headerOf m) (start m keys) (leaves (chainOf m)) (read-good m z) in
+        let w = wire.read-sound m (headerOf m) (start m) (leaves (chainOf m)) (read-good m z) in
         let b = g .blocks s in
         let t = wire.sealed-tag (be16 m 6) s in
         let l = g .long in
         let k = w .spans in
-        let q : length m - 32 - start m keys ≡ leaves (chainOf m) = omega arith in
-        rw (le-ltb (length m) 42 l, le-ltb 65535 (length m) short, lt-leb (length m - 32) (start m keys) (omega arith), q, b .0)
+        let q : length m - 32 - start m ≡ leaves (chainOf m) = omega arith in
+        rw (le-ltb (length m) 42 l, le-ltb 65535 (length m) short, lt-leb (length m - 32) (start m) (omega arith), q, b .0)
 
     sealed-way : isSealed (be16 m 6) ≡ true
-        → sealedRead m keys (headerOf m) (start m keys) room ≡ unless (first (openingTable m keys room)) whatIsRead
+        → sealedRead m keys (headerOf m) (start m) room ≡ unless (first (openingTable m keys room)) whatIsRead
     unfolding sealedRead openRefusal partRefusal
     sealed-way s =
         rw (part-there s, s)
-        (ap (λ (n : ℕ). unless n (read.Read (headerOf m) true 4 (be32 (opened m keys (start m keys)) 0)))
-        (in-turn (not (eqb (length keys) 64)) (not (same (tagOf keys (bodyOf m)) (tagIn m))) (ltb room (length (sealedPart m (start m keys))))
-        (badPlain (opened m keys (start m keys))) _))
+        (ap (λ (n : ℕ). unless n (read.Read (headerOf m) true 4 (be32 (opened m keys (start m)) 0)))
+        (in-turn (not (eqb (length keys) 64)) (not (same (tagOf keys (bodyOf m)) (tagIn m))) (ltb room (length (sealedPart m (start m))))
+        (badPlain (opened m keys (start m))) _))
 
-    plain-way : isSealed (be16 m 6) ≡ false → plainRead m (headerOf m) (start m keys) (leaves (chainOf m)) ≡ unless (first (openingTable m keys room)) whatIsRead
+    plain-way : isSealed (be16 m 6) ≡ false → plainRead m (headerOf m) (start m) (leaves (chainOf m))
+        ≡ unless (first (openingTable m keys room)) whatIsRead
     unfolding plainRead
     plain-way s = rw s
 

@@ -1,4 +1,4 @@
--- Demand 2's conversation: the message of an enrolment step is known until a Failure, and is read again as it was. Assumes nothing.
+-- Demand 2's conversation: the message of an enrolment step is known until a Failure, and is read again as it was.
 use Prim.Native.Nat.{ℕ, _≤_}
 use mathlib.Core.Path.{_≡_, refl, sym, ap, _∙_}
 use mathlib.Core.List.{List, [], _∷_}
@@ -26,7 +26,7 @@ use Rattle.promises.proofs.ReadBack.{step-hears}
 use Rattle.promises.proofs.ReadAgain.{read-again}
 use Rattle.promises.proofs.Keeping.{step-kept}
 use Rattle.promises.proofs.Known.{Known, still-known, again, heard-replied}
-use Rattle.hub.specs.Calls.{Call, Place}
+use Rattle.hub.specs.Calls.{Call, Standing}
 
 -- A step that answered with a reply had a fragment size, a verdict and a message that was read.
 pub record Heard (c : Connection) (m keys w : List ℕ) (v : ℕ) : Type 0 where
@@ -53,7 +53,7 @@ replied-heard c m keys w report v t e = by (ltb 1 v) (badSize (c .size)) (readMe
           reads = record { sealed = s; from = from; size = size; reads = k; handed = refl };
         }
 
-known-since : (h : Header) (bytes : List ℕ) (t : ℕ) (p : Place) → Known (p .connection) h bytes t → (xs : List Call) → NoFailure p xs
+known-since : (h : Header) (bytes : List ℕ) (t : ℕ) (p : Standing) → Known (p .connection) h bytes t → (xs : List Call) → NoFailure p xs
     → Known (afterAll p xs .connection) h bytes t
 known-since h bytes t p w [] n = w
 known-since h bytes t p w (x ∷ xs) n =

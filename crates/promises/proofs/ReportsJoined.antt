@@ -1,4 +1,4 @@
--- Demand 3: the step is the machine over which joining proved it for any number of pieces. Assumes nothing.
+-- Demand 3: the step is the machine over which joining proved it for any number of pieces.
 use Prim.Native.Nat.{ℕ, _*_, _<_}
 use mathlib.Core.Path.{_≡_, refl, sym, ap, _∙_}
 use mathlib.Core.List.{List, [], _∷_}
@@ -21,7 +21,7 @@ use Rattle.hub.proofs.Layer.{Brings, hub}
 use Rattle.promises.specs.Reports.{after, answer, afterAll, Sending, began, fragments, Fair, fragment, headerFor, Sent, Course, done, brings, rests, OnlyWhatCame, HandedOut, Brought, DemandThree, NotBetween}
 use Rattle.promises.proofs.ReadBack.{reads-back}
 use Rattle.joining.specs.Events.{Event, piece, LastMissing}
-use Rattle.hub.specs.Calls.{Call, Place}
+use Rattle.hub.specs.Calls.{Call, Standing}
 
 -- What the cutter does not refuse at piece 0 it refuses at no piece under the count.
 module _ (F L : ℕ) (e : cutRefusal F L 0 ≡ 0) where
@@ -56,7 +56,7 @@ module _ (s : Sending) (f : Fair s) where
         buffer = s .buffer;
       }
 
-  pub start-fair : coming.Fair start
+  start-fair : coming.Fair start
   start-fair =
       let k = cuttable (s .connection .size) (length (s .report)) 0 (f .cut) in
       record { small = k .small; cut = k .cut; number = f .number; fresh = f .unheard; room = f .room }
@@ -83,12 +83,12 @@ module _ (s : Sending) (f : Fair s) where
         payload = rw (o .keys) (r .handed ∙ rw (each-cut (s .connection .size) (length (s .report)) (f .cut) i l));
       }
 
-  course : {p : Place} {xs : List Call} {es : List Event} → Course s p xs es → joining.Course start machine p xs es
+  course : {p : Standing} {xs : List Call} {es : List Event} → Course s p xs es → joining.Course start machine p xs es
   course done = joining.end
   course (brings {x = x} {i = i} l o r) = joining.brings l (sent-brings i l x o) (course r)
   course (rests q r) = joining.rests q (course r)
 
-  finally : (p : Place) (xs : List Call) → final machine p xs ≡ afterAll p xs
+  finally : (p : Standing) (xs : List Call) → final machine p xs ≡ afterAll p xs
   finally p [] = refl
   finally p (x ∷ xs) = finally (after p x) xs
 
@@ -107,17 +107,17 @@ module _ (s : Sending) (f : Fair s) where
     at-the-last-missing : LastMissing (fragments s) i es → HandedOut s xs es i x
     at-the-last-missing d =
         let a = as-sent start start-fair machine (course r) i l x b d in
-        let n = sym (ap (λ (p : Place). after p x) answers) ∙ a .1 in
+        let n = sym (ap (λ (p : Standing). after p x) answers) ∙ a .1 in
         record {
-          answered = sym (ap (λ (p : Place). answer p x) answers) ∙ handed-out start start-fair machine (course r) i l x b d;
-          whole = ap (λ (p : Place). take (length (s .report)) (p .report)) n ∙ a .2;
-          long = ap (λ (p : Place). length (p .report)) n ∙ a .3;
-          next = ap (λ (p : Place). p .connection) n;
+          answered = sym (ap (λ (p : Standing). answer p x) answers) ∙ handed-out start start-fair machine (course r) i l x b d;
+          whole = ap (λ (p : Standing). take (length (s .report)) (p .report)) n ∙ a .2;
+          long = ap (λ (p : Standing). length (p .report)) n ∙ a .3;
+          next = ap (λ (p : Standing). p .connection) n;
         }
 
     pub brought : Brought s xs es i x
     brought =
-        let z = sym (ap (λ (p : Place). answer p x) answers) in
+        let z = sym (ap (λ (p : Standing). answer p x) answers) in
         record {
           last = at-the-last-missing;
           no-other = λ d. at-no-other start start-fair machine (course r) i l x b (ap isComplete (sym z) ∙ d);

@@ -1,4 +1,4 @@
--- Demand 1 for the step: its table is that of 25 and 24, the reader's, and the host's. Assumes nothing.
+-- Demand 1 for the step: its table is that of 25 and 24, the reader's, and the host's.
 use Prim.Native.Nat.{ℕ, _+_, _*_}
 use mathlib.Core.Path.{_≡_, refl, sym, ap, _∙_}
 use mathlib.Core.List.{List, [], _∷_, _++_}
@@ -26,6 +26,7 @@ use Rattle.hub.specs.declared.Stepped.{Stepped}
 use Rattle.hub.specs.declared.Answer.{Answer}
 use Rattle.hub.specs.declared.Answer.the-variants.{Refused, Reply, Again, Failure, Taken, Repeat, Complete}
 use Rattle.hub.specs.Answers.{valuesOf, answerOf, isQuiet}
+use Rattle.hub.proofs.Quiet.{connect-apart}
 use Rattle.hub.specs.Host.{hostRows, firstRow, host, refuse}
 use Rattle.hub.specs.Hear.{certificate, connect, pieceIn, joined, isForeign, joins, heard}
 use Rattle.hub.specs.Step.{afterRead, step}
@@ -42,7 +43,8 @@ abbrev Loud : List (Bool × Stepped) → Type 0
 Loud [] = Unit {0}
 Loud (row ∷ rows) = (number (row .1) ≡ 0) × Loud rows
 
-loud-row : (t : Bool) (s r : Stepped) (n : ℕ) (u : Bool) → number s ≡ 0 → number r ≡ cond u 0 n → number (cond {A = Stepped} t s r) ≡ cond (t || u) 0 n
+loud-row : (t : Bool) (s r : Stepped) (n : ℕ) (u : Bool) → number s ≡ 0 → number r ≡ cond u 0 n
+    → number (cond {A = Stepped} t s r) ≡ cond (t || u) 0 n
 loud-row true s r n u e d = e
 loud-row false s r n u e d = d
 
@@ -57,11 +59,12 @@ module _ (c : Connection) (F : ℕ) (held : Progress) (p : Piece) (bytes report 
   taken-number true x y e d = e
   taken-number false x y e d = d
 
-  pub join-number : number (joined c (join F held p bytes report)) ≡ joinRefusal F held p bytes report
+  join-number : number (joined c (join F held p bytes report)) ≡ joinRefusal F held p bytes report
   unfolding join
   join-number = by (eqb (joinRefusal F held p bytes report) 0) refl
     where
-      by : (t : Bool) → eqb (joinRefusal F held p bytes report) 0 ≡ t → number (joined c (join F held p bytes report)) ≡ joinRefusal F held p bytes report
+      by : (t : Bool) → eqb (joinRefusal F held p bytes report) 0 ≡ t → number (joined c (join F held p bytes report))
+          ≡ joinRefusal F held p bytes report
       by true e =
           rw e
           (taken-number (has (held .heard) (p .index)) _ (taken F held p (length bytes)) refl (taken-number (completes held p) _ _ refl refl)
@@ -85,7 +88,8 @@ ways false true j e t19 t17 t18 t21 t20 t22 t23 a b d o p q r s x = rw (x refl) 
 ways false false true e t19 t17 t18 t21 t20 t22 t23 a b d o p q r s x = r refl
 ways false false false e t19 t17 t18 t21 t20 t22 t23 a b d o p q r s x = s
 
-module _ (c : Connection) (h : Header) (p b : List ℕ) (v : ℕ) (sized : badSize (c .size) ≡ false) (indexed : badIndex (h .count) (h .index) ≡ false) where
+module _ (c : Connection) (h : Header) (p b : List ℕ) (v : ℕ) (sized : badSize (c .size) ≡ false)
+    (indexed : badIndex (h .count) (h .index) ≡ false) where
   connect-number : number (connect c (h .session) p v)
       ≡ cond (anyOf (hostRows c (connectType p) (h .session) (readRequest p) (digest (certificate p)) v)) 0 15
   unfolding connect host
@@ -101,13 +105,10 @@ module _ (c : Connection) (h : Header) (p b : List ℕ) (v : ℕ) (sized : badSi
   unfolding joinRefusal
   session-number = join-number c (c .size) (c .progress) (pieceIn h) p b ∙ rw (sized, indexed)
 
-  apart : eqb (h .kind) 2 ≡ true → joins c h ≡ false
-  apart e = rw (eqb-true (h .kind) 2 e)
-
-  pub heard-number : number (heard c h p b v) ≡ first (hostTable c h p b v)
+  heard-number : number (heard c h p b v) ≡ first (hostTable c h p b v)
   unfolding heard
   heard-number =
-      ways (isForeign c h) (eqb (h .kind) 2) (joins c h) _ _ _ _ _ _ _ _ _ _ _ _ refl connect-number (λ j. session-number) refl apart
+      ways (isForeign c h) (eqb (h .kind) 2) (joins c h) _ _ _ _ _ _ _ _ _ _ _ _ refl connect-number (λ j. session-number) refl (connect-apart c h)
 
 module _ (c : Connection) (m keys working report : List ℕ) (v : ℕ) where
   step-ways : (t z : Bool) (r : Stepped) (rows : List (ℕ × Bool)) → ltb 1 v ≡ t → badSize (c .size) ≡ z
@@ -132,19 +133,23 @@ module _ (c : Connection) (m keys working report : List ℕ) (v : ℕ) where
     read-number = rw (read-by-table m keys (length working) bytes) (by (eqb (first (readerTable m keys (length working))) 0) refl)
       where
         by : (t : Bool) → eqb (first (readerTable m keys (length working))) 0 ≡ t
-            → number (afterRead c m (workingAfter m keys working) report v (unless (first (readerTable m keys (length working))) (whatIsRead m keys (length working) bytes)))
+            → number (afterRead c m (workingAfter m keys working) report v
+            (unless (first (readerTable m keys (length working))) (whatIsRead m keys (length working) bytes)))
             ≡ orElse (first (readerTable m keys (length working))) (first (hostTable c (headerOf m) (handed c m keys working report v) report v))
         by true e =
             rw e
             (heard-number c (headerOf m) (handed c m keys working report v) report v sized
-            (indexed (or-zero (refusalOf m) (first (openingTable m keys (length working))) (eqb (refusalOf m) 0) refl (ap (λ (n : ℕ). eqb n 0) (sym (reader-first m keys (length working) bytes)) ∙ e))))
+            (indexed (or-zero (refusalOf m) (first (openingTable m keys (length working))) (eqb (refusalOf m) 0) refl
+            (ap (λ (n : ℕ). eqb n 0) (sym (reader-first m keys (length working) bytes)) ∙ e))))
         by false e = rw e
 
-  pub step-number : AreBytes m → number (step c m keys working report v) ≡ first (stepTable c m keys working report v)
+  step-number : AreBytes m → number (step c m keys working report v) ≡ first (stepTable c m keys working report v)
   unfolding step
   step-number bytes =
-      step-ways (ltb 1 v) (badSize (c .size)) _ (readerTable m keys (length working) ++ hostTable c (headerOf m) (handed c m keys working report v) report v) refl refl
-      (λ z. read-number bytes z ∙ sym (first-append (readerTable m keys (length working)) (hostTable c (headerOf m) (handed c m keys working report v) report v) refl))
+      step-ways (ltb 1 v) (badSize (c .size)) _ (readerTable m keys (length working)
+      ++ hostTable c (headerOf m) (handed c m keys working report v) report v) refl refl
+      (λ z. read-number bytes z ∙ sym (first-append (readerTable m keys (length working))
+      (hostTable c (headerOf m) (handed c m keys working report v) report v) refl))
 
   refused-is : (a : Answer) (n : ℕ) → (n ≡ 0 → ⊥) → valuesOf a .refusal ≡ n → a ≡ Refused n
   refused-is (Refused k) n z e = ap Refused e

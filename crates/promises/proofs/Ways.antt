@@ -1,4 +1,4 @@
--- A property of what a step answers and leaves, shown by the ways through a step. Assumes nothing.
+-- A property of what a step answers and leaves, shown by the ways through a step.
 use Prim.Native.Nat.{ℕ}
 use mathlib.Core.Path.{_≡_, refl}
 use mathlib.Core.List.{List, [], _∷_}
@@ -39,7 +39,8 @@ module _ (c : Connection) (G : Stepped → Type 0) (refused : (n : ℕ) → G (r
   heard-has h p report v k j = by (isForeign c h) refl
     where
       by : (f : Bool) → isForeign c h ≡ f
-          → G (cond {A = Stepped} f (refuse c 16) (cond {A = Stepped} (eqb (h .kind) 2) (connect c (h .session) p v) (cond {A = Stepped} (joins c h) (joined c (join (c .size) (c .progress) (pieceIn h) p report)) (refuse c 15))))
+          → G (cond {A = Stepped} f (refuse c 16) (cond {A = Stepped} (eqb (h .kind) 2) (connect c (h .session) p v)
+          (cond {A = Stepped} (joins c h) (joined c (join (c .size) (c .progress) (pieceIn h) p report)) (refuse c 15))))
       by true e = refused 16
       by false e = row (eqb (h .kind) 2) _ _ (λ t. k e t) (row (joins c h) _ _ (λ t. j) (refused 15))
 

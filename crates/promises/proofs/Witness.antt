@@ -1,5 +1,5 @@
 -- The premises of demand 3 can be met: a Ready connection of fragment size 4, and a report of ten bytes that comes in five calls, its three
--- fragments in another order, one of them twice, and something between. Assumes nothing.
+-- fragments in another order, one of them twice, and something between.
 use Prim.Native.Nat.{ℕ, zero, suc, _≤_, _<_}
 use mathlib.Core.Path.{_≡_, refl}
 use mathlib.Core.List.{List, [], _∷_}
@@ -14,7 +14,7 @@ use Rattle.wire.specs.Chain.{entryOf, chain, mostEntries, readChain, badChain}
 use Rattle.wire.specs.Reader.{headerRows, rowsOf, refusalWith, refusalOf, readHeader}
 use Rattle.message.specs.Reading.{readMessage}
 use Rattle.seal.specs.Padding.{padding, sealedSize}
-use Rattle.seal.proofs.ByteLists.{AllBytes, nil-bytes, cons-bytes}
+use Rattle.laws.proofs.ByteLists.{AllBytes, nil-bytes, cons-bytes}
 use Rattle.joining.specs.Join.{expecting}
 use Rattle.joining.specs.Cut.{badSize, cutRefusal}
 use Rattle.hub.specs.declared.Connection.{Connection}
@@ -28,7 +28,7 @@ use Rattle.promises.specs.Met.{Typed, Choice, Good, callFor}
 use Rattle.promises.proofs.ReportsJoined.{demand-three}
 use Rattle.promises.proofs.Writes.{can-be-sent}
 use Rattle.joining.specs.Events.{Event, piece, between, came, LastMissing}
-use Rattle.hub.specs.Calls.{Call, Place}
+use Rattle.hub.specs.Calls.{Call, Standing}
 
 -- A list whose elements are tested to be bytes.
 abbrev below : List ℕ → Bool
@@ -55,14 +55,14 @@ ready =
       progress = expecting 5;
     }
 
-abbrev pub tenBytes : Sending
+abbrev tenBytes : Sending
 tenBytes = record { connection = ready; buffer = replicate 16 0; keys = replicate 64 0; channel = 1; report = replicate 10 1 }
 
-pub ten-bytes-fair : Fair tenBytes
+ten-bytes-fair : Fair tenBytes
 unfolding cutRefusal mostPieces
 ten-bytes-fair = record { ready = refl; unheard = refl; number = omega arith; cut = refl; room = omega arith }
 
-pub ten-bytes-typed : Typed tenBytes
+ten-bytes-typed : Typed tenBytes
 ten-bytes-typed =
     record {
       session = omega arith;
@@ -83,7 +83,7 @@ sixteen (suc zero) l = omega arith
 sixteen (suc (suc zero)) l = omega arith
 sixteen (suc (suc (suc i))) l = absurd (omega arith)
 
-pub choice-good : Good tenBytes choice
+choice-good : Good tenBytes choice
 unfolding badChain readChain mostEntries chain entryOf
 choice-good =
     record {
@@ -102,7 +102,7 @@ refused : (c : Connection) (t : Bool) → isQuiet (cond {A = Stepped} t (refuse 
 refused c true = refl
 refused c false = refl
 
-nothing-refused : (p : Place) → isQuiet (answer p nothing) ≡ true
+nothing-refused : (p : Standing) → isQuiet (answer p nothing) ≡ true
 unfolding step readMessage readHeader refusalOf refusalWith rowsOf headerRows
 nothing-refused p = refused (p .connection) (badSize (p .connection .size))
 
@@ -116,7 +116,7 @@ brought = piece 2 ∷ between ∷ piece 0 ∷ piece 2 ∷ []
 sent : (i : ℕ) → i < 3 → Sent tenBytes i (callFor tenBytes i choice)
 sent i l = can-be-sent tenBytes ten-bytes-fair ten-bytes-typed i l choice choice-good
 
-pub ten-bytes-course : Course tenBytes (began tenBytes) before brought
+ten-bytes-course : Course tenBytes (began tenBytes) before brought
 ten-bytes-course =
     brings {i = 2} (omega arith) (sent 2 (omega arith))
     (rests (nothing-refused _) (brings {i = 0} (omega arith) (sent 0 (omega arith)) (brings {i = 2} (omega arith) (sent 2 (omega arith)) done)))

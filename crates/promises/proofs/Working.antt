@@ -1,4 +1,4 @@
--- The working buffer's rule: it changes exactly where a sealed message got past 13. Assumes nothing.
+-- The working buffer's rule: it changes exactly where a sealed message got past 13.
 use Prim.Native.Nat.{ℕ}
 use mathlib.Core.Path.{_≡_, refl, sym, ap, _∙_}
 use mathlib.Core.List.{List, [], _∷_, _++_}
@@ -20,7 +20,7 @@ use Rattle.message.specs.Reading.{opened, workingAfter}
 use Rattle.joining.specs.Cut.{badSize}
 use Rattle.hub.specs.declared.Connection.{Connection}
 use Rattle.hub.specs.Step.{unready, workingStepped}
-use Rattle.promises.specs.Refusals.{AreBytes, sealed, start, headerTable, untouchedTable, WorkingRule, WorkingBuffer}
+use Rattle.promises.specs.Refusals.{AreBytes, sealed, start, headerTable, sealedTable, untouchedTable, WorkingRule, WorkingBuffer}
 use Rattle.promises.proofs.RefusalTables.{header-first, part-there}
 
 -- Rows of 10 to 13, as one table and as two in turn.
@@ -30,21 +30,13 @@ in-turn false true c d = refl
 in-turn false false c d = refl
 
 module _ (c : Connection) (m keys working report : List ℕ) (v : ℕ) (bytes : AreBytes m) where
-  -- The rows 10 to 13.
-  abbrev opening : List (ℕ × Bool)
-  opening =
-      (10, sealed m keys && not (eqb (length keys) 64))
-      ∷ (11, sealed m keys && not (same (tagOf keys (bodyOf m)) (tagIn m)))
-      ∷ (12, sealed m keys && ltb (length working) (length (sealedPart m (start m keys))))
-      ∷ (13, sealed m keys && badPlain (opened m keys (start m keys)))
-      ∷ []
-
-  sealed-first : refusalOf m ≡ 0 → isSealed (be16 m 6) ≡ true → openRefusal keys m (start m keys) (length working) ≡ first opening
+  sealed-first : refusalOf m ≡ 0 → isSealed (be16 m 6) ≡ true → openRefusal keys m (start m) (length working)
+      ≡ first (sealedTable m keys (length working))
   unfolding openRefusal partRefusal
   sealed-first z s =
       rw (part-there m keys (length working) bytes z s, s)
-      (in-turn (not (eqb (length keys) 64)) (not (same (tagOf keys (bodyOf m)) (tagIn m))) (ltb (length working) (length (sealedPart m (start m keys))))
-      (badPlain (opened m keys (start m keys))))
+      (in-turn (not (eqb (length keys) 64)) (not (same (tagOf keys (bodyOf m)) (tagIn m))) (ltb (length working) (length (sealedPart m (start m))))
+      (badPlain (opened m keys (start m))))
 
   -- What a message leaves, by its seal and by the first row that applies.
   after-plain : isSealed (be16 m 6) ≡ false → workingAfter m keys working ≡ working
@@ -60,14 +52,15 @@ module _ (c : Connection) (m keys working report : List ℕ) (v : ℕ) (bytes : 
   after-refused n = rw (ne-eqb (refusalOf m) 0 n)
 
   after-sealed : refusalOf m ≡ 0 → isSealed (be16 m 6) ≡ true
-      → workingAfter m keys working ≡ intoUnless (first opening) (opened m keys (start m keys)) working
+      → workingAfter m keys working ≡ intoUnless (first (sealedTable m keys (length working))) (opened m keys (start m)) working
   unfolding workingAfter openedInto
   after-sealed z s =
-      rw (read-good m z, s) (ap (λ (n : ℕ). intoUnless n (opened m keys (start m keys)) working) (rw s at (sealed-first z s)))
+      rw (read-good m z, s) (ap (λ (n : ℕ). intoUnless n (opened m keys (start m)) working) (rw s at (sealed-first z s)))
 
-  rows-first : first (headerTable m keys ++ opening) ≡ orElse (refusalOf m) (first opening)
+  rows-first : first (headerTable m ++ sealedTable m keys (length working)) ≡ orElse (refusalOf m) (first (sealedTable m keys (length working)))
   rows-first =
-      first-append (headerTable m keys) opening refl ∙ ap (λ (n : ℕ). orElse n (first opening)) (header-first m keys (length working) bytes)
+      first-append (headerTable m) (sealedTable m keys (length working)) refl
+      ∙ ap (λ (n : ℕ). orElse n (first (sealedTable m keys (length working)))) (header-first m keys (length working) bytes)
 
   into-none : (n : ℕ) → (n ≡ 0 → ⊥) → (plain : List ℕ) → intoUnless n plain working ≡ working
   unfolding intoUnless
@@ -77,17 +70,17 @@ module _ (c : Connection) (m keys working report : List ℕ) (v : ℕ) (bytes : 
   unfolding intoUnless
   into-some n z plain = rw z
 
-  untouched : (n : ℕ) → (n ≡ 0 → ⊥) → orElse (refusalOf m) (first opening) ≡ n → workingAfter m keys working ≡ working
+  untouched : (n : ℕ) → (n ≡ 0 → ⊥) → orElse (refusalOf m) (first (sealedTable m keys (length working))) ≡ n → workingAfter m keys working ≡ working
   untouched n z e = by (eqb (refusalOf m) 0) (isSealed (be16 m 6)) refl refl
     where
       by : (t u : Bool) → eqb (refusalOf m) 0 ≡ t → isSealed (be16 m 6) ≡ u → workingAfter m keys working ≡ working
       by false u p q = after-refused (eqb-false (refusalOf m) 0 p)
       by true false p q = after-plain q
       by true true p q =
-          let k : first opening ≡ n = rw p at e in
-          after-sealed (eqb-true (refusalOf m) 0 p) q ∙ into-none (first opening) (λ o. z (sym k ∙ o)) _
+          let k : first (sealedTable m keys (length working)) ≡ n = rw p at e in
+          after-sealed (eqb-true (refusalOf m) 0 p) q ∙ into-none (first (sealedTable m keys (length working))) (λ o. z (sym k ∙ o)) _
 
-  ends : (t z : Bool) (n : ℕ) → (n ≡ 0 → ⊥) → first ((25, t) ∷ (24, z) ∷ (headerTable m keys ++ opening)) ≡ n
+  ends : (t z : Bool) (n : ℕ) → (n ≡ 0 → ⊥) → first ((25, t) ∷ (24, z) ∷ (headerTable m ++ sealedTable m keys (length working))) ≡ n
       → cond (t || z) working (workingAfter m keys working) ≡ working
   ends true z n w e = refl
   ends false true n w e = refl
@@ -97,10 +90,11 @@ module _ (c : Connection) (m keys working report : List ℕ) (v : ℕ) (bytes : 
   plainly true s = refl
   plainly false s = after-plain s
 
-  none-applies : orElse (refusalOf m) (first opening) ≡ 0 → (refusalOf m ≡ 0) × (first opening ≡ 0)
+  none-applies : orElse (refusalOf m) (first (sealedTable m keys (length working))) ≡ 0 → (refusalOf m ≡ 0)
+      × (first (sealedTable m keys (length working)) ≡ 0)
   none-applies e = by (eqb (refusalOf m) 0) refl
     where
-      by : (t : Bool) → eqb (refusalOf m) 0 ≡ t → (refusalOf m ≡ 0) × (first opening ≡ 0)
+      by : (t : Bool) → eqb (refusalOf m) 0 ≡ t → (refusalOf m ≡ 0) × (first (sealedTable m keys (length working)) ≡ 0)
       by true p = (eqb-true (refusalOf m) 0 p, rw p at e)
       by false p = absurd (eqb-false (refusalOf m) 0 p (rw p at e))
 
@@ -111,8 +105,8 @@ module _ (c : Connection) (m keys working report : List ℕ) (v : ℕ) (bytes : 
         refused = λ n z l. ends (ltb 1 v) (badSize (c .size)) n z (leads-first n (untouchedTable c m keys working report v) l);
         plain = λ s. plainly (unready c v) s;
         past = λ q s.
-            let k = none-applies (sym rows-first ∙ quiet-first (headerTable m keys ++ opening) (q .1 .1)) in
-            rw (q .0, q .1 .0) (after-sealed (k .0) s ∙ into-some (first opening) (k .1) (opened m keys (start m keys)));
+            let k = none-applies (sym rows-first ∙ quiet-first (headerTable m ++ sealedTable m keys (length working)) (q .1 .1)) in
+            rw (q .0, q .1 .0) (after-sealed (k .0) s ∙ into-some (first (sealedTable m keys (length working))) (k .1) (opened m keys (start m)));
       }
 
 pub working-buffer : (c : Connection) (m keys working report : List ℕ) (v : ℕ) → WorkingBuffer c m keys working report v

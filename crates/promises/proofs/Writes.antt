@@ -1,4 +1,4 @@
--- What the writer does not refuse it writes; and every fragment of a report is of that kind. Assumes nothing.
+-- What the writer does not refuse it writes; and every fragment of a report is of that kind.
 use Prim.Native.Nat.{ℕ, _+_, _*_, _≤_, _<_}
 use mathlib.Core.Path.{_≡_, refl, sym}
 use mathlib.Core.List.{List, [], _∷_}
@@ -11,8 +11,8 @@ use Rattle.laws.proofs.Firsts.{quiet-first}
 use Rattle.wire.specs.Fields.{badKind, badFlags, badPiece, isSealed, mostPieces}
 use Rattle.wire.specs.Payload.{badPayload}
 use Rattle.wire.specs.declared.header.Header.{Header}
-use Rattle.wire.specs.declared.writer.Written.the-variants.{Bytes}
-use Rattle.seal.proofs.ByteLists.{take-bytes, drop-bytes}
+use Rattle.writer.specs.declared.Written.the-variants.{Bytes}
+use Rattle.laws.proofs.ByteLists.{take-bytes, drop-bytes}
 use Rattle.message.specs.Writing.{lengthOf, writeRows, writeRefusal, messageBytes, writeAnswer, writtenInto}
 use Rattle.message.proofs.WrittenLengths.{length-messageBytes}
 use Rattle.joining.specs.Heard.{most, bit}
@@ -28,7 +28,8 @@ use Rattle.promises.proofs.ReportsJoined.{each-cut, each-count}
 use Rattle.message.specs.Widths.{InWidth}
 
 -- A call of the writer with an output that is just long enough.
-module _ (h : Header) (chain bytes keys : List ℕ) (widths : InWidth h) (of-chain : AreBytes chain) (of-bytes : AreBytes bytes) (of-keys : AreBytes keys)
+module _ (h : Header) (chain bytes keys : List ℕ) (widths : InWidth h) (of-chain : AreBytes chain) (of-bytes : AreBytes bytes)
+    (of-keys : AreBytes keys)
     (good : writeRefusal h chain bytes (length keys) (lengthOf h chain bytes) ≡ 0) where
   abbrev output : List ℕ
   output = replicate (lengthOf h chain bytes) 0
@@ -44,7 +45,8 @@ module _ (h : Header) (chain bytes keys : List ℕ) (widths : InWidth h) (of-cha
   unfolding writtenInto
   written =
       rw passed
-      (sym (take-at (messageBytes h chain bytes keys) (drop (lengthOf h chain bytes) output) (lengthOf h chain bytes) (length-messageBytes h chain bytes keys)))
+      (sym (take-at (messageBytes h chain bytes keys) (drop (lengthOf h chain bytes) output) (lengthOf h chain bytes)
+      (length-messageBytes h chain bytes keys)))
 
   pub wrote : Wrote h chain bytes keys (messageBytes h chain bytes keys)
   wrote =
@@ -165,6 +167,7 @@ module _ (s : Sending) (f : Fair s) (t : Typed s) (i : ℕ) (l : i < fragments s
 pub can-be-sent : (s : Sending) → CanBeSent s
 can-be-sent s f t i l d g = sent s f t i l d g
 
-pub any-order : (s : Sending) → AnyOrder s
+any-order : (s : Sending) → AnyOrder s
 any-order s f t [] g p = done
-any-order s f t (d ∷ ds) g p = brings (g .0 .0) (sent s f t (d .0) (g .0 .0) (d .1) (g .0 .1)) (any-order s f t ds (g .1) (after p (callFor s (d .0) (d .1))))
+any-order s f t (d ∷ ds) g p = brings (g .0 .0) (sent s f t (d .0) (g .0 .0) (d .1) (g .0 .1))
+    (any-order s f t ds (g .1) (after p (callFor s (d .0) (d .1))))

@@ -10,7 +10,7 @@ use Rattle.hub.specs.declared.Answer.{Answer}
 use Rattle.hub.specs.declared.Answer.the-variants.{Refused, Reply, Again, Failure, Taken, Repeat, Complete}
 use Rattle.promises.specs.Reports.{after, answer, afterAll}
 use Rattle.joining.specs.Events.{Event, piece, came, howMany}
-use Rattle.hub.specs.Calls.{Call, Place}
+use Rattle.hub.specs.Calls.{Call, Standing}
 
 -- FragmentIndex, in its place on the wire.
 abbrev pub indexIn : Call → ℕ
@@ -28,7 +28,7 @@ accepted (Repeat k) i es = es
 accepted (Complete l k) i es = []
 
 -- Those accepted over a course of calls, after `es`.
-abbrev pub acceptedAll : Place → List Call → List Event → List Event
+abbrev pub acceptedAll : Standing → List Call → List Event → List Event
 acceptedAll p [] es = es
 acceptedAll p (x ∷ xs) es = acceptedAll (after p x) xs (accepted (answer p x) (indexIn x) es)
 
@@ -46,5 +46,5 @@ Counts (Complete l k) i es = (came i es ≡ false) × (k ≡ howMany most (piece
 -- From a connection that has heard nothing of the message it expects, as every opened one, after any course of calls.
 abbrev pub HeardCount : Type 0
 HeardCount =
-    (p : Place) → p .connection .progress .heard ≡ none most → (xs : List Call) (x : Call)
+    (p : Standing) → p .connection .progress .heard ≡ none most → (xs : List Call) (x : Call)
     → Counts (answer (afterAll p xs) x) (indexIn x) (acceptedAll p xs [])

@@ -9,16 +9,16 @@ use Rattle.seal.specs.Opening.{sealedPart}
 use Rattle.hub.specs.declared.Answer.the-variants.{Reply, Again, Failure}
 use Rattle.promises.specs.Refusals.{sealed, start}
 use Rattle.promises.specs.Reports.{after, answer, afterAll}
-use Rattle.hub.specs.Calls.{Call, Place}
+use Rattle.hub.specs.Calls.{Call, Standing}
 
--- "until a verdict of 0": no step of the course named Failure,
-abbrev pub NoFailure : Place → List Call → Type 0
+-- "until a verdict of 0": no step of the course named Failure.
+abbrev pub NoFailure : Standing → List Call → Type 0
 NoFailure p [] = Unit {0}
 NoFailure p (x ∷ xs) = (answer p x ≡ Failure → ⊥) × NoFailure (after p x) xs
 
--- as none does that is given another verdict.
+-- No step that is given another verdict names it.
 abbrev pub OnlyByZero : Type 0
-OnlyByZero = (p : Place) (x : Call) → answer p x ≡ Failure → x .verdict ≡ 0
+OnlyByZero = (p : Standing) (x : Call) → answer p x ≡ Failure → x .verdict ≡ 0
 
 -- The call y sends the message of x again: the same bytes and keys, a verdict of 0 or 1, and a working buffer of any contents that is not
 -- shorter than the sealed part, if there is one.
@@ -26,12 +26,12 @@ pub record SentAgain (x y : Call) : Type 0 where
   pub message : y .message ≡ x .message
   pub keys : y .keys ≡ x .keys
   pub verdict : y .verdict ≤ 1
-  pub room : sealed (x .message) (x .keys) ≡ true → length (sealedPart (x .message) (start (x .message) (x .keys))) ≤ length (y .working)
+  pub room : sealed (x .message) ≡ true → length (sealedPart (x .message) (start (x .message))) ≤ length (y .working)
 
 -- A step answered with a reply; after any course since, the same message gets Again with the same reply, and nothing changes.
 abbrev pub RepeatedStep : Type 0
 RepeatedStep =
-    (p : Place) (x : Call) (t : ℕ) → answer p x ≡ Reply t
+    (p : Standing) (x : Call) (t : ℕ) → answer p x ≡ Reply t
     → (xs : List Call) → NoFailure (after p x) xs
     → (y : Call) → SentAgain x y
     → (answer (afterAll (after p x) xs) y ≡ Again t) × (after (afterAll (after p x) xs) y ≡ afterAll (after p x) xs)

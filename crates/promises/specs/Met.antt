@@ -15,7 +15,7 @@ use Rattle.hub.specs.Opening.{blank}
 use Rattle.promises.specs.Refusals.{AreBytes}
 use Rattle.promises.specs.Reports.{after, answer, Sending, fragments, fragment, headerFor, Fair, Sent, Course}
 use Rattle.joining.specs.Events.{Event, piece}
-use Rattle.hub.specs.Calls.{Call, Place}
+use Rattle.hub.specs.Calls.{Call, Standing}
 
 -- What the types of the calls say of a report that is sent, and 64 key bytes.
 pub record Typed (s : Sending) : Type 0 where
@@ -60,25 +60,27 @@ callFor s i d =
 abbrev pub CanBeSent : Sending → Type 0
 CanBeSent s = Fair s → Typed s → (i : ℕ) → i < fragments s → (d : Choice) → Good s d → Sent s i (callFor s i d)
 
--- Fragments one after the other, each with a choice: the calls, and what they bring.
+-- Fragments one after the other, each with a choice: the calls.
 abbrev pub calls : Sending → List (ℕ × Choice) → List Call
 calls s [] = []
 calls s (d ∷ ds) = callFor s (d .0) (d .1) ∷ calls s ds
 
+-- What they bring.
 abbrev pub brought : List (ℕ × Choice) → List Event
 brought [] = []
 brought (d ∷ ds) = piece (d .0) ∷ brought ds
 
+-- Each is a fragment of the report, with a choice that is good for it.
 abbrev pub AllGood : Sending → List (ℕ × Choice) → Type 0
 AllGood s [] = Unit {0}
 AllGood s (d ∷ ds) = ((d .0 < fragments s) × Good s (d .1)) × AllGood s ds
 
 -- In any order, each any number of times, they are a course.
 abbrev pub AnyOrder : Sending → Type 0
-AnyOrder s = Fair s → Typed s → (ds : List (ℕ × Choice)) → AllGood s ds → (p : Place) → Course s p (calls s ds) (brought ds)
+AnyOrder s = Fair s → Typed s → (ds : List (ℕ × Choice)) → AllGood s ds → (p : Standing) → Course s p (calls s ds) (brought ds)
 
 -- A connection as it is opened, beside a report buffer.
-abbrev pub opening : ℕ → List ℕ → Place
+abbrev pub opening : ℕ → List ℕ → Standing
 opening F report = record { connection = blank F; report = report }
 
 -- Three messages that enrol a gateway: each gets its reply.

@@ -36,8 +36,8 @@ use Rattle.hub.specs.Step.{step, reportStepped, workingStepped}
 abbrev pub AreBytes : List ℕ → Type 0
 AreBytes m = (i : ℕ) → be8 m i < 256
 
--- What the reader sees of a message, with these keys.
-module _ (m keys : List ℕ) where
+-- What the reader sees of a message without keys.
+module _ (m : List ℕ) where
   -- "'Sealed' means flags 2 and 4 both set."
   abbrev pub sealed : Bool
   sealed = isSealed (be16 m 6)
@@ -45,10 +45,6 @@ module _ (m keys : List ℕ) where
   -- Where the payload or the sealed part starts: behind the chain.
   abbrev pub start : ℕ
   start = length m - tagSize (be16 m 6) - leaves (chainOf m)
-
-  -- The payload.
-  abbrev pub payloadIn : List ℕ
-  payloadIn = cond sealed (payloadOf (opened m keys start)) (take (leaves (chainOf m)) (drop start m))
 
   -- Rows 1 to 9.
   abbrev pub headerTable : List (ℕ × Bool)
@@ -73,24 +69,32 @@ module _ (m keys : List ℕ) where
       ∷ (9, sealed && (eqb (leaves (chainOf m)) 0 || not (eqb (leaves (chainOf m) % 16) 0)))
       ∷ []
 
-  -- Rows 10 to 14, with a working buffer of `room` bytes: "for sealed messages 10 to 13; 14".
-  abbrev pub openingTable : ℕ → List (ℕ × Bool)
-  openingTable room =
+-- What it sees with these keys.
+module _ (m keys : List ℕ) where
+  -- The payload.
+  abbrev pub payloadIn : List ℕ
+  payloadIn = cond (sealed m) (payloadOf (opened m keys (start m))) (take (leaves (chainOf m)) (drop (start m) m))
+
+  -- Rows 10 to 13, with a working buffer of `room` bytes: "for sealed messages 10 to 13".
+  abbrev pub sealedTable : ℕ → List (ℕ × Bool)
+  sealedTable room =
       -- keys not 64 bytes
-      (10, sealed && not (eqb (length keys) 64))
+      (10, sealed m && not (eqb (length keys) 64))
       -- tag differs
-      ∷ (11, sealed && not (same (tagOf keys (bodyOf m)) (tagIn m)))
+      ∷ (11, sealed m && not (same (tagOf keys (bodyOf m)) (tagIn m)))
       -- working buffer shorter than the sealed part
-      ∷ (12, sealed && ltb room (length (sealedPart m start)))
+      ∷ (12, sealed m && ltb room (length (sealedPart m (start m))))
       -- size or padding not as the rule gives
-      ∷ (13, sealed && badPlain (opened m keys start))
-      -- Discovery or Connect payload not as above
-      ∷ (14, badPayload (be8 m 5) sealed payloadIn)
+      ∷ (13, sealed m && badPlain (opened m keys (start m)))
       ∷ []
+
+  -- Rows 10 to 14: "14", Discovery or Connect payload not as above.
+  abbrev pub openingTable : ℕ → List (ℕ × Bool)
+  openingTable room = sealedTable room ++ ((14, badPayload (be8 m 5) (sealed m) payloadIn) ∷ [])
 
   -- "The reader gives 1 to 14."
   abbrev pub readerTable : ℕ → List (ℕ × Bool)
-  readerTable room = headerTable ++ openingTable room
+  readerTable room = headerTable m ++ openingTable room
 
 infixl 20 _⇔_
 -- Of two statements each follows from the other.
@@ -108,6 +112,7 @@ anyOf [] = false
 anyOf (row ∷ rows) = row .0 || anyOf rows
 
 module _ (c : Connection) (h : Header) (payload report : List ℕ) (verdict : ℕ) where
+  -- The message is Connect, and such a sentence applies to it.
   abbrev pub enrols : Bool
   enrols = eqb (h .kind) 2 && anyOf (hostRows c (connectType payload) (h .session) (readRequest payload) (digest (certificate payload)) verdict)
 
@@ -138,8 +143,8 @@ module _ (c : Connection) (m keys working report : List ℕ) (verdict : ℕ) whe
   -- The payload that the reader hands out: of the working buffer if it was sealed, else of the message.
   abbrev pub handed : List ℕ
   handed =
-      payload m (workingAfter m keys working) (sealed m keys) (cond (sealed m keys) 4 (start m keys))
-      (cond (sealed m keys) (be32 (opened m keys (start m keys)) 0) (leaves (chainOf m)))
+      payload m (workingAfter m keys working) (sealed m) (cond (sealed m) 4 (start m))
+      (cond (sealed m) (be32 (opened m keys (start m)) 0) (leaves (chainOf m)))
 
   -- "A step checks in this order, the first that applies being the answer: 25; 24; 1 to 9; for sealed messages 10 to 13; 14; 16; 15; then
   -- 19, 17, 18, 21, 20, 22, 23."
@@ -167,34 +172,31 @@ module _ (c : Connection) (m keys working report : List ℕ) (verdict : ℕ) whe
   untouchedTable =
       (25, ltb 1 verdict)
       ∷ (24, badSize (c .size))
-      ∷ (headerTable m keys
-      ++ ((10, sealed m keys && not (eqb (length keys) 64))
-      ∷ (11, sealed m keys && not (same (tagOf keys (bodyOf m)) (tagIn m)))
-      ∷ (12, sealed m keys && ltb (length working) (length (sealedPart m (start m keys))))
-      ∷ (13, sealed m keys && badPlain (opened m keys (start m keys)))
-      ∷ []))
+      ∷ (headerTable m ++ sealedTable m keys (length working))
 
   -- "The working buffer is untouched by refusals 1 to 13, 24 and 25, and by plain messages. After a sealed message got past 13 its first bytes
   -- hold the opened sealed part, the rest is unchanged."
   pub record WorkingRule : Type 0 where
     pub refused : (n : ℕ) → (n ≡ 0 → ⊥) → leads n untouchedTable → workingStepped c m keys working verdict ≡ working
-    pub plain : sealed m keys ≡ false → workingStepped c m keys working verdict ≡ working
-    pub past : quiet untouchedTable → sealed m keys ≡ true
+    pub plain : sealed m ≡ false → workingStepped c m keys working verdict ≡ working
+    pub past : quiet untouchedTable → sealed m ≡ true
         → workingStepped c m keys working verdict
-        ≡ opened m keys (start m keys) ++ drop (length (opened m keys (start m keys))) working
+        ≡ opened m keys (start m) ++ drop (length (opened m keys (start m))) working
 
   -- It holds of every message, which is a list of bytes.
   abbrev pub WorkingBuffer : Type 0
   WorkingBuffer = AreBytes m → WorkingRule
 
--- The cutter: "it refuses with 24, then with 7 if the report is longer than 64 × F or i is not under the count".
+-- The cutter's rows: "it refuses with 24, then with 7 if the report is longer than 64 × F or i is not under the count".
 abbrev pub cutTable : ℕ → ℕ → ℕ → List (ℕ × Bool)
 cutTable F bytes i = (24, badSize F) ∷ (7, ltb (F * most) bytes || leb (pieceCount F bytes) i) ∷ []
 
+-- The cutter: "Given exactly when".
 abbrev pub CutterExact : Type 0
 CutterExact = (F bytes i n : ℕ) → (n ≡ 0 → ⊥) → (cutRefusal F bytes i ≡ n) ⇔ leads n (cutTable F bytes i)
 
--- The writer: "5, 6, 7, 8 (a chain given with bytes after its end too), 10 if sealed, 14, 20 (Session payload over 16,384), 22, in that order".
+-- The writer's rows: "5, 6, 7, 8 (a chain given with bytes after its end too), 10 if sealed, 14, 20 (Session payload over 16,384), 22, in
+-- that order".
 abbrev pub writerTable : Header → (chain payload : List ℕ) → (keys room : ℕ) → List (ℕ × Bool)
 writerTable h chain payload keys room =
     (5, badKind (h .kind))
@@ -207,6 +209,7 @@ writerTable h chain payload keys room =
     ∷ (22, ltb room (lengthOf h chain payload))
     ∷ []
 
+-- The writer: "Given exactly when".
 abbrev pub WriterExact : Type 0
 WriterExact =
     (h : Header) (chain payload : List ℕ) (keys room n : ℕ) → (n ≡ 0 → ⊥)

@@ -18,10 +18,10 @@ use Rattle.hub.specs.Hear.{withProgress}
 use Rattle.hub.specs.Step.{step, reportStepped}
 use Rattle.promises.specs.Written.{Wrote}
 use Rattle.joining.specs.Events.{Event, piece, between, came, LastMissing, howMany}
-use Rattle.hub.specs.Calls.{Call, Place}
+use Rattle.hub.specs.Calls.{Call, Standing}
 
 -- What one call of the step leaves: the next connection and the report buffer.
-abbrev pub after : Place → Call → Place
+abbrev pub after : Standing → Call → Standing
 after s x =
     record {
       connection = step (s .connection) (x .message) (x .keys) (x .working) (s .report) (x .verdict) .connection;
@@ -29,11 +29,11 @@ after s x =
     }
 
 -- What it answers.
-abbrev pub answer : Place → Call → Answer
+abbrev pub answer : Standing → Call → Answer
 answer s x = step (s .connection) (x .message) (x .keys) (x .working) (s .report) (x .verdict) .answer
 
 -- What a list of calls leaves, one after the other.
-abbrev pub afterAll : Place → List Call → Place
+abbrev pub afterAll : Standing → List Call → Standing
 afterAll s [] = s
 afterAll s (x ∷ xs) = afterAll (after s x) xs
 
@@ -46,7 +46,7 @@ pub record Sending : Type 0 where
   pub report : List ℕ
 
 -- How connection and report buffer began.
-abbrev pub began : Sending → Place
+abbrev pub began : Sending → Standing
 began s = record { connection = s .connection; report = s .buffer }
 
 -- The number of fragments.
@@ -94,11 +94,11 @@ pub record Sent (s : Sending) (i : ℕ) (x : Call) : Type 0 where
   pub verdict : x .verdict ≤ 1
 
 -- "any course of messages, each one of the report's fragments or one whose step answers Refused or Again". The list of events says which.
-pub data Course (s : Sending) : Place → List Call → List Event → Type 0 where
-  done : {p : Place} → Course s p [] []
-  brings : {p : Place} {x : Call} {xs : List Call} {i : ℕ} {es : List Event} → i < fragments s → Sent s i x → Course s (after p x) xs es
+pub data Course (s : Sending) : Standing → List Call → List Event → Type 0 where
+  done : {p : Standing} → Course s p [] []
+  brings : {p : Standing} {x : Call} {xs : List Call} {i : ℕ} {es : List Event} → i < fragments s → Sent s i x → Course s (after p x) xs es
       → Course s p (x ∷ xs) (piece i ∷ es)
-  rests : {p : Place} {x : Call} {xs : List Call} {es : List Event} → isQuiet (answer p x) ≡ true → Course s (after p x) xs es
+  rests : {p : Standing} {x : Call} {xs : List Call} {es : List Event} → isQuiet (answer p x) ≡ true → Course s (after p x) xs es
       → Course s p (x ∷ xs) (between ∷ es)
 
 -- "Then connection and report buffer depend only on how they began and which fragments have come": after two courses that brought the same
@@ -119,6 +119,7 @@ module _ (s : Sending) (xs : List Call) (es : List Event) (i : ℕ) (x : Call) w
     pub long : length (after (afterAll (began s) xs) x .report) ≡ length (s .buffer)
     pub next : after (afterAll (began s) xs) x .connection ≡ withProgress (s .connection) (expecting (s .connection .progress .expected + 1))
 
+  -- What the call answers, by what has come before it.
   pub record Brought : Type 0 where
     -- "at the call that brings the last missing fragment",
     pub last : LastMissing (fragments s) i es → HandedOut
@@ -135,12 +136,13 @@ module _ (s : Sending) (xs : List Call) (es : List Event) (i : ℕ) (x : Call) w
     -- "later copies get 17".
     pub late : ((j : ℕ) → j < fragments s → came j es ≡ true) → answer (afterAll (began s) xs) x ≡ Refused 17
 
--- Demand 3: a report, the keys, a connection with its fragment size, SessionID and expected number; any course of calls; and the call after it.
+-- A report, the keys, a connection with its fragment size, SessionID and expected number; any course of calls; and the call after it.
 pub record Delivered (s : Sending) : Type 0 where
   pub only : OnlyWhatCame s
   pub each : (xs : List Call) (es : List Event) → Course s (began s) xs es → (i : ℕ) → i < fragments s → (x : Call) → Sent s i x
       → Brought s xs es i x
 
+-- Demand 3: of every report on its way to a Ready connection.
 abbrev pub DemandThree : Type 0
 DemandThree = (s : Sending) → Fair s → Delivered s
 

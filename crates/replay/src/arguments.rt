@@ -27,7 +27,7 @@ fn complain(what: &[u8]) -> Asked {
     }
 }
 
-// The number that a text of digits says, 0 where it is none or exceeds 16,384.
+// The number that a text of digits says; over 16,384 where it is none or exceeds that.
 fn number(text: &[u8]) -> usize {
     let mut value: usize = 0;
     let mut i = 0;
@@ -38,7 +38,7 @@ fn number(text: &[u8]) -> usize {
     value
 }
 
-// A number with one more digit; what is no digit or exceeds 16,384 gives 16,385, which stays.
+// A number with one more digit; what is no digit or exceeds 16,384 gives a number over it, which stays over it.
 fn longer(value: usize, digit: u8) -> usize {
     if digit < b'0' {
         return 16385;

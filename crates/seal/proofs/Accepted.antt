@@ -1,5 +1,5 @@
 -- What holds of a message whose sealed part was opened: its tag is right, its plain text is as the padding rule gives, and that plain text stands
--- at the start of the working buffer. Assumes nothing.
+-- at the start of the working buffer.
 use Prim.Native.Nat.{ℕ, _+_, _-_, _%_, _≤_, _<_}
 use mathlib.Core.Path.{_≡_, refl, _∙_}
 use mathlib.Core.List.{List, [], _∷_, _++_}
@@ -37,7 +37,8 @@ pub record Accepted (keys m : List ℕ) (start room : ℕ) : Type 0 where
   pub ruled : badPlain (plainOf keys m (sealedPart m start)) ≡ false
 
 module _ (keys m : List ℕ) (start room : ℕ) (e : openRefusal keys m start room ≡ 0) where
-  tables : (noPart (length m) start ≡ 0) × (orElse (first ((10, not (eqb (length keys) 64)) ∷ (11, not (same (tagOf keys (bodyOf m)) (tagIn m))) ∷ []))
+  tables : (noPart (length m) start ≡ 0) × (orElse (first ((10, not (eqb (length keys) 64))
+      ∷ (11, not (same (tagOf keys (bodyOf m)) (tagIn m))) ∷ []))
       (partRefusal keys m (sealedPart m start) room) ≡ 0)
   unfolding openRefusal
   tables = neither _ _ e
@@ -50,7 +51,8 @@ module _ (keys m : List ℕ) (start room : ℕ) (e : openRefusal keys m start ro
   unfolding partRefusal
   accepted =
       let q = first-quiet ((10, not (eqb (length keys) 64)) ∷ (11, not (same (tagOf keys (bodyOf m)) (tagIn m))) ∷ []) refl (behind .0) in
-      let r = first-quiet ((12, ltb room (length (sealedPart m start))) ∷ (13, badPlain (plainOf keys m (sealedPart m start))) ∷ []) refl (behind .1) in
+      let r = first-quiet ((12, ltb room (length (sealedPart m start))) ∷ (13, badPlain (plainOf keys m (sealedPart m start))) ∷ []) refl
+      (behind .1) in
       record {
         place = placed (length m) start (tables .0);
         keys64 = eqb-true (length keys) 64 (not-false _ (q .0));
@@ -73,7 +75,7 @@ module _ (keys m : List ℕ) (start : ℕ) (working : List ℕ) (ok : Accepted k
   plain-long = cbcDecrypt-length _ _ (sealedPart m start) (part-long .1)
 
   -- The size told fits the sealed part.
-  pub told-fits : 4 + be32 plain 0 ≤ length plain
+  told-fits : 4 + be32 plain 0 ≤ length plain
   unfolding badPlain sealedSize
   told-fits =
       let r = or-false (not (eqb (length plain) (sealedSize (be32 plain 0)))) _ (ok .ruled) in

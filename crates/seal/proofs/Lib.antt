@@ -4,5 +4,4 @@ pub mod Opened
 pub mod Filling
 pub mod Seals
 pub mod Accepted
-pub mod ByteLists
 pub mod Unsealed

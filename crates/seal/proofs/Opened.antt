@@ -1,6 +1,6 @@
--- An opened sealed part, by its first and its last block. Assumes nothing.
+-- An opened sealed part, by its first and its last block.
 use Prim.Native.Nat.{ℕ, suc, _+_, _-_, _*_, _/_, _%_, _≤_, _<_}
-use mathlib.Core.Path.{_≡_, refl, sym, _∙_}
+use mathlib.Core.Path.{_≡_, refl, sym, ap, _∙_}
 use mathlib.Core.List.{List, [], _∷_, _++_}
 use mathlib.Core.Bool.{Bool, true, false, not, _||_}
 use native.Mathlib.Omega.{arith}
@@ -21,38 +21,44 @@ use Rattle.laws.specs.Same.{same}
 use Rattle.seal.proofs.Padded.{badPlain-blocks}
 
 module _ (keys : List (List ℕ)) (v sealed : List ℕ) (blocks : length sealed % 16 ≡ 0) where
-  -- A sealed part of one block: it is the first and the last.
-  pub last-only : length sealed ≡ 16
-      → cbcDecryptBlock keys v (take 16 (drop (length sealed - 16) sealed)) ≡ drop (length sealed - 16) (cbcDecrypt keys v sealed)
-  last-only e =
-      let l = cbcDecrypt-length keys v sealed blocks in
-      let z : length sealed - 16 ≡ 0 = omega arith in
-      rw (z, ← cbcDecrypt-first keys v sealed (omega arith))
-      (take-all 16 (cbcDecrypt keys v sealed) (omega arith))
-
-  pub last-of-more : (length sealed ≡ 16 → ⊥) → 16 ≤ length sealed
-      → cbcDecryptBlock keys (take 16 (drop (length sealed - 32) sealed)) (take 16 (drop (length sealed - 16) sealed))
+  -- The last block, by the cipher block before it.
+  last-decrypted : 16 ≤ length sealed
+      → cbcDecryptBlock keys (blockBefore (length sealed / 16 - 1) v sealed) (take 16 (drop (length sealed - 16) sealed))
       ≡ drop (length sealed - 16) (cbcDecrypt keys v sealed)
-  unfolding blockBefore
-  last-of-more e h =
+  last-decrypted h =
       let l = cbcDecrypt-length keys v sealed blocks in
-      let k = (length sealed - 32) / 16 in
-      let n : length sealed ≡ 16 * suc k + 16 = omega arith in
-      let before : length sealed - 32 ≡ 16 * k = omega arith in
-      let last : length sealed - 16 ≡ 16 * suc k = omega arith in
-      let d = length-drop (16 * suc k) sealed in
-      let o = length-drop (16 * suc k) (cbcDecrypt keys v sealed) in
-      rw (before, last, take-all 16 (drop (16 * suc k) sealed) (omega arith))
-      (sym (cbcDecrypt-last keys v sealed (suc k) n) ∙ take-all 16 (drop (16 * suc k) (cbcDecrypt keys v sealed)) (omega arith))
+      let n = length sealed / 16 - 1 in
+      let whole : length sealed ≡ 16 * n + 16 = omega arith in
+      let last : length sealed - 16 ≡ 16 * n = omega arith in
+      let d = length-drop (16 * n) sealed in
+      let o = length-drop (16 * n) (cbcDecrypt keys v sealed) in
+      rw (last, take-all 16 (drop (16 * n) sealed) (omega arith))
+      (sym (cbcDecrypt-last keys v sealed n whole) ∙ take-all 16 (drop (16 * n) (cbcDecrypt keys v sealed)) (omega arith))
 
   -- So two blocks decide 13.
-  pub part-judged : (front end : List ℕ) (r : Bool) → 16 ≤ length sealed
-      → front ≡ cbcDecryptBlock keys v (take 16 sealed) → end ≡ drop (length sealed - 16) (cbcDecrypt keys v sealed)
-      → r ≡ badBlocks (length sealed) front end → r ≡ badPlain (cbcDecrypt keys v sealed)
-  part-judged front end r h f e j =
+  pub part-judged : (front before last f e : List ℕ) (r : Bool) → 16 ≤ length sealed
+      → front ≡ take 16 sealed → before ≡ blockBefore (length sealed / 16 - 1) v sealed → last ≡ take 16 (drop (length sealed - 16) sealed)
+      → f ≡ cbcDecryptBlock keys v front → e ≡ cbcDecryptBlock keys before last
+      → r ≡ badBlocks (length sealed) f e → r ≡ badPlain (cbcDecrypt keys v sealed)
+  part-judged front before last f e r h ff fb fl ef ee j =
       let l = cbcDecrypt-length keys v sealed blocks in
-      rw (j, f, e, ← cbcDecrypt-first keys v sealed h, ← l)
+      rw (j, ef, ee, ff, fb, fl, ← cbcDecrypt-first keys v sealed h, last-decrypted h, ← l)
       (sym (badPlain-blocks (cbcDecrypt keys v sealed) (omega arith)))
+
+-- The cipher block before the last: the vector where the last is the first.
+module _ (v sealed : List ℕ) (blocks : length sealed % 16 ≡ 0) where
+  pub before-only : length sealed ≡ 16 → v ≡ blockBefore (length sealed / 16 - 1) v sealed
+  unfolding blockBefore
+  before-only e = let z : length sealed / 16 - 1 ≡ 0 = omega arith in rw z
+
+  pub before-of-more : (length sealed ≡ 16 → ⊥) → 16 ≤ length sealed
+      → take 16 (drop (length sealed - 32) sealed) ≡ blockBefore (length sealed / 16 - 1) v sealed
+  unfolding blockBefore
+  before-of-more e h =
+      let k = (length sealed - 32) / 16 in
+      let n : length sealed / 16 - 1 ≡ suc k = omega arith in
+      let at : length sealed - 32 ≡ 16 * k = omega arith in
+      rw n (ap (λ (m : ℕ). take 16 (drop m sealed)) at)
 
 -- What the rows 1, 3 and 9 leave.
 pub record Placed (given start : ℕ) : Type 0 where
@@ -77,7 +83,7 @@ placed given start e =
     }
 
 -- A refusal leaves the working buffer as it was.
-pub into-refused : (n : ℕ) (plain working : List ℕ) → (n ≡ 0 → ⊥) → intoUnless n plain working ≡ working
+into-refused : (n : ℕ) (plain working : List ℕ) → (n ≡ 0 → ⊥) → intoUnless n plain working ≡ working
 unfolding intoUnless
 into-refused n plain working h = rw (ne-eqb n 0 h)
 

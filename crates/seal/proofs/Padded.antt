@@ -1,4 +1,4 @@
--- Laws of the padding rule, for all who seal and open: a change of the rule is proved here and nowhere else. Assumes nothing.
+-- Laws of the padding rule, for all who seal and open: a change of the rule is proved here and nowhere else.
 use Prim.Native.Nat.{ℕ, _+_, _-_, _%_, _≤_, _<_, _^_}
 use mathlib.Core.Path.{_≡_, refl, ap}
 use mathlib.Core.List.{List}

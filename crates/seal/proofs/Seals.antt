@@ -1,4 +1,4 @@
--- The way through `seal`: part and tag, one behind the other, make the sealed message. Assumes nothing.
+-- The way through `seal`: part and tag, one behind the other, make the sealed message.
 use Prim.Native.Nat.{ℕ, _+_, _-_, _%_, _≤_, _<_}
 use mathlib.Core.Path.{_≡_, refl, sym, _∙_}
 use mathlib.Core.List.{List, [], _∷_, _++_, append-assoc}

@@ -1,5 +1,4 @@
 -- Opening what was sealed gives it back: the tag is over the same bytes, the vector of the same header, and decryption undoes encryption.
--- Assumes nothing.
 use Prim.Native.Nat.{ℕ, _+_, _-_, _/_, _%_, _≤_, _<_}
 use mathlib.Core.Path.{_≡_, refl, sym, ap, _∙_}
 use mathlib.Core.List.{List, _++_, append-assoc}
@@ -19,7 +18,7 @@ use Rattle.seal.specs.Keys.{encryptionKey, vectorKey, vectorBlock, vecto
 use Rattle.seal.specs.Padding.{padding, sealedSize, paddingBytes, plainText}
 use Rattle.seal.specs.Opening.{bodyOf, tagIn, sealedPart, plainOf, noPart, partRefusal, openRefusal}
 use Rattle.seal.specs.Sealed.{sealedBody, sealedMessage}
-use Rattle.seal.proofs.ByteLists.{AllBytes, append-bytes, take-bytes, drop-bytes, replicate-bytes, bytesAt-bytes, bytes32-bytes}
+use Rattle.laws.proofs.ByteLists.{AllBytes, append-bytes, take-bytes, drop-bytes, replicate-bytes, bytesAt-bytes, bytes32-bytes}
 use Rattle.seal.proofs.Padded.{padding-le, sealedSize-blocks, length-plainText, plainText-accepted}
 use Rattle.seal.proofs.Seals.{vector-front, length-sealed, length-tag}
 
@@ -101,13 +100,15 @@ plain-blocks payload small w =
     record { len = rw length-plainText (omega arith); bytes = λ i k. plain-bytes payload small w .at i }
 
 module _ (keys before payload : List ℕ) (whole : length keys ≡ 64) (long : 42 ≤ length before)
-    (short : length before + sealedSize (length payload) ≤ 65503) (of-keys : AllBytes keys) (of-before : AllBytes before) (of-payload : AllBytes payload) where
+    (short : length before + sealedSize (length payload) ≤ 65503) (of-keys : AllBytes keys) (of-before : AllBytes before)
+    (of-payload : AllBytes payload) where
   small : length payload < 4294967296
   unfolding sealedSize
   small = omega arith
 
   -- What was sealed is opened,
-  pub opened-back : plainOf keys (sealedMessage keys before payload) (sealedPart (sealedMessage keys before payload) (length before)) ≡ plainText payload
+  pub opened-back : plainOf keys (sealedMessage keys before payload) (sealedPart (sealedMessage keys before payload) (length before))
+      ≡ plainText payload
   unfolding plainOf
   opened-back =
       rw (part-back keys before payload, vector-back keys before payload (omega arith))

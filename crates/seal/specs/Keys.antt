@@ -7,13 +7,15 @@ use Rattle.aes.specs.Key.{expandKey}
 use Rattle.aes.specs.Cipher.{cipher}
 use Rattle.sha256.specs.Macs.{hmac}
 
--- "16 encryption key, 16 vector key, 32 HMAC key".
+-- "16 encryption key, 16 vector key, 32 HMAC key": the first.
 abbrev pub encryptionKey : List ℕ → List ℕ
 encryptionKey keys = take 16 keys
 
+-- The second.
 abbrev pub vectorKey : List ℕ → List ℕ
 vectorKey keys = take 16 (drop 16 keys)
 
+-- The third.
 abbrev pub tagKey : List ℕ → List ℕ
 tagKey keys = take 32 (drop 32 keys)
 

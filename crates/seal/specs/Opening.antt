@@ -56,11 +56,11 @@ openRefusal keys m start room = orElse (noPart (length m) start) (orElse (first
 unfoldable pub intoUnless : ℕ → List ℕ → List ℕ → List ℕ
 intoUnless refusal plain working = cond (eqb refusal 0) (plain ++ drop (length plain) working) working
 
--- The working buffer after a sealed part was opened,
+-- The working buffer after a sealed part was opened.
 unfoldable pub partInto : List ℕ → List ℕ → List ℕ → List ℕ → List ℕ
 partInto keys m sealed working = intoUnless (partRefusal keys m sealed (length working)) (plainOf keys m sealed) working
 
--- and after a message was.
+-- The working buffer after a message was opened.
 unfoldable pub openedInto : List ℕ → List ℕ → ℕ → List ℕ → List ℕ
 openedInto keys m start working =
     intoUnless (openRefusal keys m start (length working)) (plainOf keys m (sealedPart m start)) working

@@ -20,10 +20,10 @@ use wire::refusals::WRONG_SEALED_SIZE;
 use wire::refusals::WRONG_TAG;
 ghost use mathlib.Core.Path.{_≡_};
 ghost use mathlib.Core.Bool.{not};
-ghost use Prim.Native.Nat.{_-_, _≤_, _<_, _%_};
-ghost use lib.ListN.{length, drop};
+ghost use Prim.Native.Nat.{_-_, _≤_, _<_, _/_, _%_};
+ghost use lib.ListN.{length};
 ghost use Rattle.laws.specs.Same.{same};
-ghost use Rattle.aes.specs.Cbc.{cbcDecrypt};
+ghost use Rattle.aes.specs.Cbc.{cbcDecrypt, blockBefore};
 ghost use Rattle.seal.specs.Keys.{tagOf};
 ghost use Rattle.seal.specs.Padding.{badPlain};
 ghost use Rattle.seal.specs.Opening.{bodyOf, tagIn, noPart, partRefusal, partInto, openRefusal, openedInto};
@@ -57,17 +57,16 @@ fn wrong_tag(keys: &[u8], message: &[u8]) -> bool
     !sha256::same_tag(tag, &message[end..])
 }
 
-// The plain text of the last block of a sealed part. The block before it, or the vector, was chained into it.
-fn last_block(keys: &[[u8; 16]; 11], vector: [u8; 16], sealed: &[u8]) -> [u8; 16]
+// The cipher block that was chained into the last block of a sealed part: the one before it, or the vector.
+fn before_last(vector: [u8; 16], sealed: &[u8]) -> [u8; 16]
     requires { ⌜ (16 ≤ length (now sealed)) × (length (now sealed) % 16 ≡ 0) ⌝ }
-    ensures { λ r. ⌜ r ≡ drop (length (now (sealed .entry)) - 16) (cbcDecrypt (now (keys .entry)) vector (now (sealed .entry))) ⌝ }
+    ensures { λ r. ⌜ r ≡ blockBefore (length (now (sealed .entry)) / 16 - 1) vector (now (sealed .entry)) ⌝ }
 {
     let size = sealed.len();
-    let last = block_at(sealed, size - 16);
     if size == 16 {
-        return aes::cbc::cbc_decrypt_block(keys, vector, last);
+        return vector;
     }
-    aes::cbc::cbc_decrypt_block(keys, block_at(sealed, size - 32), last)
+    block_at(sealed, size - 32)
 }
 
 // Refusal 13 of a sealed part, before it is opened into the working buffer.
@@ -75,9 +74,14 @@ fn bad_part(keys: &[[u8; 16]; 11], vector: [u8; 16], sealed: &[u8]) -> bool
     requires { ⌜ (16 ≤ length (now sealed)) × (length (now sealed) % 16 ≡ 0) ⌝ }
     ensures { λ r. ⌜ r ≡ badPlain (cbcDecrypt (now (keys .entry)) vector (now (sealed .entry))) ⌝ }
 {
-    let front = aes::cbc::cbc_decrypt_block(keys, vector, block_at(sealed, 0));
-    let end = last_block(keys, vector, sealed);
-    bad_blocks(sealed.len(), front, end)
+    let size = sealed.len();
+    let first = block_at(sealed, 0);
+    let before = before_last(vector, sealed);
+    let last = block_at(sealed, size - 16);
+    let ends = aes::cbc::cbc_decrypt_ends(keys, vector, first, before, last);
+    let front = ends.first;
+    let end = ends.last;
+    bad_blocks(size, front, end)
 }
 
 // Opens a sealed part that was found in a message whose tag is right: 12 or 13, or 0.

@@ -15,36 +15,17 @@ use wire::refusals::NO_ROOM;
 use wire::refusals::TOO_SHORT;
 use wire::refusals::WRONG_KEYS;
 use wire::refusals::WRONG_LENGTH;
+use writer::stores::store_bytes;
 ghost use mathlib.Core.Path.{_≡_};
-ghost use Prim.Native.Nat.{_+_, _-_, _≤_, _<_, _^_};
+ghost use Prim.Native.Nat.{_+_, _≤_, _<_, _^_};
 ghost use lib.Seq.{sets};
-ghost use lib.ListN.{length, take, replicate};
+ghost use lib.ListN.{length, take};
 ghost use Rattle.laws.specs.Bytes.{bytes32};
 ghost use Rattle.seal.specs.Padding.{sealedSize, plainText};
 ghost use Rattle.aes.specs.Key.{expandKey};
 ghost use Rattle.aes.specs.Cbc.{cbcEncrypt};
 ghost use Rattle.seal.specs.Keys.{encryptionKey, tagOf};
 ghost use Rattle.seal.specs.Sealed.{sealRefusal, sealedInto};
-
-// A run of bytes from a place on: that part of the output is lent to a copy.
-fn put(out: &mut [u8], at: usize, bytes: &[u8])
-    requires { ⌜ at + length (now bytes) ≤ length (now out) ⌝ }
-    ensures { λ _. ⌜ now (out .exit) ≡ sets (now (out .entry)) at (now (bytes .entry)) ⌝ }
-{
-    bytes::copy(bytes, &mut out[at..]);
-}
-
-// One byte from a place to the end.
-fn fill(out: &mut [u8], from: usize, byte: u8)
-    requires { ⌜ from ≤ length (now out) ⌝ }
-    ensures { λ _. ⌜ now (out .exit) ≡ sets (now (out .entry)) from (replicate (length (now (out .entry)) - from) byte) ⌝ }
-{
-    let mut i = from;
-    while i < out.len() {
-        out[i] = byte;
-        i += 1;
-    }
-}
 
 // A payload's size in four bytes.
 fn size_bytes(size: u32) -> [u8; 4]
@@ -58,18 +39,17 @@ fn size_bytes(size: u32) -> [u8; 4]
     ]
 }
 
-// The plain text of a payload, over the whole of its room.
+// The plain text of a payload, over the whole of its room: of sixteen padding bytes those stay that have room.
 fn put_plain(payload: &[u8], room: &mut [u8])
     requires { ⌜ (length (now payload) < 2 ^ 32) × (length (now room) ≡ sealedSize (length (now payload))) ⌝ }
     ensures { λ _. ⌜ now (room .exit) ≡ plainText (now (payload .entry)) ⌝ }
 {
     let size = payload.len() as u32;
     let told = size_bytes(size);
-    let count = padding(size);
-    let end = 4 + payload.len();
-    put(room, 0, &told);
-    put(room, 4, payload);
-    fill(room, end, count as u8);
+    let pad = [padding(size) as u8; 16];
+    store_bytes(room, 0, &told);
+    store_bytes(room, 4, payload);
+    store_bytes(room, 4 + payload.len(), &pad);
 }
 
 // The tag of the first `end` bytes, behind them.
@@ -78,7 +58,7 @@ fn put_tag(keys: &[u8], end: usize, out: &mut [u8])
     ensures { λ _. ⌜ now (out .exit) ≡ sets (now (out .entry)) end (tagOf (now (keys .entry)) (take end (now (out .entry)))) ⌝ }
 {
     let tag = tag_of(keys, &out[0..end]);
-    put(out, end, &tag);
+    store_bytes(out, end, &tag);
 }
 
 // Size, payload and padding, encrypted over the whole of their room.

@@ -1,4 +1,4 @@
--- Ch and Maj by fewer operations than the standard writes, on words of any width: bit by bit, by computing. Assumes nothing.
+-- Ch and Maj by fewer operations than the standard writes, on words of any width: bit by bit, by computing.
 use mathlib.Core.Path.{_≡_, refl}
 use Prim.Native.Nat.{ℕ, zero, suc, _-_, _*_, _/_, _%_, _^_, _<_}
 use native.Mathlib.Nat.{mod-lt, zero-lt-suc, pow-suc}

@@ -1,4 +1,4 @@
--- What has a digest, and which. Assumes nothing.
+-- What has a digest, and which.
 use mathlib.Core.Path.{_≡_, _∙_, sym, ap}
 use mathlib.Core.Bool.{true, false, cond}
 use mathlib.Core.List.{List, _++_, append-assoc}
@@ -24,15 +24,18 @@ module _ (m d : List ℕ) (n : ℕ) (en : n ≡ length m) where
       sym (ap (λ b. cond b (bytesOf (hashed H0 (m ++ padding (length m)))) (replicate 32 0)) (ap (λ (k : ℕ). ltb k (2 ^ 61)) (sym en) ∙ t))
 
 -- from the hash value after a first block
-pub digest-behind : (b m d : List ℕ) (n : ℕ) (h v : Vars) → length b ≡ 64 → 64 + n ≡ length (b ++ m) → ltb (64 + n) (2 ^ 61) ≡ true → h ≡ H0 → v ≡ compress h b 0
+pub digest-behind : (b m d : List ℕ) (n : ℕ) (h v : Vars) → length b ≡ 64 → 64 + n ≡ length (b ++ m) → ltb (64 + n) (2 ^ 61) ≡ true
+    → h ≡ H0 → v ≡ compress h b 0
     → d ≡ bytesOf (hashed v (m ++ padding (64 + n))) → d ≡ digest (b ++ m)
 digest-behind b m d n h v l en t eh ev e =
     digest-by (b ++ m) d (64 + n) en t
     (e ∙ ap (λ (x : Vars). bytesOf (hashed x (m ++ padding (64 + n)))) (ev ∙ ap (λ (x : Vars). compress x b 0) eh)
-    ∙ ap bytesOf (sym (hashed-behind H0 b (m ++ padding (64 + n)) l)) ∙ ap (λ (l : List ℕ). bytesOf (hashed H0 l)) (sym (append-assoc b m (padding (64 + n)))))
+    ∙ ap bytesOf (sym (hashed-behind H0 b (m ++ padding (64 + n)) l)) ∙ ap (λ (l : List ℕ). bytesOf (hashed H0 l))
+    (sym (append-assoc b m (padding (64 + n)))))
 
 -- the parts and the padding behind them
-pub finish-by : (v h : Vars) (first second third part pad r : List ℕ) → r ≡ bytesOf h → h ≡ hashed v (first ++ (second ++ (third ++ part))) → part ≡ pad
+pub finish-by : (v h : Vars) (first second third part pad r : List ℕ) → r ≡ bytesOf h → h ≡ hashed v (first ++ (second ++ (third ++ part)))
+    → part ≡ pad
     → r ≡ bytesOf (hashed v ((first ++ (second ++ third)) ++ pad))
 finish-by v h first second third part pad r p q e =
     p ∙ ap bytesOf (q ∙ ap (hashed v) (ap (λ (l : List ℕ). first ++ (second ++ (third ++ l))) e

@@ -1,4 +1,4 @@
--- A key filled up to a block, and masked. Assumes nothing.
+-- A key filled up to a block, and masked.
 use mathlib.Core.Path.{_≡_, _∙_, sym, ap, ap₂, refl}
 use mathlib.Core.List.{List, [], _∷_, _++_}
 use Prim.Native.Nat.{ℕ, zero, suc, _+_, _-_, _<_}

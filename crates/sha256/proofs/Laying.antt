@@ -1,4 +1,4 @@
--- Parts laid over a block one after the other are their concatenation laid over it. Assumes nothing.
+-- Parts laid over a block one after the other are their concatenation laid over it.
 use mathlib.Core.Path.{_≡_, _∙_, sym, ap}
 use mathlib.Core.Logic.{_⊎_, ⊎-elim}
 use mathlib.Core.Bool.{and-false}
@@ -80,7 +80,8 @@ laid-append block b c xs ys ahead n at en eb ec j h =
     place n (n + length ys) (at + j)
     (λ p. laid-before b ys n at n (n + length ys) j p ∙ eb j h ∙
     place ahead (ahead + length xs) (at + j)
-    (λ q. laid-before block xs ahead at ahead (ahead + length xs) j q ∙ sym (laid-before block (xs ++ ys) ahead at ahead (ahead + length (xs ++ ys)) j q))
+    (λ q. laid-before block xs ahead at ahead (ahead + length xs) j q ∙ sym
+    (laid-before block (xs ++ ys) ahead at ahead (ahead + length (xs ++ ys)) j q))
     (λ q s. laid-inside block xs ahead at ahead (ahead + length xs) j q s ∙ sym (List·getD-append xs ys 0 (at + j - ahead) (omega arith))
     ∙ sym (laid-inside block (xs ++ ys) ahead at ahead (ahead + length (xs ++ ys)) j q (omega arith)))
     (λ q. absurd (omega arith)))

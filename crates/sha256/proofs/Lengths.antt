@@ -1,4 +1,4 @@
--- A digest and an HMAC have thirty-two bytes. Assumes nothing.
+-- A digest and an HMAC have thirty-two bytes.
 use Prim.Native.Nat.{ℕ, _^_}
 use mathlib.Core.Path.{_≡_, refl}
 use mathlib.Core.Bool.{Bool, true, false, cond}
@@ -14,7 +14,7 @@ unfolding bytesOf
 either true v = refl
 either false v = refl
 
-pub length-digest : (m : List ℕ) → length (digest m) ≡ 32
+length-digest : (m : List ℕ) → length (digest m) ≡ 32
 unfolding digest
 length-digest m = either (ltb (length m) (2 ^ 61)) _
 

@@ -1,9 +1,10 @@
--- The schedule and the rounds, step by step as the code makes them. Assumes nothing.
+-- The schedule and the rounds, step by step as the code makes them.
 use mathlib.Core.Path.{_≡_, _∙_, sym, ap, refl}
 use mathlib.Core.Logic.{⊎-elim}
 use mathlib.Core.Bool.{cond}
 use mathlib.Core.List.{List}
 use Prim.Native.Nat.{ℕ, zero, suc, _+_, _*_, _%_, _<_, _≤_, min}
+use native.Mathlib.Nat.{zero-add}
 use native.Mathlib.Omega.{arith}
 use native.Mathlib.Numerals.{add-one}
 use borrow.Author.Tests.{lt-ltb, le-ltb}
@@ -16,10 +17,10 @@ use Rattle.laws.proofs.Order.{lt-or-ge}
 use Rattle.sha256.specs.Compression.{words, nextWord, longer, schedule, putWord, putFour, roundAt, fourRounds, rounds, added, compress}
 
 -- one word more of the block
-pub words-more : (m w : List ℕ) (at n r : ℕ) → n < length w → take n w ≡ words m at n → r ≡ be32 m (at + 4 * n)
-    → take (n + 1) (set w n r) ≡ words m at (n + 1)
+pub words-more : (block w : List ℕ) (n r : ℕ) → n < length w → take n w ≡ words block 0 n → r ≡ be32 block (4 * n)
+    → take (n + 1) (set w n r) ≡ words block 0 (n + 1)
 unfolding words
-words-more m w at n r h p e = rw add-one (take-suc-set w n r h ∙ cc)
+words-more block w n r h p e = rw add-one (take-suc-set w n r h ∙ cc (zero-add (4 * n)))
 
 -- words that agree before 16 + n give the same next word
 next-word-take : (w : List ℕ) (n : ℕ) → nextWord (take (16 + n) w) n ≡ nextWord w n
@@ -43,12 +44,12 @@ length-put : (w : List ℕ) (n : ℕ) → length (putWord w n) ≡ length w
 unfolding putWord
 length-put w n = length-set w (16 + n) (nextWord w n)
 
-pub length-put-four : (w : List ℕ) (n : ℕ) → length (putFour w n) ≡ length w
+length-put-four : (w : List ℕ) (n : ℕ) → length (putFour w n) ≡ length w
 unfolding putFour
 length-put-four w n = simp length-put
 
 -- four words more
-pub put-four-more : (m w : List ℕ) (n : ℕ) → n + 4 ≤ 48 → length w ≡ 64 → take (16 + n) w ≡ schedule m n
+put-four-more : (m w : List ℕ) (n : ℕ) → n + 4 ≤ 48 → length w ≡ 64 → take (16 + n) w ≡ schedule m n
     → take (16 + (n + 4)) (putFour w n) ≡ schedule m (n + 4)
 unfolding putFour
 put-four-more m w n h l p =
@@ -65,7 +66,7 @@ take-put : (w : List ℕ) (n k : ℕ) → k ≤ n → take (16 + k) (putWord w n
 unfolding putWord
 take-put w n k h = take-set-le (16 + k) w (16 + n) (nextWord w n) (omega arith)
 
-pub take-put-four : (w : List ℕ) (n : ℕ) → take (16 + n) (putFour w n) ≡ take (16 + n) w
+take-put-four : (w : List ℕ) (n : ℕ) → take (16 + n) (putFour w n) ≡ take (16 + n) w
 unfolding putFour
 take-put-four w n =
     take-put (putWord (putWord (putWord w n) (n + 1)) (n + 2)) (n + 3) n (omega arith)
@@ -78,7 +79,7 @@ unfolding rounds
 round-more v x w t p = rw add-one (cc)
 
 -- four rounds more
-pub rounds-four : (v x : Vars) (w : List ℕ) (t : ℕ) → x ≡ rounds v w t → fourRounds x w t ≡ rounds v w (t + 4)
+rounds-four : (v x : Vars) (w : List ℕ) (t : ℕ) → x ≡ rounds v w t → fourRounds x w t ≡ rounds v w (t + 4)
 unfolding fourRounds
 rounds-four v x w t p =
     let i2 : t + 1 + 1 ≡ t + 2 = omega arith in
@@ -90,7 +91,7 @@ rounds-four v x w t p =
     rw i4 at (round-more v (roundAt (roundAt (roundAt x w t) w (t + 1)) w (t + 2)) w (t + 3) (rw i3 at p3))
 
 -- rounds look no further than their words
-pub rounds-take : (v : Vars) (a b : List ℕ) (k t : ℕ) → t ≤ k → take k a ≡ take k b → rounds v a t ≡ rounds v b t
+rounds-take : (v : Vars) (a b : List ℕ) (k t : ℕ) → t ≤ k → take k a ≡ take k b → rounds v a t ≡ rounds v b t
 unfolding rounds roundAt
 rounds-take v a b k zero h e = refl
 rounds-take v a b k (suc t) h e =
@@ -128,7 +129,7 @@ module _ (m w z : List ℕ) (t : ℕ) (l : length w ≡ 64) (e : z ≡ cond (ltb
       (λ h. ap (λ (y : List ℕ). rounds v y t) (sym (past h))) (lt-or-ge t 48))
 
 -- a block's compression, in the order in which the code computes it
-pub compress-by : (v x r : Vars) (m l w : List ℕ) (at : ℕ) → take 16 l ≡ words m at 16 → w ≡ schedule (take 16 l) 48 → x ≡ rounds v w 64
-    → r ≡ added v x → r ≡ compress v m at
+pub compress-by : (v x r : Vars) (block l w : List ℕ) → take 16 l ≡ words block 0 16 → w ≡ schedule (take 16 l) 48 → x ≡ rounds v w 64
+    → r ≡ added v x → r ≡ compress v block 0
 unfolding compress
-compress-by v x r m l w at p q e f = cc
+compress-by v x r block l w p q e f = cc

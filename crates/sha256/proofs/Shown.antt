@@ -1,4 +1,4 @@
--- The worked examples, by computing. Assumes nothing.
+-- The worked examples, by computing.
 use mathlib.Core.Path.{refl}
 use Rattle.sha256.specs.Words.{plus, complement, SHR, ROTR, Ch, Maj, Σ0, Σ1, σ0, σ1}
 use Rattle.sha256.specs.Constants.{K256, H0}

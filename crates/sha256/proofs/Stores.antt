@@ -1,4 +1,4 @@
--- A padding and a digest, made by runs of stores. Assumes nothing.
+-- A padding and a digest, made by runs of stores.
 use mathlib.Core.Path.{_≡_, _∙_, ap, refl}
 use mathlib.Core.List.{List, _∷_, _++_}
 use Prim.Native.Nat.{ℕ, zero, suc, _+_, _<_, _≤_}
@@ -21,12 +21,14 @@ padding-by x z r bs p e′ er h l =
     let s : 1 + z ≡ suc z = omega arith in
     let front : take (1 + z) (x ∷ replicate 71 0) ≡ x ∷ replicate z 0 = rw s (ap (λ (l : List ℕ). x ∷ l) (take-replicate z 71 0 (omega arith))) in
     let n : length ((x ∷ replicate z 0) ++ bs) ≡ 9 + z = length-append (x ∷ replicate z 0) bs ∙ omega (arith, length-replicate {A = ℕ} z 0) in
-    ap (take (9 + z)) (e ∙ sets-eq bs (x ∷ replicate 71 0) (1 + z) (omega arith) ∙ ap (λ (l : List ℕ). l ++ bs ++ drop (1 + z + length bs) (x ∷ replicate 71 0)) front)
+    ap (take (9 + z)) (e ∙ sets-eq bs (x ∷ replicate 71 0) (1 + z) (omega arith)
+    ∙ ap (λ (l : List ℕ). l ++ bs ++ drop (1 + z + length bs) (x ∷ replicate 71 0)) front)
     ∙ take-at ((x ∷ replicate z 0) ++ bs) (drop (1 + z + length bs) (x ∷ replicate 71 0)) (9 + z) n
 
 -- eight words stored
 pub words-by : (a b c d e f g h : ℕ) (s1 s2 s3 s4 s5 s6 s7 s8 : List ℕ) → s1 ≡ sets (replicate 32 0) 0 (bytes32 a) → s2 ≡ sets s1 4 (bytes32 b)
-    → s3 ≡ sets s2 8 (bytes32 c) → s4 ≡ sets s3 12 (bytes32 d) → s5 ≡ sets s4 16 (bytes32 e) → s6 ≡ sets s5 20 (bytes32 f) → s7 ≡ sets s6 24 (bytes32 g)
+    → s3 ≡ sets s2 8 (bytes32 c) → s4 ≡ sets s3 12 (bytes32 d) → s5 ≡ sets s4 16 (bytes32 e) → s6 ≡ sets s5 20 (bytes32 f)
+    → s7 ≡ sets s6 24 (bytes32 g)
     → s8 ≡ sets s7 28 (bytes32 h)
     → s8 ≡ bytes32 a ++ (bytes32 b ++ (bytes32 c ++ (bytes32 d ++ (bytes32 e ++ (bytes32 f ++ (bytes32 g ++ bytes32 h))))))
 words-by a b c d e f g h s1 s2 s3 s4 s5 s6 s7 s8 p1 p2 p3 p4 p5 p6 p7 p8 =

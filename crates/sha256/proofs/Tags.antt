@@ -1,4 +1,4 @@
--- Differences or-ed together are 0 exactly where there are none. Assumes nothing.
+-- Differences or-ed together are 0 exactly where there are none.
 use mathlib.Core.Path.{_≡_, _∙_, sym, ap, ap₂, refl}
 use mathlib.Core.Bool.{Bool, true, false, _&&_}
 use mathlib.Core.List.{List}

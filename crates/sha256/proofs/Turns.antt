@@ -1,4 +1,4 @@
--- The constants of a turn of four rounds, which the code finds by a match over the turns. Assumes nothing.
+-- The constants of a turn of four rounds, which the code finds by a match over the turns.
 use mathlib.Core.Path.{_≡_}
 use Prim.Native.Nat.{ℕ, zero, suc, _+_, _*_, _/_, _%_, _≤_, zero-le}
 use native.Mathlib.Omega.{arith}

@@ -67,7 +67,17 @@ rounds v w (suc n) = roundAt (rounds v w n) w n
 -- Eight words added to eight.
 unfoldable pub added : Vars → Vars → Vars
 added x y =
-    record { a = plus (x .a) (y .a); b = plus (x .b) (y .b); c = plus (x .c) (y .c); d = plus (x .d) (y .d); e = plus (x .e) (y .e); f = plus (x .f) (y .f); g = plus (x .g) (y .g); h = plus (x .h) (y .h) }
+    record {
+      a = plus (x .a) (y .a);
+      b = plus (x .b) (y .b);
+      c = plus (x .c) (y .c);
+      d = plus (x .d) (y .d);
+      e = plus (x .e)
+          (y .e);
+      f = plus (x .f) (y .f);
+      g = plus (x .g) (y .g);
+      h = plus (x .h) (y .h);
+    }
 
 -- The hash value after the block that starts at a place of the message.
 unfoldable pub compress : Vars → List ℕ → ℕ → Vars

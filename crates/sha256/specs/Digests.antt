@@ -21,7 +21,8 @@ padding l = 0x80 ∷ (replicate (zeros l) 0 ++ bytes64 (8 * l))
 -- The eight words of a hash value, one after the other.
 unfoldable pub bytesOf : Vars → List ℕ
 bytesOf v =
-    bytes32 (v .a) ++ (bytes32 (v .b) ++ (bytes32 (v .c) ++ (bytes32 (v .d) ++ (bytes32 (v .e) ++ (bytes32 (v .f) ++ (bytes32 (v .g) ++ bytes32 (v .h)))))))
+    bytes32 (v .a) ++ (bytes32 (v .b) ++ (bytes32 (v .c) ++ (bytes32 (v .d)
+    ++ (bytes32 (v .e) ++ (bytes32 (v .f) ++ (bytes32 (v .g) ++ bytes32 (v .h)))))))
 
 -- The digest of a message. The standard has one for each message of fewer than 2^64 bits; beyond them, where it defines nothing and where no
 -- memory reaches, this is thirty-two zero bytes.

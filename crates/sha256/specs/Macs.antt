@@ -7,10 +7,11 @@ use lib.Dec.{ltb}
 use lib.ListN.{length, replicate}
 use Rattle.sha256.specs.Digests.{digest}
 
--- ipad is the byte 0x36 repeated, opad the byte 0x5c.
+-- "ipad = the byte 0x36 repeated B times".
 abbrev pub ipad : ℕ
 ipad = 0x36
 
+-- "opad = the byte 0x5C repeated B times".
 abbrev pub opad : ℕ
 opad = 0x5c
 

@@ -58,7 +58,8 @@ pub fn hmac_parts(key: &[u8], first: &[u8], second: &[u8], third: &[u8]) -> [u8;
 // H(K ⊕ ipad, text).
 fn inner_digest(block: &[u8; 64], first: &[u8], second: &[u8], third: &[u8]) -> [u8; 32]
     requires { ⌜ length (now block) ≡ 64 ⌝ }
-    ensures { λ r. ⌜ r ≡ fips.digest (rfc.masked rfc.ipad (now (block .entry)) ++ (now (first .entry) ++ (now (second .entry) ++ now (third .entry)))) ⌝ }
+    ensures { λ r. ⌜ r ≡ fips.digest (rfc.masked rfc.ipad (now (block .entry))
+        ++ (now (first .entry) ++ (now (second .entry) ++ now (third .entry)))) ⌝ }
 {
     let front = masked(block, IPAD);
     digest_behind(&front, first, second, third)
@@ -73,8 +74,8 @@ fn outer_digest(block: &[u8; 64], inner: &[u8]) -> [u8; 32]
     digest_behind(&front, &inner[0..0], &inner[0..0], inner)
 }
 
-// Whether a tag is the one computed. It reads every byte and ors the differences, so that its time tells nothing of where they differ;
-// a tag that is not of thirty-two bytes is another.
+// Whether a tag is the one computed. It reads every byte, ors the differences and has one exit; nothing is proved of its time. A tag that is not
+// of thirty-two bytes is another.
 pub fn same_tag(ours: [u8; 32], theirs: &[u8]) -> bool
     ensures { λ r. ⌜ r ≡ same ours (now (theirs .entry)) ⌝ }
 {

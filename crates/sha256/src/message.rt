@@ -53,7 +53,8 @@ fn fits(done: usize, first: &[u8], second: &[u8], third: &[u8]) -> bool
 // The digest of the parts, from the hash value after so many bytes before them.
 fn finish(v: Vars, done: usize, first: &[u8], second: &[u8], third: &[u8]) -> [u8; 32]
     requires { ⌜ done + (length (now first) + (length (now second) + length (now third))) < 2 ^ 61 ⌝ }
-    ensures { λ r. ⌜ r ≡ bytesOf (hashed v ((now (first .entry) ++ (now (second .entry) ++ now (third .entry))) ++ padding (done + (length (now (first .entry)) + (length (now (second .entry)) + length (now (third .entry))))))) ⌝ }
+    ensures { λ r. ⌜ r ≡ bytesOf (hashed v ((now (first .entry) ++ (now (second .entry) ++ now (third .entry)))
+        ++ padding (done + (length (now (first .entry)) + (length (now (second .entry)) + length (now (third .entry))))))) ⌝ }
 {
     let total = done + (first.len() + (second.len() + third.len()));
     let tail = padding_of(total);
@@ -77,7 +78,7 @@ pub(crate) fn digest_behind(block: &[u8], first: &[u8], second: &[u8], third: &[
     ensures { λ r. ⌜ r ≡ digest (now (block .entry) ++ (now (first .entry) ++ (now (second .entry) ++ now (third .entry)))) ⌝ }
 {
     if fits(64, first, second, third) {
-        let v = compress(initial(), block, 0);
+        let v = compress(initial(), block);
         return finish(v, 64, first, second, third);
     }
     [0u8; 32]

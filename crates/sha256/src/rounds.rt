@@ -76,14 +76,14 @@ fn word_at(m: &[u8], at: usize) -> u32
 }
 
 // The block's sixteen words, before room for the others.
-fn load(m: &[u8], at: usize) -> [u32; 64]
-    requires { ⌜ at + 64 ≤ length (now m) ⌝ }
-    ensures { λ r. ⌜ (length r ≡ 64) × (take 16 r ≡ fips.words (now (m .entry)) at 16) ⌝ }
+fn load(block: &[u8]) -> [u32; 64]
+    requires { ⌜ length (now block) ≡ 64 ⌝ }
+    ensures { λ r. ⌜ (length r ≡ 64) × (take 16 r ≡ fips.words (now (block .entry)) 0 16) ⌝ }
 {
     let mut w = [0u32; 64];
     let mut n: usize = 0;
     while n < 16 {
-        w[n] = word_at(m, at + 4 * n);
+        w[n] = word_at(block, 4 * n);
         n += 1;
     }
     w
@@ -199,11 +199,11 @@ fn added(x: Vars, y: Vars) -> Vars
     }
 }
 
-// The hash value after the block at a place of the message.
-pub(crate) fn compress(v: Vars, m: &[u8], at: usize) -> Vars
-    requires { ⌜ at + 64 ≤ length (now m) ⌝ }
-    ensures { λ r. ⌜ r ≡ fips.compress v (now (m .entry)) at ⌝ }
+// The hash value after a block.
+pub(crate) fn compress(v: Vars, block: &[u8]) -> Vars
+    requires { ⌜ length (now block) ≡ 64 ⌝ }
+    ensures { λ r. ⌜ r ≡ fips.compress v (now (block .entry)) 0 ⌝ }
 {
-    let mut w = load(m, at);
+    let mut w = load(block);
     added(v, rounds(v, &mut w))
 }

@@ -4,23 +4,28 @@ ghost use mathlib.Core.Path.{_≡_};
 ghost use Prim.Native.Nat.{_<_, _≤_, _+_, _^_};
 ghost use lib.ListN.{length, take};
 ghost use lib.Seq.{sets};
-ghost use Rattle.laws.specs.Bytes.{bytes16, bytes32, bytes64};
+ghost use Rattle.laws.specs.Bytes.{bytes32, bytes64};
 ghost use Rattle.sha256.specs.Digests.{zeros, padding, bytesOf};
 
-fn put16(out: &mut [u8], at: usize, x: u32)
-    requires { ⌜ (at + 2 ≤ length (now out)) × (x < 65536) ⌝ }
-    ensures { λ _. ⌜ now (out .exit) ≡ sets (now (out .entry)) at (bytes16 x) ⌝ }
+// A word's four bytes.
+fn word_bytes(x: u32) -> [u8; 4]
+    ensures { λ r. ⌜ r ≡ bytes32 x ⌝ }
 {
-    out[at] = (x / 256) as u8;
-    out[at + 1] = (x % 256) as u8;
+    [
+        (x / 65536 / 256) as u8,
+        (x / 65536 % 256) as u8,
+        (x % 65536 / 256) as u8,
+        (x % 65536 % 256) as u8,
+    ]
 }
 
+// They are copied, which compiles to one move of a word, where four stores remain four.
 fn put32(out: &mut [u8], at: usize, x: u32)
     requires { ⌜ at + 4 ≤ length (now out) ⌝ }
     ensures { λ _. ⌜ now (out .exit) ≡ sets (now (out .entry)) at (bytes32 x) ⌝ }
 {
-    put16(out, at, x / 65536);
-    put16(out, at + 2, x % 65536);
+    let word = word_bytes(x);
+    bytes::copy(&word, &mut out[at..]);
 }
 
 fn put64(out: &mut [u8], at: usize, x: u64)

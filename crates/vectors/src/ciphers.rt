@@ -32,8 +32,16 @@ pub(crate) fn key_line(text: &[u8], at: usize) -> Said {
     Said {
         tried: true,
         agreed: agreed,
-        next: hexes::behind(text, p.next, b'\n'),
+        next: intake::behind(text, p.next, b'\n'),
     }
+}
+
+// Whether a block encrypts to its cipher and the cipher decrypts to it.
+fn block_agrees(key: [u8; 16], plain: [u8; 16], cipher: [u8; 16]) -> bool {
+    let keys = aes::key::expand_key(key);
+    let there = aes::block::encrypt_block(&keys, plain);
+    let back = aes::block::decrypt_block(&keys, cipher);
+    check::same(&there, &cipher) & check::same(&back, &plain)
 }
 
 // A key, a block and its cipher.
@@ -44,46 +52,29 @@ pub(crate) fn block_line(text: &[u8], at: usize) -> Said {
     let k = hexes::field(text, at, &mut key);
     let p = hexes::field(text, k.next, &mut plain);
     let c = hexes::field(text, p.next, &mut cipher);
-    let keys = aes::key::expand_key(key);
-    let there = aes::block::encrypt_block(&keys, plain);
-    let back = aes::block::decrypt_block(&keys, cipher);
     Said {
         tried: true,
-        agreed: check::same(&there, &cipher) & check::same(&back, &plain),
-        next: hexes::behind(text, c.next, b'\n'),
+        agreed: block_agrees(key, plain, cipher),
+        next: intake::behind(text, c.next, b'\n'),
     }
 }
 
-// Whether the plain text encrypts to the cipher text.
-fn encrypts(
-    keys: &[[u8; 16]; 11],
-    vector: [u8; 16],
-    plain: &[u8],
-    cipher: &[u8],
-    out: &mut [u8],
-) -> bool {
-    let n = plain.len();
-    let done = aes::cbc::cbc_encrypt(keys, vector, plain, out);
+// Whether so many bytes came out, and are these.
+fn came_out(out: &[u8], n: usize, bytes: &[u8]) -> bool {
     if out.len() < n {
         return false;
     }
-    done & check::same(&out[0..n], cipher)
+    check::same(&out[0..n], bytes)
 }
 
-// Whether the cipher text decrypts to the plain text.
-fn decrypts(
-    keys: &[[u8; 16]; 11],
-    vector: [u8; 16],
-    plain: &[u8],
-    cipher: &[u8],
-    out: &mut [u8],
-) -> bool {
-    let n = cipher.len();
-    let done = aes::cbc::cbc_decrypt(keys, vector, cipher, out);
-    if out.len() < n {
-        return false;
-    }
-    done & check::same(&out[0..n], plain)
+// Whether the plain text encrypts to the cipher text, and the cipher text decrypts to the plain text.
+fn agree(keys: &[[u8; 16]; 11], vector: [u8; 16], plain: &[u8], cipher: &[u8]) -> bool {
+    let mut out = [0u8; 1024];
+    let encrypted = aes::cbc::cbc_encrypt(keys, vector, plain, &mut out);
+    let there = came_out(&out, plain.len(), cipher);
+    let decrypted = aes::cbc::cbc_decrypt(keys, vector, cipher, &mut out);
+    let back = came_out(&out, cipher.len(), plain);
+    encrypted & there & decrypted & back
 }
 
 // Whether a buffer encrypts in place to the cipher text.
@@ -97,26 +88,27 @@ fn encrypts_in_place(
     done & check::same(buffer, cipher)
 }
 
+// Whether they agree, and the buffer of the plain text encrypts in place.
+fn chain_agrees(key: [u8; 16], vector: [u8; 16], plain: &mut [u8], cipher: &[u8]) -> bool {
+    let keys = aes::key::expand_key(key);
+    agree(&keys, vector, plain, cipher) & encrypts_in_place(&keys, vector, plain, cipher)
+}
+
 // A key, a vector, a plain text and its cipher text.
 pub(crate) fn chain_line(text: &[u8], at: usize) -> Said {
     let mut key = [0u8; 16];
     let mut vector = [0u8; 16];
     let mut plain = [0u8; 1024];
     let mut cipher = [0u8; 1024];
-    let mut out = [0u8; 1024];
     let k = hexes::field(text, at, &mut key);
     let v = hexes::field(text, k.next, &mut vector);
     let p = hexes::field(text, v.next, &mut plain);
     let c = hexes::field(text, p.next, &mut cipher);
     let n = p.count;
     let m = c.count;
-    let keys = aes::key::expand_key(key);
-    let there = encrypts(&keys, vector, &plain[0..n], &cipher[0..m], &mut out);
-    let back = decrypts(&keys, vector, &plain[0..n], &cipher[0..m], &mut out);
-    let again = encrypts_in_place(&keys, vector, &mut plain[0..n], &cipher[0..m]);
     Said {
         tried: true,
-        agreed: there & back & again,
-        next: hexes::behind(text, c.next, b'\n'),
+        agreed: chain_agrees(key, vector, &mut plain[0..n], &cipher[0..m]),
+        next: intake::behind(text, c.next, b'\n'),
     }
 }

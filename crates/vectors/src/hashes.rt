@@ -60,7 +60,7 @@ pub(crate) fn digest_line(text: &[u8], at: usize) -> Said {
     Said {
         tried: true,
         agreed: digest_agrees(&message[0..n], &published[0..k]),
-        next: hexes::behind(text, d.next, b'\n'),
+        next: intake::behind(text, d.next, b'\n'),
     }
 }
 
@@ -79,7 +79,7 @@ pub(crate) fn tag_line(text: &[u8], at: usize) -> Said {
     Said {
         tried: true,
         agreed: tag_agrees(&key[0..i], &message[0..n], &published[0..k], is_valid),
-        next: hexes::behind(text, d.next, b'\n'),
+        next: intake::behind(text, d.next, b'\n'),
     }
 }
 

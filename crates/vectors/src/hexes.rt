@@ -59,18 +59,6 @@ fn byte(pair: u16) -> u8 {
     (pair % 256) as u8
 }
 
-// The place behind the next byte that is the mark, or the end.
-pub fn behind(text: &[u8], at: usize, mark: u8) -> usize {
-    let mut i = at;
-    while i < text.len() {
-        if text[i] == mark {
-            return i + 1;
-        }
-        i += 1;
-    }
-    i
-}
-
 // The bytes of the field at a place, as far as there is room.
 pub fn field(text: &[u8], at: usize, out: &mut [u8]) -> Decoded
     ensures { λ r. ⌜ r .count ≤ length (now (out .exit)) ⌝ }
@@ -88,7 +76,7 @@ pub fn field(text: &[u8], at: usize, out: &mut [u8]) -> Decoded
     }
     Decoded {
         count: n,
-        next: behind(text, i, b' '),
+        next: intake::behind(text, i, b' '),
     }
 }
 

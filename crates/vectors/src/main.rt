@@ -34,7 +34,7 @@ fn line(text: &[u8], at: usize, kind: u8) -> Said {
         return Said {
             tried: false,
             agreed: false,
-            next: hexes::behind(text, at, b'\n'),
+            next: intake::behind(text, at, b'\n'),
         };
     }
     match kind {

@@ -1,4 +1,4 @@
--- The numbered examples of the reader of headers, computed. Assumes nothing.
+-- The numbered examples of the reader of headers, computed.
 use mathlib.Core.Path.{_≡_, refl}
 use mathlib.Core.List.{map}
 use Rattle.wire.specs.Examples.{p1, headerExamples}

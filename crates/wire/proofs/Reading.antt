@@ -1,4 +1,4 @@
--- Laws of `readHeader`, by the number of the first refusal. Assumes nothing.
+-- Laws of `readHeader`, by the number of the first refusal.
 use Prim.Native.Nat.{ℕ, _-_}
 use mathlib.Core.Path.{_≡_}
 use mathlib.Core.List.{List}

@@ -1,4 +1,4 @@
--- What an accepted message is, for callers of `read_header`, and which numbers its refusals have. Assumes nothing.
+-- What an accepted message is, for callers of `read_header`.
 use Prim.Native.Nat.{ℕ, _+_, _-_, _/_, _%_, _≤_, _<_}
 use mathlib.Core.Path.{_≡_, refl, sym, _∙_}
 use mathlib.Core.Logic.{_⊎_, inl, inr}
@@ -10,7 +10,7 @@ use borrow.Author.Tests.{ltb-false, leb-false, eqb-true, eqb-false, not-false, e
 use lib.ListN.{length}
 use lib.Dec.{ltb, leb, eqb}
 use Rattle.laws.specs.Bytes.{be8, be16}
-use Rattle.laws.proofs.Firsts.{first-quiet, first-upTo}
+use Rattle.laws.proofs.Firsts.{first-quiet}
 use Rattle.laws.proofs.Bools.{or-false, or4-false, and-true, and-false-right}
 use Rattle.wire.specs.Chain.{readChain, leaves, isBroken}
 use Rattle.wire.specs.Fields.{badKind, badFlags, badPiece, mostPieces, isSealed, hmacFlag, encryptedFlag, tagSize}
@@ -54,7 +54,8 @@ module _ (kind flags : ℕ) (e : badFlags kind flags ≡ false) where
       × ((eqb kind 4 && not (isSealed flags)) ≡ false)
   unfolding badFlags
   tests-of-6 =
-      or4-false (ltb 15 flags) (not (eqb (hmacFlag flags) (encryptedFlag flags))) (eqb kind 1 && isSealed flags) (eqb kind 4 && not (isSealed flags)) e
+      or4-false (ltb 15 flags) (not (eqb (hmacFlag flags) (encryptedFlag flags))) (eqb kind 1 && isSealed flags)
+      (eqb kind 4 && not (isSealed flags)) e
 
   alike : hmacFlag flags ≡ encryptedFlag flags
   alike = eqb-true (hmacFlag flags) (encryptedFlag flags) (not-false _ (tests-of-6 .1))
@@ -147,10 +148,6 @@ read-sound m h start size r = by (refusalOf m) (eqb (refusalOf m) 0) refl refl
         let g = read-refused m n (sym e) (eqb-false n 0 p) in
         let z : _≡_ {A = ℕ} 0 1 = cc in
         absurd (omega arith)
-
-most : (m : List ℕ) → refusalOf m ≤ 9
-unfolding refusalOf refusalWith rowsOf headerRows
-most m = first-upTo 9 (rowsOf m (headerOf m) (chainOf m)) refl
 
 -- The way through `read_header`: each call answers its part of the definition.
 module _ (m : List ℕ) (h : Header) (tag : ℕ) (k : Chain) (n : ℕ)

@@ -18,8 +18,8 @@ abbrev pub wrongVersion : ℕ
 wrongVersion = 4
 
 -- type not 1, 2, 4
-abbrev pub wrongKind : ℕ
-wrongKind = 5
+abbrev pub wrongType : ℕ
+wrongType = 5
 
 -- a flag above 8; flags 2 and 4 not alike; sealed Discovery; plain Session
 abbrev pub wrongFlags : ℕ

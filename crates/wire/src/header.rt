@@ -14,11 +14,11 @@ use super::numbers::number64;
 use super::refusals::TOO_SHORT;
 use super::refusals::WRONG_CHAIN;
 use super::refusals::WRONG_FLAGS;
-use super::refusals::WRONG_KIND;
 use super::refusals::WRONG_LENGTH;
 use super::refusals::WRONG_PIECE;
 use super::refusals::WRONG_SEALED_SIZE;
 use super::refusals::WRONG_SIGNATURE;
+use super::refusals::WRONG_TYPE;
 use super::refusals::WRONG_VERSION;
 ghost use mathlib.Core.Path.{_≡_};
 ghost use Prim.Native.Nat.{_≤_};
@@ -64,6 +64,29 @@ impl Header {
 
     // The first two bytes of every message.
     pub const SIGNATURE: u16 = 0x3030;
+
+    // Where each field stands, in the order of document 01's table. The wider a number, the narrower the type of its place (see numbers.rt).
+    pub const SIGNATURE_AT: u32 = 0;
+
+    pub const LENGTH_AT: u32 = 2;
+
+    pub const VERSION_AT: usize = 4;
+
+    pub const KIND_AT: usize = 5;
+
+    pub const FLAGS_AT: u32 = 6;
+
+    pub const SEQUENCE_AT: u16 = 8;
+
+    pub const REQUEST_AT: u8 = 12;
+
+    pub const INDEX_AT: u32 = 20;
+
+    pub const COUNT_AT: u32 = 22;
+
+    pub const SESSION_AT: u8 = 24;
+
+    pub const CHANNEL_AT: u8 = 32;
 
     // A header with nothing in it.
     pub fn empty() -> Self
@@ -121,18 +144,19 @@ pub fn tag_size(flags: u16) -> usize
     (flags / 2 % 2) as usize * TAG
 }
 
+// The fields, each at its place.
 fn fields(message: &[u8]) -> Header
     ensures { λ r. ⌜ r ≡ headerOf (now (message .entry)) ⌝ }
 {
     Header {
-        kind: byte(message, 5),
-        flags: number16(message, 6),
-        sequence: number32(message, 8),
-        request: number64(message, 12),
-        index: number16(message, 20),
-        count: number16(message, 22),
-        session: number64(message, 24),
-        channel: number64(message, 32),
+        kind: byte(message, Header::KIND_AT),
+        flags: number16(message, Header::FLAGS_AT),
+        sequence: number32(message, Header::SEQUENCE_AT),
+        request: number64(message, Header::REQUEST_AT),
+        index: number16(message, Header::INDEX_AT),
+        count: number16(message, Header::COUNT_AT),
+        session: number64(message, Header::SESSION_AT),
+        channel: number64(message, Header::CHANNEL_AT),
     }
 }
 
@@ -173,7 +197,7 @@ fn judge(
         return WRONG_VERSION;
     }
     if bad_kind(h.kind) {
-        return WRONG_KIND;
+        return WRONG_TYPE;
     }
     if bad_flags(h.kind, h.flags) {
         return WRONG_FLAGS;
@@ -196,9 +220,9 @@ fn refusal(message: &[u8], header: Header, chain: Chain) -> u8
 {
     judge(
         message.len(),
-        number16(message, 0),
-        number16(message, 2),
-        byte(message, 4),
+        number16(message, Header::SIGNATURE_AT),
+        number16(message, Header::LENGTH_AT),
+        byte(message, Header::VERSION_AT),
         header,
         is_broken(chain),
         leaves(chain),

@@ -5,5 +5,3 @@ pub mod header;
 pub mod numbers;
 pub mod payload;
 pub mod refusals;
-pub mod stores;
-pub mod writer;

@@ -1,4 +1,5 @@
-// Big-endian numbers at a place of a slice. A byte past the end counts as 0: whether it is there is judged by lengths.
+// Big-endian numbers at a place of a slice. A byte past the end counts as 0: whether it is there is judged by lengths. The wider the number, the
+// narrower the type of its place, so that no sum of places wraps and no call asks anything of its caller.
 ghost use mathlib.Core.Path.{_≡_};
 ghost use Prim.Native.Nat.{_<_};
 ghost use Rattle.laws.specs.Bytes.{be8, be16, be32, be64};
@@ -10,6 +11,7 @@ pub fn byte(s: &[u8], at: usize) -> u8
     if at < s.len() { s[at] } else { 0 }
 }
 
+// A byte as a wider number.
 fn wide(x: u8) -> u16
     ensures { λ r. ⌜ (r ≡ x) × (r < 256) ⌝ }
 {

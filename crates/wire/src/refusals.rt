@@ -9,7 +9,7 @@ pub const WRONG_LENGTH: u8 = 3;
 // The version is not 3.
 pub const WRONG_VERSION: u8 = 4;
 // The type is not 1, 2 or 4.
-pub const WRONG_KIND: u8 = 5;
+pub const WRONG_TYPE: u8 = 5;
 // A flag above 8, flags 2 and 4 not alike, a sealed Discovery or a plain Session.
 pub const WRONG_FLAGS: u8 = 6;
 // The count is 0 or too large, the index not under the count, or the count not 1 outside Session.

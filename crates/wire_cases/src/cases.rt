@@ -149,38 +149,52 @@ fn chains(i: u32) -> Case {
     c
 }
 
-// The faults 1 to 9 that are in the set i, by its bits, put into a sealed message.
-fn faults(i: u32) -> Case {
-    let mut c = sealed();
-    if i / 2 % 2 == 1 {
-        c.signature = 12337;
-    }
-    if i / 4 % 2 == 1 {
-        c.said = 121;
-    }
-    if i / 8 % 2 == 1 {
-        c.version = 4;
-    }
-    if i / 16 % 2 == 1 {
-        c.kind = 3;
-    }
-    if i / 32 % 2 == 1 {
-        c.flags = 22;
-    }
-    if i / 64 % 2 == 1 {
-        c.count = 0;
-    }
-    if i / 128 % 2 == 1 {
-        c.end_size = 1;
-    }
-    if i / 256 % 2 == 1 {
-        c.given = 123;
-        if i / 4 % 2 == 0 {
+// A sealed message with a fault more, by the fault's number.
+fn with_fault(case: Case, number: u8) -> Case {
+    let mut c = case;
+    match number {
+        1 => {
+            c.given = 41;
+        }
+        2 => {
+            c.signature = 12337;
+        }
+        3 => {
+            c.said = 121;
+        }
+        4 => {
+            c.version = 4;
+        }
+        5 => {
+            c.kind = 3;
+        }
+        6 => {
+            c.flags = 22;
+        }
+        7 => {
+            c.count = 0;
+        }
+        8 => {
+            c.end_size = 1;
+        }
+        _ => {
+            c.given = 123;
             c.said = 123;
         }
     }
-    if i % 2 == 1 {
-        c.given = 41;
+    c
+}
+
+// The faults 1 to 9 that are in the set i, by its bits, put into a sealed message: the last first, since 3 and 1 are lengths that 9 sets too.
+fn faults(i: u32) -> Case {
+    let mut c = sealed();
+    let mut number: u8 = 9;
+    while 0 < number {
+        if (i >> (number - 1)) % 2 == 1 {
+            let next = with_fault(c, number);
+            c = next;
+        }
+        number -= 1;
     }
     c
 }
@@ -199,35 +213,14 @@ pub fn case_of(sweep: u8, i: u32) -> Case {
 }
 
 // The least number of a set of faults.
-fn least(i: u32) -> u8 {
-    if i % 2 == 1 {
-        return 1;
+fn least(i: u32) -> u32 {
+    if i == 0 {
+        return 0;
     }
-    if i / 2 % 2 == 1 {
-        return 2;
-    }
-    if i / 4 % 2 == 1 {
-        return 3;
-    }
-    if i / 8 % 2 == 1 {
-        return 4;
-    }
-    if i / 16 % 2 == 1 {
-        return 5;
-    }
-    if i / 32 % 2 == 1 {
-        return 6;
-    }
-    if i / 64 % 2 == 1 {
-        return 7;
-    }
-    if i / 128 % 2 == 1 {
-        return 8;
-    }
-    if i / 256 % 2 == 1 { 9 } else { 0 }
+    u32::trailing_zeros(i) % 32 + 1
 }
 
 // Of a set of faults the one with the least number is answered.
 pub fn agrees(sweep: u8, i: u32, c: Case) -> bool {
-    (sweep != 8) | (expected(c) == least(i))
+    (sweep != 8) | (expected(c) as u32 == least(i))
 }

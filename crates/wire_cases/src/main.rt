@@ -5,28 +5,10 @@ mod cases;
 mod message;
 mod payload;
 
-use libc::STDOUT_FILENO;
 ghost use Prim.Native.Nat.{_≤_};
 
 // The bytes of the buffer in which messages are built: more than MessageLength can say.
 const ROOM: usize = 65600;
-
-fn name(sweep: u8) {
-    match sweep {
-        0 => io::write_all(STDOUT_FILENO, b"every length, MessageLength as it was "),
-        1 => io::write_all(STDOUT_FILENO, b"every length, plain "),
-        2 => io::write_all(STDOUT_FILENO, b"every length, sealed "),
-        3 => io::write_all(STDOUT_FILENO, b"every type "),
-        4 => io::write_all(STDOUT_FILENO, b"every version "),
-        5 => io::write_all(STDOUT_FILENO, b"every flags, for each type "),
-        6 => io::write_all(STDOUT_FILENO, b"count and index "),
-        7 => io::write_all(STDOUT_FILENO, b"chains "),
-        8 => io::write_all(STDOUT_FILENO, b"faults, all sets of them "),
-        9 => io::write_all(STDOUT_FILENO, b"payloads of 0 to 90 bytes "),
-        _ => io::write_all(STDOUT_FILENO, b"certificates and thumbprints "),
-    }
-    ;
-}
 
 fn holds(sweep: u8, i: u32, buffer: &mut [u8]) -> bool {
     if sweep == 9 {
@@ -62,32 +44,34 @@ fn differing(sweep: u8, count: u32, buffer: &mut [u8]) -> u64 {
 
 fn run(sweep: u8, buffer: &mut [u8]) {
     let count = cases::count_of(sweep);
-    name(sweep);
-    io::print_decimal(STDOUT_FILENO, count as u64);
-    io::write_all(STDOUT_FILENO, b" cases, ");
-    io::print_decimal(STDOUT_FILENO, differing(sweep, count, buffer));
-    io::write_all(STDOUT_FILENO, b" differ\n");
+    let differing = differing(sweep, count, buffer);
+    intake::sweeps::report(
+        b"every length, MessageLength as it was\n\
+        every length, plain\n\
+        every length, sealed\n\
+        every type\n\
+        every version\n\
+        every flags, for each type\n\
+        count and index\n\
+        chains\n\
+        faults, all sets of them\n\
+        payloads of 0 to 90 bytes\n\
+        certificates and thumbprints",
+        sweep,
+        count,
+        differing,
+    );
 }
 
-fn run_fields(buffer: &mut [u8]) {
-    run(0, buffer);
-    run(1, buffer);
-    run(2, buffer);
-    run(3, buffer);
-    run(4, buffer);
-    run(5, buffer);
-}
-
-fn run_wholes(buffer: &mut [u8]) {
-    run(6, buffer);
-    run(7, buffer);
-    run(8, buffer);
-    run(9, buffer);
-    run(10, buffer);
+fn run_all(buffer: &mut [u8]) {
+    let mut sweep: u8 = 0;
+    while sweep < 11 {
+        run(sweep, buffer);
+        sweep += 1;
+    }
 }
 
 fn main() {
     let mut buffer = [0u8; ROOM];
-    run_fields(&mut buffer);
-    run_wholes(&mut buffer);
+    run_all(&mut buffer);
 }

@@ -2,6 +2,24 @@
 use crate::message::put;
 use crate::message::put16;
 
+// Whether a short payload is as a shape wants it, where all else is.
+fn is_good(sealed: bool, kind: u8, code: u8, size: usize) -> bool {
+    let request = (kind == 0) & (code == 0) & (size == 86);
+    let pending = (kind == 1) & (code == 1) & (size == 86);
+    let result = (kind == 1) & (code != 1) & (code < 4) & (size == 4);
+    let done = ((kind == 6) & (size == 3)) | ((kind == 7) & (code < 5) & (size == 4));
+    (!sealed & (request | pending | result)) | (sealed & done)
+}
+
+// Lays down what the shapes want: lengths of 32, 16384 and 32.
+fn put_lengths(buffer: &mut [u8]) {
+    put16(buffer, 4, 32);
+    put16(buffer, 14, 0);
+    put16(buffer, 16, 16384);
+    put16(buffer, 18, 32);
+    put16(buffer, 52, 32);
+}
+
 // Payload i of 0 to 90 bytes: its length, type, the byte behind the type, mode, and plain or sealed; all else as the shapes want it.
 pub fn short_holds(i: u32, buffer: &mut [u8]) -> bool {
     let sealed = i % 2 == 1;
@@ -12,19 +30,11 @@ pub fn short_holds(i: u32, buffer: &mut [u8]) -> bool {
     put16(buffer, 0, mode);
     put(buffer, 2, kind);
     put(buffer, 3, code);
-    put16(buffer, 4, 32);
-    put16(buffer, 14, 0);
-    put16(buffer, 16, 16384);
-    put16(buffer, 18, 32);
-    put16(buffer, 52, 32);
+    put_lengths(buffer);
     if buffer.len() < size {
         return false;
     }
-    let request = (kind == 0) & (code == 0) & (size == 86);
-    let pending = (kind == 1) & (code == 1) & (size == 86);
-    let result = (kind == 1) & (code != 1) & (code < 4) & (size == 4);
-    let done = ((kind == 6) & (size == 3)) | ((kind == 7) & (code < 5) & (size == 4));
-    let good = (mode < 3) & ((!sealed & (request | pending | result)) | (sealed & done));
+    let good = (mode < 3) & is_good(sealed, kind, code, size);
     wire::payload::bad_payload(2, sealed, &buffer[0..size]) == !good
 }
 
@@ -49,17 +59,20 @@ fn thumbprint(i: u32) -> u16 {
     }
 }
 
+fn put_device(kind: u8, certificate: u16, thumbprint: u16, buffer: &mut [u8]) {
+    put16(buffer, 0, 2);
+    put(buffer, 2, kind);
+    put16(buffer, 3, certificate);
+    put16(buffer, 5 + certificate as u32, thumbprint);
+}
+
 // A Device Authentication payload: lengths at their edges, and a byte too few, none or one too many.
 pub fn device_holds(i: u32, buffer: &mut [u8]) -> bool {
     let c = certificate(i);
     let t = thumbprint(i / 6);
-    let kind = (2 + i / 30 % 2) as u8;
     let extra = i / 60 % 3;
     let size = 6 + c as usize + t as usize + extra as usize;
-    put16(buffer, 0, 2);
-    put(buffer, 2, kind);
-    put16(buffer, 3, c);
-    put16(buffer, 5 + c as u32, t);
+    put_device((2 + i / 30 % 2) as u8, c, t, buffer);
     if buffer.len() < size {
         return false;
     }

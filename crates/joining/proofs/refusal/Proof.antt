@@ -22,7 +22,8 @@ known c = let s = entry c .args in in-turn (s .size) (s .held .expected) (s .pie
 
 -- Its refusal is the second table's.
 second : (c : tie.Else1) → let s = entry c .args in
-    first (placeRows (s .size) (s .held) (s .piece) (s .payload .now) (s .report .now)) ≡ joinRefusal (s .size) (s .held) (s .piece) (s .payload .now) (s .report .now)
+    first (placeRows (s .size) (s .held) (s .piece) (s .payload .now) (s .report .now))
+    ≡ joinRefusal (s .size) (s .held) (s .piece) (s .payload .now) (s .report .now)
 second c =
     let s = entry c .args in
     refusal-place (s .size) (s .held) (s .piece) (s .payload .now) (s .report .now) _ (c .before .turn .ensures) (c .if1 .left)

@@ -1,12 +1,14 @@
 -- The part that was lent comes back with the piece over its first bytes.
 use native.Mathlib.Omega.{arith}
 use borrow.Author.Needs.{needs}
-use Rattle.joining.proofs.Places.{put-lent}
+use Rattle.laws.proofs.Lent.{lent-copy}
 use Rattle.joining.proofs.store.Statement.{statement}
 use Rattle.joining.proofs.store.Tie as tie
 
 returns : tie.Need-returns
-returns c = let s = c .before .before .before .before .before .before .args in put-lent (s .report .now) (s .start) (s .payload .now) (omega arith) _ (c .before .before .copy .ensures .1)
+returns c =
+    let s = c .before .before .before .before .before .before .args in
+    lent-copy (s .report .now) (s .payload .now) (s .start) (omega arith) _ (c .before .before .copy .ensures .1)
 
 pub store-spec : {M : Type 1} → statement M
 store-spec =

@@ -23,7 +23,14 @@ returns-4 c =
     let q = c .before .before in
     let i = q .before .before in
     let s = i .before .before in
-    rw (← (s .before .bad-size .ensures), s .if1 .left, ← (i .before .bad-index .ensures), i .if2 .left, ne-eqb _ _ (q .if3 .left), lt-ltb _ _ (c .if4 .taken))
+    rw (
+      ← (s .before .bad-size .ensures),
+      s .if1 .left,
+      ← (i .before .bad-index .ensures),
+      i .if2 .left,
+      ne-eqb _ _ (q .if3 .left),
+      lt-ltb _ _ (c .if4 .taken),
+    )
 
 returns-5 : tie.Need-returns-5
 returns-5 c =

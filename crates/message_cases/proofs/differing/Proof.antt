@@ -7,11 +7,11 @@ use Rattle.message_cases.proofs.differing.Statement.{statement}
 use Rattle.message_cases.proofs.differing.Tie as tie
 
 abbrev Inv-loop : tie.InvT-loop
-Inv-loop sweep count keys noise message₀ working₀ bad₀ i₀ message working bad i =
+Inv-loop sweep count noise message₀ working₀ bad₀ i₀ message working bad i =
     (i ≤ count) × (bad ≤ i) × (length message ≡ length message₀) × (length working ≡ length working₀)
 
 abbrev μ-loop : tie.MeasureT-loop
-μ-loop sweep count keys noise message₀ working₀ bad₀ i₀ message working bad i = count - i
+μ-loop sweep count noise message₀ working₀ bad₀ i₀ message working bad i = count - i
 
 pub differing-spec : {M : Type 1} → statement M
 differing-spec =

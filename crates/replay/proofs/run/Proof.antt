@@ -6,7 +6,8 @@ use Rattle.replay.proofs.run.Statement.{statement}
 use Rattle.replay.proofs.run.Tie as tie
 
 abbrev Inv-loop : tie.InvT-loop
-Inv-loop keys verdict input₀ working₀ report₀ play₀ turns₀ input working report play turns = (length input ≡ length input₀) × (length working ≡ length working₀) × (length report ≡ length report₀)
+Inv-loop keys verdict input₀ working₀ report₀ play₀ turns₀ input working report play turns = (length input ≡ length input₀)
+    × (length working ≡ length working₀) × (length report ≡ length report₀)
 
 abbrev μ-loop : tie.MeasureT-loop
 μ-loop keys verdict input₀ working₀ report₀ play₀ turns₀ input working report play turns = turns

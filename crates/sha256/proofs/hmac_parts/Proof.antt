@@ -1,4 +1,4 @@
--- The two digests are those of the definition. Assumes nothing.
+-- The two digests are those of the definition.
 use borrow.Author.Needs.{needs}
 use Rattle.sha256.specs.Macs.{hmac}
 use Rattle.sha256.proofs.hmac_parts.Statement.{statement}

@@ -1,4 +1,4 @@
--- The masked block stands in front of the message. Assumes nothing.
+-- The masked block stands in front of the message.
 use borrow.Author.Needs.{needs}
 use Rattle.sha256.proofs.inner_digest.Statement.{statement}
 use Rattle.sha256.proofs.inner_digest.Tie as tie

@@ -1,4 +1,4 @@
--- The masked block stands in front of the inner digest, which is the third part behind two empty ones. Assumes nothing.
+-- The masked block stands in front of the inner digest, which is the third part behind two empty ones.
 use borrow.Author.Needs.{needs}
 use Rattle.sha256.proofs.outer_digest.Statement.{statement}
 use Rattle.sha256.proofs.outer_digest.Tie as tie

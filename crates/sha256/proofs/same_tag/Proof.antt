@@ -1,4 +1,4 @@
--- Tags of different lengths are not the same. Assumes nothing.
+-- Tags of different lengths are not the same.
 use mathlib.Core.Path.{sym}
 use native.Mathlib.Omega.{arith}
 use borrow.Author.Needs.{needs}

@@ -1,4 +1,4 @@
--- The counts and the turns that are left are together no more than the turns at the start. Assumes nothing.
+-- The counts and the turns that are left are together no more than the turns at the start.
 use borrow.Author.Needs.{needs}
 use Prim.Native.Nat.{_+_, _≤_}
 use Rattle.vectors.proofs.lines.Statement.{statement}

@@ -1,5 +1,4 @@
--- `block::byte_or_zero` meets its contract: past the end a list has the default.
--- Assumes nothing.
+-- Past the end a list has the default.
 use mathlib.Core.Path.{sym}
 use lib.ListN.{List·getD-eq-default}
 use borrow.Author.Needs.{needs}

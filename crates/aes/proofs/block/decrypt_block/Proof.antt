@@ -1,5 +1,4 @@
--- `block::decrypt_block` meets its contract: a block decrypted after zeros is the inverse cipher of it.
--- Assumes nothing.
+-- A block decrypted after zeros is the inverse cipher of it.
 use mathlib.Core.Path.{_∙_}
 use Rattle.aes.proofs.ChainBlock.{after-zeros}
 use borrow.Author.Needs.{needs}

@@ -1,5 +1,4 @@
--- `block::encrypt_block` meets its contract: a chain of one block after zeros is the cipher.
--- Assumes nothing.
+-- A chain of one block after zeros is the cipher.
 use mathlib.Core.Path.{_∙_}
 use Rattle.aes.proofs.ChainBlock.{one-encrypted, block-encrypted}
 use borrow.Author.Needs.{needs}

@@ -1,5 +1,4 @@
--- `block::load_short` meets its contract: byte by byte.
--- Assumes nothing.
+-- Byte by byte.
 use mathlib.Core.Path.{refl}
 use Prim.Native.Nat.{_-_}
 use lib.ListN.{getD}

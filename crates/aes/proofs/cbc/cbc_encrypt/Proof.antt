@@ -1,33 +1,48 @@
--- `cbc::cbc_encrypt` meets its contract: a copy, encrypted in place.
--- Assumes nothing.
+-- A copy, encrypted in place.
 use native.Mathlib.Omega.{arith}
-use mathlib.Core.Path.{refl}
+use mathlib.Core.Path.{refl, sym, _∙_}
 use Prim.Native.Nat.{_-_}
 use lib.ListN.{length}
 use Rattle.aes.specs.Cbc.{cbcEncrypt}
-use Rattle.aes.proofs.ChainRoom.{not-whole, no-room, encrypted-copy}
+use Rattle.aes.proofs.ChainRoom.{roomy, no-fit, encrypted-copy}
 use borrow.Author.Needs.{needs}
+use borrow.Author.Tests.{not-true, not-false}
 use Rattle.aes.proofs.cbc.cbc_encrypt.Statement.{statement}
 use Rattle.aes.proofs.cbc.cbc_encrypt.Tie as tie
 
 returns : tie.Need-returns
 returns c =
-    let a = c .before .before .before .args in
-    not-whole (a .source .now) (a .target .now) (cbcEncrypt (a .keys .now) (a .vector) (a .source .now)) (c .if1 .taken)
+    let a = c .before .before .before .before .args in
+    no-fit (a .source .now) (a .target .now) (cbcEncrypt (a .keys .now) (a .vector) (a .source .now))
+    (sym (c .before .fit .ensures) ∙ not-true _ (c .if1 .taken))
+
+copy-requires : tie.Need-copy-requires
+copy-requires c κs =
+    let a = c .before .before .before .before .before .args in
+    roomy (a .source .now) (a .target .now) (sym (c .before .before .fit .ensures) ∙ not-false _ (c .before .if1 .left)) .1
+
+part-cbc-encrypt-in-place-end : tie.Need-part-cbc-encrypt-in-place-end
+part-cbc-encrypt-in-place-end c =
+    let at-if = c .before .before .before .before in
+    let a = at-if .before .before .before .before .args in
+    omega (
+      arith,
+      roomy (a .source .now) (a .target .now) (sym (at-if .before .fit .ensures) ∙ not-false _ (at-if .if1 .left)) .1,
+      c .before .before .copy .ensures .0,
+    )
 
 returns-2 : tie.Need-returns-2
 returns-2 c =
-    let a = c .before .before .before .before .args in
-    no-room (a .source .now) (a .target .now) (cbcEncrypt (a .keys .now) (a .vector) (a .source .now)) (c .before .if1 .left) (c .if2 .taken)
-
-returns-3 : tie.Need-returns-3
-returns-3 c =
-    let a = c .before .before .before .before .before .before .before .before .before .before .before .before .args in
-    encrypted-copy (a .keys .now) (a .vector) (a .source .now) (a .target .now) _ _ _ (length (a .source .now) - 0) _ (c .before .before .before .before .before .before .before .before .before .if1 .left) (c .before .before .before .before .before .before .before .before .if2 .left) (omega arith)
-    (c .before .before .before .before .before .before .copy .ensures .1) (c .before .before .cbc-encrypt-in-place .ensures .0) (c .before .before .cbc-encrypt-in-place .ensures .1) refl
+    let at-encrypted = c .before .before in
+    let at-copy = at-encrypted .before .before .before .before in
+    let at-if = at-copy .before .before in
+    let a = at-if .before .before .before .before .args in
+    encrypted-copy (a .keys .now) (a .vector) (a .source .now) (a .target .now) _ _ _ (length (a .source .now) - 0) _
+    (sym (at-if .before .fit .ensures) ∙ not-false _ (at-if .if1 .left)) (omega arith)
+    (at-copy .copy .ensures .1) (at-encrypted .cbc-encrypt-in-place .ensures .0) (at-encrypted .cbc-encrypt-in-place .ensures .1) refl
 
 pub cbc-encrypt-spec : {M : Type 1} → statement M
 cbc-encrypt-spec =
     tie.close (tie.spec
-    returns returns-2 (λ c κs. search needs) (λ c. search needs) (λ c. search needs) (λ c. search needs)
-    (λ c κs. search needs) (λ c. search needs) returns-3)
+    (λ c κs. search needs) returns copy-requires (λ c. search needs) (λ c. search needs)
+    part-cbc-encrypt-in-place-end (λ c κs. search needs) (λ c. search needs) returns-2)

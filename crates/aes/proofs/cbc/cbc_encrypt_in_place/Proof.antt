@@ -1,5 +1,4 @@
--- `cbc::cbc_encrypt_in_place` meets its contract, by those of what it calls.
--- Assumes nothing.
+-- By the contracts of what it calls.
 use mathlib.Core.Path.{_∙_, ap}
 use mathlib.Core.List.{List}
 use Prim.Native.Nat.{ℕ}
@@ -13,13 +12,16 @@ returns : tie.Need-returns
 returns c = odd-buffer _ _ (c .if1 .taken)
 
 encrypt-buffer-requires : tie.Need-encrypt-buffer-requires
-encrypt-buffer-requires c κs = (c .before .before .before .before .before .substitution .ensures, c .before .before .before .before .mixing .ensures, c .before .before .before .before .before .before .if1 .left)
+encrypt-buffer-requires c κs =
+    (c .before .before .before .before .before .substitution .ensures, c .before .before .before .before .mixing .ensures, c .before .before .before .before .before .before .if1 .left)
 
 returns-2 : tie.Need-returns-2
 returns-2 c =
     let a = c .before .before .before .before .before .before .before .before .before .before .before .args in
-    whole-buffer (a .buffer .now) (cbcEncrypt (a .keys .now) (a .vector) (a .buffer .now)) _ (c .before .before .before .before .before .before .before .before .before .if1 .left)
-    (c .before .before .encrypt-buffer .ensures ∙ ap (λ (v : List ℕ). cbcEncrypt (a .keys .now) v (a .buffer .now)) (c .before .before .before .before .words .ensures))
+    whole-buffer (a .buffer .now) (cbcEncrypt (a .keys .now) (a .vector) (a .buffer .now)) _
+    (c .before .before .before .before .before .before .before .before .before .if1 .left)
+    (c .before .before .encrypt-buffer .ensures ∙ ap (λ (v : List ℕ). cbcEncrypt (a .keys .now) v (a .buffer .now))
+    (c .before .before .before .before .words .ensures))
 
 pub cbc-encrypt-in-place-spec : {M : Type 1} → statement M
 cbc-encrypt-in-place-spec =

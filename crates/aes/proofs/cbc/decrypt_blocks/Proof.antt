@@ -1,5 +1,4 @@
--- `cbc::decrypt_blocks` meets its contract: two blocks at a time, or the one that is left.
--- Assumes nothing.
+-- Two blocks at a time, or the one that is left.
 use native.Mathlib.Decide.{ℕ-discrete}
 use native.Mathlib.Omega.{arith}
 use Prim.Native.Nat.{_-_}
@@ -40,7 +39,8 @@ loop-again : tie.Need-loop-again Inv-loop μ-loop
 loop-again c =
     let f = c .before .before .before .before .following in
     let d = c .before .before .decrypt-two .ensures in
-    decrypt-two-more _ _ _ _ _ _ _ (c .before .before .before .before .before .before .loop .inv) (f .result) _ _ (f .ensures .0) (f .ensures .1) (f .ensures .2) (d .0) (d .1) (ℕ-discrete (f .result) _)
+    decrypt-two-more _ _ _ _ _ _ _ (c .before .before .before .before .before .before .loop .inv) (f .result) _ _ (f .ensures .0)
+    (f .ensures .1) (f .ensures .2) (d .0) (d .1) (ℕ-discrete (f .result) _)
 
 same-length : tie.Need-same-length Inv-loop μ-loop
 same-length c = c .before .loop .inv .len

@@ -1,5 +1,4 @@
--- `cbc::decrypt_two` meets its contract, by those of what it calls.
--- Assumes nothing.
+-- By the contracts of what it calls.
 use native.Mathlib.Omega.{arith}
 use mathlib.Core.Path.{_∙_, ap}
 use mathlib.Core.List.{List}
@@ -15,7 +14,8 @@ use Rattle.aes.proofs.cbc.decrypt_two.Statement.{statement}
 use Rattle.aes.proofs.cbc.decrypt_two.Tie as tie
 
 put-requires-2 : tie.Need-put-requires-2
-put-requires-2 c κs = room-after _ _ _ _ _ _ (c .before .before .before .before .before .before .before .before .before .before .before .before .before .before .before .before .pre .3) (c .before .before .before .before .before .before .before .before .before .before .before .before .before .before .before .before .pre .5) (c .before .before .before .before .before .before .bytes-of .ensures) (c .before .before .before .before .before .put .ensures)
+put-requires-2 c κs = room-after _ _ _ _ _ _
+    (c .before .before .before .before .before .before .before .before .before .before .before .before .before .before .before .before .pre .3) (c .before .before .before .before .before .before .before .before .before .before .before .before .before .before .before .before .pre .5) (c .before .before .before .before .before .before .bytes-of .ensures) (c .before .before .before .before .before .put .ensures)
 
 returns : tie.Need-returns
 returns c =
@@ -29,10 +29,13 @@ returns c =
     let p = c .before .before .before .before .before .before .before .before .before .before .before .before .decrypt-pair .ensures in
     let ex = x .ensures ∙ loaded s at h in
     let later =
-    decrypted _ s _ (a .args .target .now) next _ _ _ _ _ (a .pre .4) (y .ensures) (p .1) (c .before .before .before .before .before .before .before .before .before .before .add .ensures)
-    (c .before .before .before .before .before .before .before .before .before .bytes-of .ensures) (c .before .before .before .before .before .before .before .before .put .ensures) in
+    decrypted _ s _ (a .args .target .now) next _ _ _ _ _ (a .pre .4) (y .ensures) (p .1)
+    (c .before .before .before .before .before .before .before .before .before .before .add .ensures)
+    (c .before .before .before .before .before .before .before .before .before .bytes-of .ensures)
+    (c .before .before .before .before .before .before .before .before .put .ensures) in
     let first =
-    decrypted _ s _ _ at _ _ _ _ _ h (x .ensures) (p .0) (c .before .before .before .before .add2 .ensures) (c .before .before .before .bytes-of2 .ensures) (c .before .before .put2 .ensures) in (
+    decrypted _ s _ _ at _ _ _ _ _ h (x .ensures) (p .0) (c .before .before .before .before .add2 .ensures)
+    (c .before .before .before .bytes-of2 .ensures) (c .before .before .put2 .ensures) in (
       y .ensures ∙ loaded s next (a .pre .4),
       first
           ∙ ap (λ (t : List ℕ). paste t at (cbcDecryptBlock (a .args .keys .now) (bytesOf (a .args .v)) (take 16 (drop at s))) 16)

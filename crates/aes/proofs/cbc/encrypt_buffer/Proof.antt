@@ -1,5 +1,4 @@
--- `cbc::encrypt_buffer` meets its contract: block by block; what is not done yet is as it was.
--- Assumes nothing.
+-- Block by block; what is not done yet is as it was.
 use native.Mathlib.Omega.{arith}
 use native.Mathlib.Nat.{le-refl}
 use mathlib.Core.Path.{_∙_, ap}
@@ -15,7 +14,8 @@ use Rattle.aes.proofs.cbc.encrypt_buffer.Statement.{statement}
 use Rattle.aes.proofs.cbc.encrypt_buffer.Tie as tie
 
 abbrev Inv-loop : tie.InvT-loop
-Inv-loop keys sb t buffer₀ v₀ at₀ buffer v at = Chained (encryptBlocks keys) buffer₀ buffer₀ (bytesOf v₀) (bytesOf v) buffer at × (length buffer₀ < 18446744073709551616)
+Inv-loop keys sb t buffer₀ v₀ at₀ buffer v at = Chained (encryptBlocks keys) buffer₀ buffer₀ (bytesOf v₀) (bytesOf v) buffer at
+    × (length buffer₀ < 18446744073709551616)
 
 abbrev μ-loop : tie.MeasureT-loop
 μ-loop keys sb t buffer₀ v₀ at₀ buffer v at = length buffer₀ - at
@@ -27,24 +27,44 @@ sub-words-from : tie.Need-sub-words-from Inv-loop μ-loop
 sub-words-from c = omega (arith, c .before .loop .inv .0 .len)
 
 words-from-requires : tie.Need-words-from-requires Inv-loop μ-loop
-words-from-requires c κs = enough (c .before .before .before .loop .buffer) (c .before .before .before .loop .at) (in-target _ _ _ _ _ _ _ (c .before .before .before .loop .inv .0) (omega (arith, c .before .before .before .loop .inv .0 .len)))
+words-from-requires c κs = enough (c .before .before .before .loop .buffer) (c .before .before .before .loop .at)
+    (in-target _ _ _ _ _ _ _ (c .before .before .before .loop .inv .0) (omega (arith, c .before .before .before .loop .inv .0 .len)))
 
 put-requires : tie.Need-put-requires Inv-loop μ-loop
-put-requires c κs = in-target _ _ _ _ _ _ _ (c .before .before .before .before .before .before .before .before .loop .inv .0) (omega (arith, c .before .before .before .before .before .before .before .before .loop .inv .0 .len))
+put-requires c κs = in-target _ _ _ _ _ _ _ (c .before .before .before .before .before .before .before .before .loop .inv .0)
+    (omega (arith, c .before .before .before .before .before .before .before .before .loop .inv .0 .len))
 
 add-at : tie.Need-add-at Inv-loop μ-loop
-add-at c = omega (arith, c .before .before .before .before .before .before .before .before .before .before .before .loop .inv .1, c .before .before .before .before .before .before .before .before .before .before .before .loop .inv .0 .len, in-source _ _ _ _ _ _ _ (c .before .before .before .before .before .before .before .before .before .before .before .loop .inv .0) (omega (arith, c .before .before .before .before .before .before .before .before .before .before .before .loop .inv .0 .len)))
+add-at c = omega (
+  arith,
+  c .before .before .before .before .before .before .before .before .before .before .before .loop .inv .1,
+  c .before .before .before .before .before .before .before .before .before .before .before .loop .inv .0 .len,
+  in-source _ _ _ _ _ _ _
+      (c .before .before .before .before .before .before .before .before .before .before .before .loop .inv .0)
+      (omega (arith, c .before .before .before .before .before .before .before .before .before .before .before .loop .inv .0 .len)),
+)
 
 loop-less : tie.Need-loop-less Inv-loop μ-loop
-loop-less c = omega (arith, c .before .before .before .before .before .before .before .before .before .before .before .loop .inv .0 .len, in-source _ _ _ _ _ _ _ (c .before .before .before .before .before .before .before .before .before .before .before .loop .inv .0) (omega (arith, c .before .before .before .before .before .before .before .before .before .before .before .loop .inv .0 .len)))
+loop-less c = omega (
+  arith,
+  c .before .before .before .before .before .before .before .before .before .before .before .loop .inv .0 .len,
+  in-source _ _ _ _ _ _ _ (c .before .before .before .before .before .before .before .before .before .before .before .loop .inv .0)
+      (omega (arith, c .before .before .before .before .before .before .before .before .before .before .before .loop .inv .0 .len)),
+)
 
 loop-again : tie.Need-loop-again Inv-loop μ-loop
 loop-again c =
     let l = c .before .before .before .before .before .before .before .before .before .before .before .loop in
-    let h : l .at < length (c .before .before .before .before .before .before .before .before .before .before .before .before .before .args .buffer .now) = omega (arith, l .inv .0 .len) in (
+    let h : l .at < length
+    (c .before .before .before .before .before .before .before .before .before .before .before .before .before .args .buffer .now) = omega (
+      arith,
+      l .inv .0 .len,
+    ) in (
       encrypt-more _ _ _ _ _ _ _ (l .inv .0) _ _ _ _ _ h
-          (c .before .before .before .before .before .before .before .words-from .ensures ∙ loaded _ _ (in-target _ _ _ _ _ _ _ (l .inv .0) h) ∙ ap (take 16) (l .inv .0 .rest))
-          (c .before .before .before .before .before .before .add .ensures) (c .before .before .before .before .before .encrypt .ensures) (c .before .before .before .bytes-of .ensures) (c .before .before .put .ensures),
+          (c .before .before .before .before .before .before .before .words-from .ensures
+          ∙ loaded _ _ (in-target _ _ _ _ _ _ _ (l .inv .0) h) ∙ ap (take 16) (l .inv .0 .rest))
+          (c .before .before .before .before .before .before .add .ensures) (c .before .before .before .before .before .encrypt .ensures)
+          (c .before .before .before .bytes-of .ensures) (c .before .before .put .ensures),
       l .inv .1,
     )
 

@@ -1,5 +1,4 @@
--- `cbc::put` meets its contract: byte by byte.
--- Assumes nothing.
+-- Byte by byte.
 use native.Mathlib.Omega.{arith}
 use native.Mathlib.Numerals.{add-one}
 use mathlib.Core.Path.{_≡_, refl, sym, ap, _∙_}

@@ -1,5 +1,4 @@
--- `columns::add` meets its contract: the words are added byte by byte.
--- Assumes nothing.
+-- The words are added byte by byte.
 use native.Mathlib.Omega.{arith}
 use Rattle.field.specs.Xor.{xor}
 use Rattle.aes.proofs.Words.{Words, bytesOf-block, columns-added, own-columns}

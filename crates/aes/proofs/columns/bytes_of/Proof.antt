@@ -1,5 +1,4 @@
--- `columns::bytes_of` meets its contract: the code is the definition.
--- Assumes nothing.
+-- The code is the definition.
 use mathlib.Core.Path.{refl}
 use Rattle.aes.specs.Words.{bytesOf}
 use borrow.Author.Needs.{needs}

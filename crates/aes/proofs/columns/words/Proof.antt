@@ -1,5 +1,4 @@
--- `columns::words` meets its contract: the words are made of the block's bytes.
--- Assumes nothing.
+-- The words are made of the block's bytes.
 use lib.ListN.{getD}
 use mir.Val.{Fits}
 use mir.Syntax.{w8}

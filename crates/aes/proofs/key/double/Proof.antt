@@ -1,5 +1,4 @@
--- `key::double` meets its contract: it computes what `xtime` says, a byte.
--- Assumes nothing.
+-- It computes what `xtime` says, a byte.
 use mathlib.Core.Path.{refl}
 use Rattle.field.specs.Xor.{xor}
 use Rattle.field.specs.Field.{xtime}

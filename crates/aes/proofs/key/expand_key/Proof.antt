@@ -1,5 +1,4 @@
--- `key::expand_key` meets its contract: key by key.
--- Assumes nothing.
+-- Key by key.
 use native.Mathlib.Omega.{arith}
 use mathlib.Core.Path.{_≡_, refl}
 use mathlib.Core.List.{[]}

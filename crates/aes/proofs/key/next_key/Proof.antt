@@ -1,5 +1,4 @@
--- `key::next_key` meets its contract: sixteen sums, by the four substitutes.
--- Assumes nothing.
+-- Sixteen sums, by the four substitutes.
 use Rattle.field.specs.Xor.{xor}
 use Rattle.aes.proofs.Schedule.{next-by}
 use borrow.Author.Needs.{needs}
@@ -9,7 +8,8 @@ use Rattle.aes.proofs.key.next_key.Tie as tie
 returns : tie.Need-returns
 unfolding xor
 returns c =
-    next-by (c .before .before .before .before .args .t2) (c .before .before .before .before .args .c) _ _ _ _ (c .before .before .before .substitute .ensures)
+    next-by (c .before .before .before .before .args .t2) (c .before .before .before .before .args .c) _ _ _ _
+    (c .before .before .before .substitute .ensures)
     (c .before .before .substitute2 .ensures) (c .before .substitute3 .ensures) (c .substitute4 .ensures)
 
 pub next-key-spec : {M : Type 1} → statement M

@@ -1,5 +1,4 @@
--- `key::substitute` meets its contract: the table holds the substitutes.
--- Assumes nothing.
+-- The table holds the substitutes.
 use mathlib.Core.Path.{_∙_, ap}
 use mathlib.Core.List.{List}
 use Prim.Native.Nat.{ℕ}

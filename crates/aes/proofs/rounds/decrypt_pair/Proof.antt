@@ -1,5 +1,4 @@
--- `rounds::decrypt_pair` meets its contract: round by round, the same for both blocks.
--- Assumes nothing.
+-- Round by round, the same for both blocks.
 use mathlib.Core.Path.{_≡_, _∙_, refl}
 use Prim.Native.Nat.{_≤_}
 use Rattle.aes.specs.Words.{bytesOf}
@@ -10,7 +9,8 @@ use Rattle.aes.proofs.rounds.decrypt_pair.Statement.{statement}
 use Rattle.aes.proofs.rounds.decrypt_pair.Tie as tie
 
 abbrev Inv-loop : tie.InvT-loop
-Inv-loop keys inverse sb t x₀ y₀ n₀ x y n = (n ≤ 9) × (unrounds keys n (bytesOf x) ≡ unrounds keys 9 (bytesOf x₀)) × (unrounds keys n (bytesOf y) ≡ unrounds keys 9 (bytesOf y₀))
+Inv-loop keys inverse sb t x₀ y₀ n₀ x y n = (n ≤ 9) × (unrounds keys n (bytesOf x) ≡ unrounds keys 9 (bytesOf x₀))
+    × (unrounds keys n (bytesOf y) ≡ unrounds keys 9 (bytesOf y₀))
 
 abbrev μ-loop : tie.MeasureT-loop
 μ-loop keys inverse sb t x₀ y₀ n₀ x y n = n
@@ -26,8 +26,10 @@ loop-again c =
     let k = c .before .before .words2 .ensures in
     let h = c .before .before .before .before .loop-test .taken in (
       search needs,
-      unrounds-less (a .keys .now) (a .inverse .now) keys _ _ _ (l .n) h (l .inv .0) (c .before .inv-round .ensures .1) k (c .before .inv-round .ensures .0) ∙ l .inv .1,
-      unrounds-less (a .keys .now) (a .inverse .now) keys _ _ _ (l .n) h (l .inv .0) (c .inv-round2 .ensures .1) k (c .inv-round2 .ensures .0) ∙ l .inv .2,
+      unrounds-less (a .keys .now) (a .inverse .now) keys _ _ _ (l .n) h (l .inv .0) (c .before .inv-round .ensures .1) k
+          (c .before .inv-round .ensures .0) ∙ l .inv .1,
+      unrounds-less (a .keys .now) (a .inverse .now) keys _ _ _ (l .n) h (l .inv .0) (c .inv-round2 .ensures .1) k
+          (c .inv-round2 .ensures .0) ∙ l .inv .2,
     )
 
 returns : tie.Need-returns Inv-loop μ-loop
@@ -35,8 +37,10 @@ returns c =
     let l = c .before .before .before .before .before .loop in
     let k = c .before .before .before .before .before .before .before .before .words .ensures in
     let h = c .before .before .before .before .loop-test .left in (
-      invCipher-whole _ _ _ _ _ _ _ (l .n) k (c .before .before .before .before .before .before .before .add .ensures) (l .inv .1) h (c .before .before .words3 .ensures) (c .before .inv-last-round .ensures),
-      invCipher-whole _ _ _ _ _ _ _ (l .n) k (c .before .before .before .before .before .before .add2 .ensures) (l .inv .2) h (c .before .before .words3 .ensures) (c .inv-last-round2 .ensures),
+      invCipher-whole _ _ _ _ _ _ _ (l .n) k (c .before .before .before .before .before .before .before .add .ensures) (l .inv .1) h
+          (c .before .before .words3 .ensures) (c .before .inv-last-round .ensures),
+      invCipher-whole _ _ _ _ _ _ _ (l .n) k (c .before .before .before .before .before .before .add2 .ensures) (l .inv .2) h
+          (c .before .before .words3 .ensures) (c .inv-last-round2 .ensures),
     )
 
 pub decrypt-pair-spec : {M : Type 1} → statement M

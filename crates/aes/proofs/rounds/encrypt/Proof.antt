@@ -1,5 +1,4 @@
--- `rounds::encrypt` meets its contract: round by round.
--- Assumes nothing.
+-- Round by round.
 use native.Mathlib.Omega.{arith}
 use mathlib.Core.Path.{_≡_}
 use Prim.Native.Nat.{_≤_, _-_}
@@ -21,12 +20,17 @@ unfolding rounds
 loop-holds c = search needs
 
 loop-again : tie.Need-loop-again Inv-loop μ-loop
-loop-again c = (search needs, rounds-more _ _ _ _ _ _ (c .before .before .before .before .loop .inv .1) (c .before .words2 .ensures) (c .round .ensures))
+loop-again c = (
+  search needs,
+  rounds-more _ _ _ _ _ _ (c .before .before .before .before .loop .inv .1) (c .before .words2 .ensures)
+      (c .round .ensures),
+)
 
 returns : tie.Need-returns Inv-loop μ-loop
 returns c =
     let e : c .before .before .before .before .loop .n ≡ 9 = omega arith in
-    cipher-whole _ _ _ _ _ _ _ (c .before .before .before .before .before .before .words .ensures) (c .before .before .before .before .before .add .ensures)
+    cipher-whole _ _ _ _ _ _ _ (c .before .before .before .before .before .before .words .ensures)
+    (c .before .before .before .before .before .add .ensures)
     (rw e at (c .before .before .before .before .loop .inv .1)) (c .before .words3 .ensures) (c .last-round .ensures)
 
 pub encrypt-spec : {M : Type 1} → statement M

@@ -1,5 +1,4 @@
--- `rounds::inv_round` meets its contract: the words looked up are the columns of the round back.
--- Assumes nothing.
+-- The words looked up are the columns of the round back.
 use Rattle.field.specs.Xor.{xor}
 use Rattle.aes.proofs.Steps.{unmix-block, unsub-block, unshift-block}
 use Rattle.aes.proofs.Words.{Words, bytesOf-block, columns-added}

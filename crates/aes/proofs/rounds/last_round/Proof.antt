@@ -1,5 +1,4 @@
--- `rounds::last_round` meets its contract: the bytes looked up are the columns of the round.
--- Assumes nothing.
+-- The bytes looked up are the columns of the round.
 use Rattle.field.specs.Xor.{xor}
 use Rattle.aes.proofs.Steps.{shift-block, sub-block}
 use Rattle.aes.proofs.Words.{Words, bytesOf-block, columns-added}

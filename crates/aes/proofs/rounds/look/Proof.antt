@@ -1,5 +1,4 @@
--- `rounds::look` meets its contract: the code is the definition.
--- Assumes nothing.
+-- The code is the definition.
 use mathlib.Core.Path.{refl}
 use Rattle.field.specs.Xor.{xor}
 use Rattle.aes.specs.Words.{lookedUp}

@@ -1,5 +1,4 @@
--- `rounds::look_bytes` meets its contract: the code is the definition.
--- Assumes nothing.
+-- The code is the definition.
 use Rattle.aes.specs.Words.{lookedUpBytes}
 use borrow.Author.Needs.{needs}
 use Rattle.aes.proofs.rounds.look_bytes.Statement.{statement}

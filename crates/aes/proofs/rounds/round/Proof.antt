@@ -1,5 +1,4 @@
--- `rounds::round` meets its contract: the words looked up are the columns of the round.
--- Assumes nothing.
+-- The words looked up are the columns of the round.
 use Rattle.field.specs.Xor.{xor}
 use Rattle.aes.proofs.Steps.{mix-block, shift-block, sub-block}
 use Rattle.aes.proofs.Words.{Words, bytesOf-block, columns-added}

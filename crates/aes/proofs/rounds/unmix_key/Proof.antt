@@ -1,5 +1,4 @@
--- `rounds::unmix_key` meets its contract: the four words are the columns mixed back.
--- Assumes nothing.
+-- The four words are the columns mixed back.
 use mathlib.Core.Path.{_∙_, ap, subst}
 use Rattle.aes.specs.State.{Block, invMixColumns}
 use Rattle.aes.specs.Words.{bytesOf}

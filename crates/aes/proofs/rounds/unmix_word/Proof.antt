@@ -1,5 +1,4 @@
--- `rounds::unmix_word` meets its contract: what the tables undo, the substitution did.
--- Assumes nothing.
+-- What the tables undo, the substitution did.
 use Rattle.aes.proofs.Lookups.{unmixed-word}
 use borrow.Author.Needs.{needs}
 use Rattle.aes.proofs.rounds.unmix_word.Statement.{statement}
@@ -7,8 +6,11 @@ use Rattle.aes.proofs.rounds.unmix_word.Tie as tie
 
 returns : tie.Need-returns
 returns c =
-    let a = c .before .before in
-    (unmixed-word _ _ (a .pre .0) (a .pre .1) (a .args .x) _ _ (a .fits .x .fits) (c .before .look-bytes .ensures .0) (c .look .ensures .0), a .fits .x .fits)
+    let a = c .before .before in (
+      unmixed-word _ _ (a .pre .0) (a .pre .1) (a .args .x) _ _ (a .fits .x .fits) (c .before .look-bytes .ensures .0)
+          (c .look .ensures .0),
+      a .fits .x .fits,
+    )
 
 pub unmix-word-spec : {M : Type 1} → statement M
 unmix-word-spec = tie.close (tie.spec (λ c κs. search needs) (λ c κs. search needs) returns)

@@ -10,7 +10,8 @@ use Rattle.bench_c.proofs.joins.join_all.Statement.{statement}
 use Rattle.bench_c.proofs.joins.join_all.Tie as tie
 
 abbrev Inv-loop : tie.InvT-loop
-Inv-loop size count source report₀ held₀ told₀ i₀ report held told i = (i ≤ count) × (length report ≡ length report₀) × Came size count source report₀ i held report told
+Inv-loop size count source report₀ held₀ told₀ i₀ report held told i = (i ≤ count) × (length report ≡ length report₀)
+    × Came size count source report₀ i held report told
 
 abbrev μ-loop : tie.MeasureT-loop
 μ-loop size count source report₀ held₀ told₀ i₀ report held told i = count - i

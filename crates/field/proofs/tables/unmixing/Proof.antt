@@ -1,5 +1,4 @@
 -- The words of InvMixColumns, tested over the whole table.
--- Assumes nothing.
 use mathlib.Core.Path.{refl}
 use Rattle.field.specs.Xor.{xor}
 use Rattle.field.specs.Field.{xtime, times, mul, square, ones, inverse}

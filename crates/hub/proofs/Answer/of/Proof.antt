@@ -1,3 +1,4 @@
+-- By the arrival's kind.
 use mathlib.Core.Path.{sym, ap}
 use borrow.Author.Needs.{needs}
 use Rattle.hub.specs.Answers.{answerOf}

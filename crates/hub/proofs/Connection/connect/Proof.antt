@@ -1,3 +1,4 @@
+-- The row is that of the payload's type: 0, 2, 6, or none.
 use mathlib.Core.Path.{sym, _∙_}
 use borrow.Author.Tests.{ne-eqb}
 use borrow.Author.Needs.{needs}
@@ -32,7 +33,13 @@ unfolding connect host
 returns-4 c =
     let k = c .before in
     let t = k .before .before .before in
-    rw (← (t .connect-type .ensures), ne-eqb _ _ (k .before .before .if1 .left), ne-eqb _ _ (k .before .if2 .left), ne-eqb _ _ (k .if3 .left), c .refuse .ensures)
+    rw (
+      ← (t .connect-type .ensures),
+      ne-eqb _ _ (k .before .before .if1 .left),
+      ne-eqb _ _ (k .before .if2 .left),
+      ne-eqb _ _ (k .if3 .left),
+      c .refuse .ensures,
+    )
 
 pub connect-spec : {M : Type 1} → statement M
 connect-spec =

@@ -1,3 +1,4 @@
+-- Row by row: state 2, state 3, all else.
 use borrow.Author.Tests.{eq-eqb, ne-eqb}
 use borrow.Author.Needs.{needs}
 use Rattle.hub.specs.Host.{host}

@@ -1,3 +1,4 @@
+-- By the way through the tests of 16 and 15 (proofs/Hearing): foreign, Connect, Session in state 3, none of these.
 use mathlib.Core.Path.{_≡_, sym, _∙_}
 use mathlib.Core.Bool.{false}
 use borrow.Author.Tests.{ne-eqb}
@@ -15,7 +16,8 @@ returns : tie.Need-returns
 returns c =
     let i = c .before in
     let s = i .before .before .before .before .args in
-    way-foreign (s .self) (s .header) (s .payload .now) (s .report .now) (s .verdict) (sym (i .before .is-foreign .ensures) ∙ i .if1 .taken) _ (c .refuse .ensures)
+    way-foreign (s .self) (s .header) (s .payload .now) (s .report .now) (s .verdict)
+    (sym (i .before .is-foreign .ensures) ∙ i .if1 .taken) _ (c .refuse .ensures)
 
 returns-2 : tie.Need-returns-2
 returns-2 c =
@@ -30,7 +32,8 @@ returns-3 c =
     let i = k .before .before in
     let s = i .before .before .before .before .args in
     let e = c .before .before .session .ensures in
-    way-session (s .self) (s .header) (s .payload .now) (s .report .now) (s .verdict) (own i) (ne-eqb _ _ (k .if2 .left)) (j .if3 .taken) _ (e .0) _ (e .1)
+    way-session (s .self) (s .header) (s .payload .now) (s .report .now) (s .verdict) (own i) (ne-eqb _ _ (k .if2 .left)) (j .if3 .taken) _
+    (e .0) _ (e .1)
 
 returns-4 : tie.Need-returns-4
 returns-4 c =
@@ -38,7 +41,8 @@ returns-4 c =
     let k = j .before .before .before in
     let i = k .before .before in
     let s = i .before .before .before .before .args in
-    way-else (s .self) (s .header) (s .payload .now) (s .report .now) (s .verdict) (own i) (ne-eqb _ _ (k .if2 .left)) (j .if3 .left) _ (c .refuse2 .ensures)
+    way-else (s .self) (s .header) (s .payload .now) (s .report .now) (s .verdict) (own i) (ne-eqb _ _ (k .if2 .left)) (j .if3 .left) _
+    (c .refuse2 .ensures)
 
 pub hear-spec : {M : Type 1} → statement M
 hear-spec =

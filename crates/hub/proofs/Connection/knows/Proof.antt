@@ -1,3 +1,4 @@
+-- Three comparisons, one behind the other.
 use borrow.Author.Needs.{needs}
 use Rattle.hub.proofs.Connection.knows.Statement.{statement}
 use Rattle.hub.proofs.Connection.knows.Tie as tie

@@ -1,3 +1,4 @@
+-- The certificate's place lies in the payload, whatever the payload is.
 use Prim.Native.Nat.{_+_, _≤_}
 use mathlib.Core.Path.{_∙_}
 use native.Mathlib.Nat.{add-sub-cancel-left}
@@ -9,7 +10,8 @@ use Rattle.hub.proofs.hear.certificate_digest.Statement.{statement}
 use Rattle.hub.proofs.hear.certificate_digest.Tie as tie
 
 -- The place lies in the payload.
-inside : (c : tie.After-struct-known) → let r = c .before .certificate-of .result in r .from + r .size ≤ length (c .before .before .before .args .payload .now)
+inside : (c : tie.After-struct-known) → let r = c .before .certificate-of .result in r .from + r .size ≤ length
+    (c .before .before .before .args .payload .now)
 inside c = rw (c .before .certificate-of .ensures) (certificate-inside (c .before .before .before .args .payload .now))
 
 add-end : tie.Need-add-end

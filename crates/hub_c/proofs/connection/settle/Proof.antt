@@ -14,16 +14,6 @@ returns c =
     let e = at-said-of .said-of .ensures in
     (ap (λ (t : Said). t .refusal) e, (rw (← e, ne-eqb _ _ (c .if1 .taken)), rw (← e, ne-eqb _ _ (c .if1 .taken))))
 
-encode-requires : tie.Need-encode-requires
-encode-requires c κs =
-    let start = c .before .before .before .before .before .before .before in
-    start .pre .0
-
-put-triple-requires : tie.Need-put-triple-requires
-put-triple-requires c κs =
-    let start = c .before .before .before .before .before .before .before .before .before .before .before in
-    start .pre .1
-
 returns-2 : tie.Need-returns-2
 unfolding stateAfter answerAfter
 returns-2 c =
@@ -31,11 +21,16 @@ returns-2 c =
     let at-encode = at-put-triple .before .before .before .before in
     let at-if1 = at-encode .before .before .before in
     let at-said-of = at-if1 .before .before in
-    let e = at-said-of .said-of .ensures in
-    (sym (at-if1 .if1 .left) ∙ ap (λ (t : Said). t .refusal) e, (rw (← e, eq-eqb _ _ (at-if1 .if1 .left)) (at-encode .encode .ensures), rw (← e, eq-eqb _ _ (at-if1 .if1 .left)) (at-put-triple .put-triple .ensures)))
+    let e = at-said-of .said-of .ensures in (
+      sym (at-if1 .if1 .left) ∙ ap (λ (t : Said). t .refusal) e,
+      (
+        rw (← e, eq-eqb _ _ (at-if1 .if1 .left)) (at-encode .encode .ensures),
+        rw
+            (← e, eq-eqb _ _ (at-if1 .if1 .left)) (at-put-triple .put-triple .ensures),
+      ),
+    )
 
 pub settle-spec : {M : Type 1} → statement M
 settle-spec =
     tie.close (tie.spec
-    (λ c κs. search needs) returns encode-requires put-triple-requires (λ c. search needs) (λ c. search needs)
-    returns-2)
+    (λ c κs. search needs) returns (λ c κs. cc) (λ c κs. cc) (λ c. search needs) (λ c. search needs) returns-2)

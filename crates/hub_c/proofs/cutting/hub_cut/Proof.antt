@@ -38,8 +38,11 @@ returns-3 c =
     let start = at-if1 .before .before .before in
     let s = start .args in
     let k = eq-eqb _ _ (at-if1 .if1 .left) in
-    let z = sym (at-cut .cut .ensures .0) ∙ at-if2 .if2 .left in
-    (rw k (sym z), rw k (at-put-triple2 .put-triple2 .ensures ∙ cut-told _ (s .report .now) _ z (at-cut .cut .ensures .1) (at-cut-piece .cut-piece .ensures)))
+    let z = sym (at-cut .cut .ensures .0) ∙ at-if2 .if2 .left in (
+      rw k (sym z),
+      rw k (at-put-triple2 .put-triple2 .ensures ∙ cut-told _ (s .report .now) _ z (at-cut .cut .ensures .1)
+          (at-cut-piece .cut-piece .ensures)),
+    )
 
 pub hub-cut-spec : {M : Type 1} → statement M
 hub-cut-spec =

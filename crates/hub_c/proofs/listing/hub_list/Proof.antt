@@ -40,8 +40,14 @@ returns-2 c =
     let r = room 64 0 (lineOf (at-read-header .read-header .result) (at-number16 .number16 .result)) line (omega (arith, wide)) in
     let t = ap₂ lineOf (at-read-header .read-header .ensures) (at-number16 .number16 .ensures) ∙ line-told (s .message .now) in
     let n = p .0 ∙ sym (r .0) ∙ zero-add _ ∙ ap length t in
-    let e = c .of-header .ensures ∙ ap ofHeader (at-read-header .read-header .ensures) in
-    (rw (at-if1 .if1 .left) (ap (λ (f : Found). f .refusal) e), (rw (at-if1 .if1 .left) (p .1 ∙ sym (r .1) ∙ ap (sets line 0) t), rw (at-if1 .if1 .left) (at-put-length .put-length .ensures ∙ ap (λ (k : ℕ). k ∷ []) n)))
+    let e = c .of-header .ensures ∙ ap ofHeader (at-read-header .read-header .ensures) in (
+      rw (at-if1 .if1 .left) (ap (λ (f : Found). f .refusal) e),
+      (
+        rw (at-if1 .if1 .left) (p .1 ∙ sym (r .1) ∙ ap (sets line 0) t),
+        rw
+            (at-if1 .if1 .left) (at-put-length .put-length .ensures ∙ ap (λ (k : ℕ). k ∷ []) n),
+      ),
+    )
 
 pub hub-list-spec : {M : Type 1} → statement M
 hub-list-spec =

@@ -24,7 +24,8 @@ returns-2 c =
     let s = start .args in
     let f = s .found in
     let l = s .out .now in
-    let stored = stored-twice (fieldWords (f .header)) (bit (f .sealed) ∷ f .from ∷ f .size ∷ []) l 0 8 (at-put-fields .put-fields .ensures) (at-put-place .put-place .ensures) refl in
+    let stored = stored-twice (fieldWords (f .header)) (bit (f .sealed) ∷ f .from ∷ f .size ∷ []) l 0 8
+    (at-put-fields .put-fields .ensures) (at-put-place .put-place .ensures) refl in
     (sym (at-if1 .if1 .left), rw (eq-eqb _ _ (at-if1 .if1 .left)) (stored ∙ sets-whole (foundWords f) l (start .pre)))
 
 pub hand-spec : {M : Type 1} → statement M

@@ -19,8 +19,10 @@ returns-2 c =
     let start = at-if1 .before .before .before .before .before in
     let s = start .args in
     let e = at-of-message .of-message .ensures ∙ ap ofMessage (at-read .read .ensures .0) in
-    let k = eq-eqb _ _ (at-if1 .if1 .left) in
-    (rw k (at-hand .hand .ensures .0 ∙ ap (λ (f : Found). f .refusal) e), (rw k (at-read .read .ensures .1), rw k (at-hand .hand .ensures .1 ∙ ap (λ (f : Found). handed f (s .header .now)) e)))
+    let k = eq-eqb _ _ (at-if1 .if1 .left) in (
+      rw k (at-hand .hand .ensures .0 ∙ ap (λ (f : Found). f .refusal) e),
+      (rw k (at-read .read .ensures .1), rw k (at-hand .hand .ensures .1 ∙ ap (λ (f : Found). handed f (s .header .now)) e)),
+    )
 
 pub hub-read-spec : {M : Type 1} → statement M
 hub-read-spec =

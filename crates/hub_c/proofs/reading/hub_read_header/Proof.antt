@@ -19,8 +19,11 @@ returns-2 c =
     let start = at-if1 .before .before .before in
     let s = start .args in
     let e = at-of-header .of-header .ensures ∙ ap ofHeader (at-read-header .read-header .ensures) in
-    let k = eq-eqb _ _ (at-if1 .if1 .left) in
-    (rw k (at-hand .hand .ensures .0 ∙ ap (λ (f : Found). f .refusal) e), rw k (at-hand .hand .ensures .1 ∙ ap (λ (f : Found). handed f (s .header .now)) e))
+    let k = eq-eqb _ _ (at-if1 .if1 .left) in (
+      rw k (at-hand .hand .ensures .0 ∙ ap (λ (f : Found). f .refusal) e),
+      rw k
+          (at-hand .hand .ensures .1 ∙ ap (λ (f : Found). handed f (s .header .now)) e),
+    )
 
 pub hub-read-header-spec : {M : Type 1} → statement M
 hub-read-header-spec =

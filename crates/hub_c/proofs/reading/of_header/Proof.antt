@@ -1,14 +1,9 @@
 -- By what the reader answered.
 use Rattle.hub_c.specs.Headers.{ofHeader}
-use mathlib.Core.Path.{sym, ap, _∙_}
+use mathlib.Core.Path.{sym, ap}
 use borrow.Author.Needs.{needs}
 use Rattle.hub_c.proofs.reading.of_header.Statement.{statement}
 use Rattle.hub_c.proofs.reading.of_header.Tie as tie
-
-returns : tie.Need-returns
-returns c =
-    let at-read = c .before .before in
-    c .nothing .ensures ∙ ap ofHeader (sym (at-read .read .given .1))
 
 returns-2 : tie.Need-returns-2
 returns-2 c =
@@ -18,4 +13,4 @@ returns-2 c =
 pub of-header-spec : {M : Type 1} → statement M
 of-header-spec =
     tie.close (tie.spec
-    (λ c. search needs) (λ c κs. search needs) (λ c. search needs) (λ c κs. search needs) returns returns-2)
+    (λ c. search needs) (λ c κs. search needs) (λ c. search needs) (λ c κs. search needs) (λ c. cc) returns-2)

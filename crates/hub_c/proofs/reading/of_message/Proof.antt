@@ -1,14 +1,9 @@
 -- By what the reader answered.
 use Rattle.hub_c.specs.Headers.{ofMessage}
-use mathlib.Core.Path.{sym, ap, _∙_}
+use mathlib.Core.Path.{sym, ap}
 use borrow.Author.Needs.{needs}
 use Rattle.hub_c.proofs.reading.of_message.Statement.{statement}
 use Rattle.hub_c.proofs.reading.of_message.Tie as tie
-
-returns : tie.Need-returns
-returns c =
-    let at-read = c .before .before in
-    c .nothing .ensures ∙ ap ofMessage (sym (at-read .read .given .1))
 
 returns-2 : tie.Need-returns-2
 returns-2 c =
@@ -16,4 +11,5 @@ returns-2 c =
     ap ofMessage (sym (at-read2 .read2 .given .1))
 
 pub of-message-spec : {M : Type 1} → statement M
-of-message-spec = tie.close (tie.spec (λ c. search needs) (λ c κs. search needs) (λ c. search needs) returns returns-2)
+of-message-spec =
+    tie.close (tie.spec (λ c. search needs) (λ c κs. search needs) (λ c. search needs) (λ c. cc) returns-2)

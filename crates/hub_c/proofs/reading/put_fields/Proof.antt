@@ -8,7 +8,11 @@ use Rattle.hub_c.proofs.reading.put_fields.Statement.{statement}
 use Rattle.hub_c.proofs.reading.put_fields.Tie as tie
 
 same-length : tie.Need-same-length
-same-length c = omega (arith, c .before .before .before .before .before .before .before .before .before .before .before .before, c .before .before .before .before .before .before .before .before .before .before .before .before .before .before .before .before .before .before .before .before .before .before .before .before .before)
+same-length c = omega (
+  arith,
+  c .before .before .before .before .before .before .before .before .before .before .before .before,
+  c .before .before .before .before .before .before .before .before .before .before .before .before .before .before .before .before .before .before .before .before .before .before .before .before .before,
+)
 
 returns : tie.Need-returns
 returns c =

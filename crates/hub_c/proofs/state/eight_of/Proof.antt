@@ -3,12 +3,8 @@ use borrow.Author.Needs.{needs}
 use Rattle.hub_c.proofs.state.eight_of.Statement.{statement}
 use Rattle.hub_c.proofs.state.eight_of.Tie as tie
 
-returns : tie.Need-returns
-returns c =
-    let at-four-of = c .before in
-    rw (at-four-of .four-of .ensures .0, c .four-of2 .ensures .0)
-
 pub eight-of-spec : {M : Type 1} → statement M
 eight-of-spec =
     tie.close (tie.spec
-    (λ c κs. search needs) (λ c. search needs) (λ c κs. search needs) (λ c. search needs) (λ c. search needs) returns)
+    (λ c κs. search needs) (λ c. search needs) (λ c κs. search needs) (λ c. search needs) (λ c. search needs)
+    (λ c. cc))

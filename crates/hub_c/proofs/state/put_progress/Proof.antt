@@ -28,7 +28,12 @@ returns c =
     let channel = bytes64 (p .channel) in
     let e0 : 133 ≡ 121 + length (front p) = omega (arith, length-front p) in
     let e1 : 141 ≡ 121 + length (front p ++ count) = omega (arith, length-front p, length-append (front p) count) in
-    let e2 : 149 ≡ 121 + length (front p ++ count ++ channel) = omega (arith, length-front p, length-append (front p) count, length-append (front p ++ count) channel) in
+    let e2 : 149 ≡ 121 + length (front p ++ count ++ channel) = omega (
+      arith,
+      length-front p,
+      length-append (front p) count,
+      length-append (front p ++ count) channel,
+    ) in
     let r0 = then (bytes32 (p .expected)) 121 (run 121 l) (at-store32 .store32 .ensures) refl in
     let r1 = then (heardBytes (p .heard) 8) 125 r0 (at-put-heard .put-heard .ensures .0) refl in
     let r2 = then count 133 r1 (at-store64 .store64 .ensures) e0 in

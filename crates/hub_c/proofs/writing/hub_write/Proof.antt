@@ -46,9 +46,14 @@ returns-2 c =
     let keys = s .keys .now in
     let out = s .out .now in
     let fits = or-false (not (eqb (length (s .fields .now)) 8) || not (eqb (length (s .size .now)) 1)) (ltb 4294967295 (h .sequence)) w .1 in
-    let e = at-of-written .of-written .ensures ∙ ap ofWritten (at-write .write .ensures .0 ∙ ap (λ (g : Header). writeAnswer g chain payload (length keys) (length out)) (at-header-of .header-of .ensures) ∙ narrow-answer chain payload (length keys) (length out) h fits) in
-    let o = at-write .write .ensures .1 ∙ ap (λ (g : Header). writtenInto g chain payload keys out) (at-header-of .header-of .ensures) ∙ narrow-output chain payload keys out h fits in
-    (rw w (at-tell .tell .ensures .0 ∙ ap (λ (k : Wrote). k .refusal) e), (rw w o, rw w (at-tell .tell .ensures .1 ∙ ap (λ (k : Wrote). lengthAfter k (s .size .now)) e)))
+    let e = at-of-written .of-written .ensures ∙ ap ofWritten (at-write .write .ensures .0
+    ∙ ap (λ (g : Header). writeAnswer g chain payload (length keys) (length out)) (at-header-of .header-of .ensures)
+    ∙ narrow-answer chain payload (length keys) (length out) h fits) in
+    let o = at-write .write .ensures .1 ∙ ap (λ (g : Header). writtenInto g chain payload keys out) (at-header-of .header-of .ensures)
+    ∙ narrow-output chain payload keys out h fits in (
+      rw w (at-tell .tell .ensures .0 ∙ ap (λ (k : Wrote). k .refusal) e),
+      (rw w o, rw w (at-tell .tell .ensures .1 ∙ ap (λ (k : Wrote). lengthAfter k (s .size .now)) e)),
+    )
 
 pub hub-write-spec : {M : Type 1} → statement M
 hub-write-spec =

@@ -17,7 +17,8 @@ entry c = c .before .before .before .before .before .before .before
 
 -- What no row refuses fits.
 known : (c : tie.Else1) → let s = entry c .args in
-    Fitting (s .size) (s .self) (s .piece) (length (s .payload .now)) × (s .size * s .piece .index + length (s .payload .now) ≤ length (s .report .now))
+    Fitting (s .size) (s .self) (s .piece) (length (s .payload .now)) ×
+    (s .size * s .piece .index + length (s .payload .now) ≤ length (s .report .now))
 known c =
     let s = entry c .args in
     fitting (s .size) (s .self) (s .piece) (s .payload .now) (s .report .now) (sym (c .before .refusal .ensures) ∙ c .if1 .left)

@@ -46,4 +46,5 @@ returns-2 c =
 pub alike-spec : {M : Type 1} → statement M
 alike-spec =
     tie.close
-    (tie.spec Inv-loop μ-loop returns (λ c. search needs) (λ c. search needs) (λ c. search needs) (λ c. search needs) (λ c. search needs) loop-again returns-2)
+    (tie.spec Inv-loop μ-loop returns (λ c. search needs) (λ c. search needs) (λ c. search needs) (λ c. search needs)
+    (λ c. search needs) loop-again returns-2)

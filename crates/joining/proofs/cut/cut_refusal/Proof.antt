@@ -16,7 +16,8 @@ mul-if2 : tie.Need-mul-if2
 mul-if2 c = let f = good-size (c .before .before .args .size) (sym (c .before .bad-size .ensures) ∙ c .if1 .left) in omega (arith, f .0, f .1)
 
 piece-count-requires : tie.Need-piece-count-requires
-piece-count-requires c κs = let f = good-size (c .before .before .args .size) (sym (c .before .bad-size .ensures) ∙ c .if1 .left) in omega (arith, f .0, f .1)
+piece-count-requires c κs = let f = good-size (c .before .before .args .size) (sym (c .before .bad-size .ensures) ∙ c .if1 .left) in omega
+    (arith, f .0, f .1)
 
 returns-2 : tie.Need-returns-2
 unfolding cutRefusal mostPieces

@@ -2,7 +2,7 @@
 use mathlib.Core.Path.{_≡_, refl}
 use native.Mathlib.Omega.{arith}
 use lib.ListN.{length}
-use Rattle.lines.proofs.Steps.{Reached, reached-first, reached-within, reached-more, reached-stop, reached-last}
+use Rattle.lines.proofs.Turns.{Reached, reached-first, reached-within, reached-more, reached-stop, reached-last}
 use borrow.Author.Needs.{needs}
 use Rattle.lines.proofs.listing.list.Statement.{statement}
 use Rattle.lines.proofs.listing.list.Tie as tie
@@ -21,8 +21,12 @@ turn-requires c κs = reached-within _ _ _ (c .before .before .before .loop .inv
 
 loop-again : tie.Need-loop-again Inv-loop μ-loop
 loop-again c =
-    let l = c .before .before .before .before .before .before .loop in
-    (reached-more _ _ _ (l .inv .0) _ _ (c .before .before .before .before .before .loop-test .taken) (c .before .before .before .before .if1 .taken) (c .before .before .turn .ensures .0) (c .before .before .turn .ensures .1), search needs)
+    let l = c .before .before .before .before .before .before .loop in (
+      reached-more _ _ _ (l .inv .0) _ _ (c .before .before .before .before .before .loop-test .taken)
+          (c .before .before .before .before .if1 .taken) (c .before .before .turn .ensures .0)
+          (c .before .before .turn .ensures .1),
+      search needs,
+    )
 
 returns : tie.Need-returns Inv-loop μ-loop
 returns c = reached-stop _ _ _ (c .before .before .loop .inv .0) (c .if1 .left)

@@ -25,12 +25,16 @@ returns c =
     let p4 = c .before .before .before .before .before .before .put-field4 .ensures .1 in
     let p5 = c .before .before .put-field5 .ensures .1 in
     let e2 : c .before .before .before .before .before .before .before .before .before .before .before .before .before .before .before .before .put-field2 .result ≡ a .at + length (kind ++ sequence) = rw length-append (omega arith) in
-    let e3 : c .before .before .before .before .before .before .before .before .before .before .before .put-field3 .result ≡ a .at + length (kind ++ sequence ++ index) = rw length-append (omega arith) in
-    let e4 : c .before .before .before .before .before .before .put-field4 .result ≡ a .at + length (kind ++ sequence ++ index ++ count) = rw length-append (omega arith) in
+    let e3 : c .before .before .before .before .before .before .before .before .before .before .before .put-field3 .result
+    ≡ a .at + length (kind ++ sequence ++ index) = rw length-append (omega arith) in
+    let e4 : c .before .before .before .before .before .before .put-field4 .result
+    ≡ a .at + length (kind ++ sequence ++ index ++ count) = rw length-append (omega arith) in
     let r1 = then kind (a .at) (run (a .at) (a .out .now)) (p1 .1) (omega arith) in
-    let r2 = then sequence (c .before .before .before .before .before .before .before .before .before .before .before .before .before .before .before .before .before .before .before .before .put-field .result) r1 (p2 .1) (p1 .0) in
+    let r2 = then sequence
+    (c .before .before .before .before .before .before .before .before .before .before .before .before .before .before .before .before .before .before .before .before .put-field .result) r1 (p2 .1) (p1 .0) in
     let r3 = then index (c .before .before .before .before .before .before .before .before .before .before .before .before .before .before .before .before .put-field2 .result) r2 (p3 .1) e2 in
-    let r4 = then count (c .before .before .before .before .before .before .before .before .before .before .before .put-field3 .result) r3 (p4 .1) e3 in
+    let r4 = then count (c .before .before .before .before .before .before .before .before .before .before .before .put-field3 .result) r3
+    (p4 .1) e3 in
     let r5 = then (field (a .size) 10) (c .before .before .before .before .before .before .put-field4 .result) r4 (p5 .1) e4 in
     (rw length-append (omega arith), r5 .is)
 

@@ -18,19 +18,24 @@ returns c =
 
 put-name-requires : tie.Need-put-name-requires
 put-name-requires c κs =
-    let h : c .before .before .before .before .before .before .before .before .args .at + 64 ≤ length (c .before .before .before .before .before .before .before .before .args .out .now) = ltb-false _ _ (sym (c .before .before .before .before .before .before .lacks .ensures) ∙ c .before .before .before .before .before .if1 .left) in
+    let h : c .before .before .before .before .before .before .before .before .args .at + 64 ≤ length
+    (c .before .before .before .before .before .before .before .before .args .out .now) = ltb-false _ _
+    (sym (c .before .before .before .before .before .before .lacks .ensures) ∙ c .before .before .before .before .before .if1 .left) in
     omega arith
 
 put-header-requires : tie.Need-put-header-requires
 put-header-requires c κs =
-    let h : c .before .before .before .before .before .before .before .args .at + 64 ≤ length (c .before .before .before .before .before .before .before .args .out .now) = ltb-false _ _ (sym (c .before .before .before .before .before .lacks .ensures) ∙ c .before .before .before .before .if1 .left) in
+    let h : c .before .before .before .before .before .before .before .args .at + 64 ≤ length
+    (c .before .before .before .before .before .before .before .args .out .now) = ltb-false _ _
+    (sym (c .before .before .before .before .before .lacks .ensures) ∙ c .before .before .before .before .if1 .left) in
     omega arith
 
 returns-2 : tie.Need-returns-2
 unfolding lineOf
 returns-2 c =
     let a = c .before .before .before .before .before .before .before .before .before .before .before .args in
-    let h = ltb-false _ _ (sym (c .before .before .before .before .before .before .before .before .before .lacks .ensures) ∙ c .before .before .before .before .before .before .before .before .if1 .left) in
+    let h = ltb-false _ _ (sym (c .before .before .before .before .before .before .before .before .before .lacks .ensures)
+    ∙ c .before .before .before .before .before .before .before .before .if1 .left) in
     let p = c .before .before .put-name .ensures in
     let r = room 64 (a .at) (named refusedName _) (a .out .now) h in
     rw (c .before .before .before .before .before .before .answer .given .1) (p .0 ∙ r .0, p .1 ∙ r .1)
@@ -39,7 +44,8 @@ returns-3 : tie.Need-returns-3
 unfolding lineOf
 returns-3 c =
     let a = c .before .before .before .before .before .before .before .before .before .before .args in
-    let h = ltb-false _ _ (sym (c .before .before .before .before .before .before .before .before .lacks .ensures) ∙ c .before .before .before .before .before .before .before .if1 .left) in
+    let h = ltb-false _ _ (sym (c .before .before .before .before .before .before .before .before .lacks .ensures)
+    ∙ c .before .before .before .before .before .before .before .if1 .left) in
     let p = c .before .before .put-header .ensures in
     let r = room 64 (a .at) (headerLine _ (a .size)) (a .out .now) h in
     rw (c .before .before .before .before .before .answer2 .given .1) (p .0 ∙ r .0, p .1 ∙ r .1)

@@ -11,7 +11,8 @@ returns c =
     let a = c .before .before .before .before .before .before .before .before .before .args in
     let answer = c .before .before .before .before .before .before .read-header in
     let p = c .before .before .before .before .put-line .ensures in
-    let r = room 64 (a .run .written) (lineOf (answer .result) (a .size)) (a .out .now) (c .before .before .before .before .before .before .before .before .before .pre .1) in
+    let r = room 64 (a .run .written) (lineOf (answer .result) (a .size)) (a .out .now)
+    (c .before .before .before .before .before .before .before .before .before .pre .1) in
     let w = p .0 ∙ sym (r .0) in
     (rw (w, c .before .is-refused .ensures, answer .ensures), rw (answer .ensures) at (p .1 ∙ sym (r .1)))
 

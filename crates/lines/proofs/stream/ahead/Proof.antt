@@ -10,7 +10,12 @@ use Rattle.lines.proofs.stream.ahead.Statement.{statement}
 use Rattle.lines.proofs.stream.ahead.Tie as tie
 
 cast-t6 : tie.Need-cast-t6
-cast-t6 c = omega (arith, c .before .wanted .ensures, wanted-below (now (c .before .before .before .args .stream)) (λ i. c .before .before .shared-slice-known .given i .fits))
+cast-t6 c = omega (
+  arith,
+  c .before .wanted .ensures,
+  wanted-below (now (c .before .before .before .args .stream))
+      (λ i. c .before .before .shared-slice-known .given i .fits),
+)
 
 returns : tie.Need-returns
 unfolding ahead
@@ -22,14 +27,30 @@ returns-2 c = rw (← c .before .before .wanted .ensures) (search tests)
 
 returns-3 : tie.Need-returns-3
 unfolding ahead
-returns-3 c = rw (← c .before .before .before .wanted .ensures, lt-leb _ _ (c .before .before .if1 .left), c .before .if2 .left, eq-eqb _ 0 (c .if3 .taken))
+returns-3 c = rw (
+  ← c .before .before .before .wanted .ensures,
+  lt-leb _ _ (c .before .before .if1 .left),
+  c .before .if2 .left,
+  eq-eqb _ 0 (c .if3 .taken),
+)
 
 cast-t7 : tie.Need-cast-t7
-cast-t7 c = omega (arith, c .before .before .before .wanted .ensures, wanted-below (now (c .before .before .before .before .before .args .stream)) (λ i. c .before .before .before .before .shared-slice-known .given i .fits))
+cast-t7 c = omega (
+  arith,
+  c .before .before .before .wanted .ensures,
+  wanted-below
+      (now (c .before .before .before .before .before .args .stream))
+      (λ i. c .before .before .before .before .shared-slice-known .given i .fits),
+)
 
 returns-4 : tie.Need-returns-4
 unfolding ahead
-returns-4 c = rw (← c .before .before .before .wanted .ensures, lt-leb _ _ (c .before .before .if1 .left), c .before .if2 .left, ne-eqb _ 0 (c .if3 .left))
+returns-4 c = rw (
+  ← c .before .before .before .wanted .ensures,
+  lt-leb _ _ (c .before .before .if1 .left),
+  c .before .if2 .left,
+  ne-eqb _ 0 (c .if3 .left),
+)
 
 pub ahead-spec : {M : Type 1} → statement M
 ahead-spec =

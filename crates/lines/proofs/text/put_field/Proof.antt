@@ -14,7 +14,8 @@ add-end : tie.Need-add-end
 add-end c = omega (arith, few-places (c .before .before .before .before .before .before .args .number))
 
 slice-write-out : tie.Need-slice-write-out
-slice-write-out c = rw (c .before .before .put-digits .ensures, length-sets) (omega (arith, few-places (c .before .before .before .before .before .before .args .number)))
+slice-write-out c = rw (c .before .before .put-digits .ensures, length-sets)
+    (omega (arith, few-places (c .before .before .before .before .before .before .args .number)))
 
 add-result : tie.Need-add-result
 add-result c = omega (arith, few-places (c .before .before .before .before .before .before .args .number))

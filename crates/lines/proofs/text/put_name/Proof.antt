@@ -14,7 +14,8 @@ returns c =
     let a = c .before .before .before .before .before .before .before .before .before .before .args in
     let f = c .before .before .put-field .ensures in (
       omega (arith, f .1 .0, length-append (a .name .now) (field (a .number) 10)),
-      stored-twice (a .name .now) (field (a .number) 10) (a .out .now) (a .at) _ (c .before .before .before .before .before .before .put-bytes .ensures) (f .1 .1) refl,
+      stored-twice (a .name .now) (field (a .number) 10) (a .out .now) (a .at) _
+          (c .before .before .before .before .before .before .store-bytes .ensures) (f .1 .1) refl,
     )
 
 pub put-name-spec : {M : Type 1} → statement M

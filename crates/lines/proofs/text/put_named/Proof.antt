@@ -24,13 +24,15 @@ returns-2 c =
 put-name-requires : tie.Need-put-name-requires
 put-name-requires c κs =
     let a = c .before .before .before .before .before .before .args in
-    let h : a .at + length (a .name .now) ≤ length (a .out .now) - 11 = ltb-false _ _ (sym (c .before .before .lacks .ensures) ∙ c .before .if2 .left) in
+    let h : a .at + length (a .name .now) ≤ length (a .out .now) - 11 = ltb-false _ _
+    (sym (c .before .before .lacks .ensures) ∙ c .before .if2 .left) in
     omega arith
 
 returns-3 : tie.Need-returns-3
 returns-3 c =
     let a = c .before .before .before .before .before .before .before .before .before .args in
-    let h : a .at + length (a .name .now) ≤ length (a .out .now) - 11 = ltb-false _ _ (sym (c .before .before .before .before .before .lacks .ensures) ∙ c .before .before .before .before .if2 .left) in
+    let h : a .at + length (a .name .now) ≤ length (a .out .now) - 11 = ltb-false _ _
+    (sym (c .before .before .before .before .before .lacks .ensures) ∙ c .before .before .before .before .if2 .left) in
     let r = room (length (a .name .now) + 11) (a .at) (named (a .name .now) (a .number)) (a .out .now) (omega arith) in
     (c .before .before .put-name .ensures .0 ∙ r .0, c .before .before .put-name .ensures .1 ∙ r .1)
 

@@ -14,25 +14,21 @@ returns c =
     let a = c .before .before .before .before .args in
     no-room (length (a .text .now)) (a .at) (a .text .now) (a .out .now) (ltb-true _ _ (sym (c .before .lacks .ensures) ∙ c .if1 .taken))
 
-put-bytes-requires : tie.Need-put-bytes-requires
-put-bytes-requires c κs =
-    let a = c .before .before .before .before .before .args in
-    let h : a .at + length (a .text .now) ≤ length (a .out .now) = ltb-false _ _ (sym (c .before .before .lacks .ensures) ∙ c .before .if1 .left) in
-    omega arith
-
 add-result : tie.Need-add-result
 add-result c =
     let a = c .before .before .before .before .before .before .before .before .args in
-    let h : a .at + length (a .text .now) ≤ length (a .out .now) = ltb-false _ _ (sym (c .before .before .before .before .before .lacks .ensures) ∙ c .before .before .before .before .if1 .left) in
+    let h : a .at + length (a .text .now) ≤ length (a .out .now) = ltb-false _ _
+    (sym (c .before .before .before .before .before .lacks .ensures) ∙ c .before .before .before .before .if1 .left) in
     omega arith
 
 returns-2 : tie.Need-returns-2
 returns-2 c =
     let a = c .before .before .before .before .before .before .before .before .args in
-    let h : a .at + length (a .text .now) ≤ length (a .out .now) = ltb-false _ _ (sym (c .before .before .before .before .before .lacks .ensures) ∙ c .before .before .before .before .if1 .left) in
+    let h : a .at + length (a .text .now) ≤ length (a .out .now) = ltb-false _ _
+    (sym (c .before .before .before .before .before .lacks .ensures) ∙ c .before .before .before .before .if1 .left) in
     let r = room (length (a .text .now)) (a .at) (a .text .now) (a .out .now) h in
-    (r .0, c .before .before .put-bytes .ensures ∙ r .1)
+    (r .0, c .before .before .store-bytes .ensures ∙ r .1)
 
 pub put-text-spec : {M : Type 1} → statement M
 put-text-spec =
-    tie.close (tie.spec (λ c κs. search needs) returns put-bytes-requires add-result (λ c. search needs) returns-2)
+    tie.close (tie.spec (λ c κs. search needs) returns (λ c κs. search needs) add-result (λ c. search needs) returns-2)

@@ -1,4 +1,4 @@
--- Either the start is past the end, or what is left is too short. Assumes nothing.
+-- Either the start is past the end, or what is left is too short.
 use Rattle.message.proofs.Handing.{outside-early, outside-late}
 use Rattle.message.proofs.payload.outside.Statement.{statement}
 use Rattle.message.proofs.payload.outside.Tie as tie

@@ -1,4 +1,4 @@
--- One of the two, and there the part or nothing. Assumes nothing.
+-- One of the two, and there the part or nothing.
 use native.Mathlib.Omega.{arith}
 use Rattle.message.proofs.Handing.{within, nothing, whole, of-working, of-message}
 use borrow.Author.Needs.{needs}
@@ -6,7 +6,8 @@ use Rattle.message.proofs.payload.payload.Statement.{statement}
 use Rattle.message.proofs.payload.payload.Tie as tie
 
 returns : tie.Need-returns
-returns c = of-working _ _ _ _ _ _ (c .before .before .before .if1 .taken) (nothing _ _ _ _ (c .before .before .outside .ensures) (c .before .if2 .taken))
+returns c = of-working _ _ _ _ _ _ (c .before .before .before .if1 .taken)
+    (nothing _ _ _ _ (c .before .before .outside .ensures) (c .before .if2 .taken))
 
 add-end : tie.Need-add-end
 add-end c =
@@ -21,10 +22,12 @@ part-result-end-2 c =
     within (start .args .working .now) _ _ _ (at-outside .outside .ensures) (c .if2 .left)
 
 returns-2 : tie.Need-returns-2
-returns-2 c = of-working _ _ _ _ _ _ (c .before .before .before .if1 .taken) (whole _ _ _ _ (c .before .before .outside .ensures) (c .before .if2 .left))
+returns-2 c = of-working _ _ _ _ _ _ (c .before .before .before .if1 .taken)
+    (whole _ _ _ _ (c .before .before .outside .ensures) (c .before .if2 .left))
 
 returns-3 : tie.Need-returns-3
-returns-3 c = of-message _ _ _ _ _ _ (c .before .before .before .if1 .left) (nothing _ _ _ _ (c .before .before .outside2 .ensures) (c .before .if3 .taken))
+returns-3 c = of-message _ _ _ _ _ _ (c .before .before .before .if1 .left)
+    (nothing _ _ _ _ (c .before .before .outside2 .ensures) (c .before .if3 .taken))
 
 add-end-2 : tie.Need-add-end-2
 add-end-2 c =
@@ -39,7 +42,8 @@ part-result-end-4 c =
     within (start .args .message .now) _ _ _ (at-outside2 .outside2 .ensures) (c .if3 .left)
 
 returns-4 : tie.Need-returns-4
-returns-4 c = of-message _ _ _ _ _ _ (c .before .before .before .if1 .left) (whole _ _ _ _ (c .before .before .outside2 .ensures) (c .before .if3 .left))
+returns-4 c = of-message _ _ _ _ _ _ (c .before .before .before .if1 .left)
+    (whole _ _ _ _ (c .before .before .outside2 .ensures) (c .before .if3 .left))
 
 pub payload-spec : {M : Type 1} → statement M
 payload-spec =

@@ -1,4 +1,4 @@
--- By what the header's reader answered. Assumes nothing.
+-- By what the header's reader answered.
 use mathlib.Core.Path.{sym, _∙_}
 use Rattle.message.proofs.Readers.{header-refused, plain-fits, read-plainly, read-sealedly}
 use borrow.Author.Needs.{needs}
@@ -13,7 +13,8 @@ returns c =
     let at-header = at-is-sealed .before .before in
     let at-read-header = at-header .before .before in
     let e = sym (at-header .header .given .1) ∙ at-read-header .read-header .ensures in
-    read-sealedly _ _ _ _ _ _ e (sym (at-is-sealed .is-sealed .ensures) ∙ at-if1 .if1 .taken) _ _ (at-read-sealed .read-sealed .ensures .0) (at-read-sealed .read-sealed .ensures .1)
+    read-sealedly _ _ _ _ _ _ e (sym (at-is-sealed .is-sealed .ensures) ∙ at-if1 .if1 .taken) _ _ (at-read-sealed .read-sealed .ensures .0)
+    (at-read-sealed .read-sealed .ensures .1)
 
 read-plain-requires : tie.Need-read-plain-requires
 read-plain-requires c κs =
@@ -21,7 +22,8 @@ read-plain-requires c κs =
     let at-read-header = at-header .before .before in
     let at-before = at-read-header .before .before .before in
     let start = at-before .before in
-    plain-fits (start .args .message .now) (start .args .keys .now) (start .args .working .now) _ _ _ (sym (at-header .header .given .1) ∙ at-read-header .read-header .ensures)
+    plain-fits (start .args .message .now) (start .args .keys .now) (start .args .working .now) _ _ _
+    (sym (at-header .header .given .1) ∙ at-read-header .read-header .ensures)
 
 returns-2 : tie.Need-returns-2
 returns-2 c = header-refused _ _ _ _ (sym (c .before .n .given .1) ∙ c .before .before .before .read-header .ensures)

@@ -1,4 +1,4 @@
--- The payload's part is judged where it stands. Assumes nothing.
+-- The payload's part is judged where it stands.
 use Rattle.message.proofs.Readers.{plain-refused, plain-accepted}
 use borrow.Author.Needs.{needs}
 use Rattle.message.proofs.reading.read_plain.Statement.{statement}

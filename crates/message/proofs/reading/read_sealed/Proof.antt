@@ -1,4 +1,4 @@
--- What was opened stands in the working buffer, and its payload is judged there. Assumes nothing.
+-- What was opened stands in the working buffer, and its payload is judged there.
 use Rattle.message.proofs.Readers.{not-opened, payload-fits, sealed-refused, sealed-accepted}
 use borrow.Author.Needs.{needs}
 use Rattle.message.proofs.reading.read_sealed.Statement.{statement}
@@ -36,8 +36,11 @@ returns-3 c =
     let at-if1 = at-number32 .before .before in
     let at-open = at-if1 .before .before .before in
     let o = at-open .«open» .ensures in
-    let told = at-number32 .number32 .ensures in
-    (rw told (sealed-accepted _ _ _ _ _ _ _ (o .0) (o .1) (at-if1 .if1 .left) _ (rw told at (at-bad-payload .bad-payload .ensures)) (c .if2 .left)), o .1)
+    let told = at-number32 .number32 .ensures in (
+      rw told (sealed-accepted _ _ _ _ _ _ _ (o .0) (o .1) (at-if1 .if1 .left) _ (rw told at (at-bad-payload .bad-payload .ensures))
+          (c .if2 .left)),
+      o .1,
+    )
 
 pub read-sealed-spec : {M : Type 1} → statement M
 read-sealed-spec =

@@ -1,4 +1,4 @@
--- The sums are short. Assumes nothing.
+-- The sums are short.
 use native.Mathlib.Omega.{arith}
 use Rattle.seal.specs.Padding.{sealedSize}
 use Rattle.seal.proofs.Padded.{padding-le}

@@ -1,4 +1,4 @@
--- The sixteen bytes are copied over the whole of the block. Assumes nothing.
+-- The sixteen bytes are copied over the whole of the block.
 use borrow.Author.Needs.{needs}
 use mathlib.Core.Path.{_∙_, refl}
 use Rattle.laws.proofs.Lists.{copied-part}

@@ -1,4 +1,4 @@
--- The parts handed on are the definition's, the last one being all of the body from 4 on. Assumes nothing.
+-- The parts handed on are the definition's, the last one being all of the body from 4 on.
 use mathlib.Core.Path.{_∙_}
 use Rattle.laws.proofs.Lists.{part-from}
 use Rattle.seal.specs.Keys.{tagOf}

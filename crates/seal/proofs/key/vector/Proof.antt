@@ -1,4 +1,4 @@
--- Each call gives one piece of the definition. Assumes nothing.
+-- Each call gives one piece of the definition.
 use Rattle.seal.specs.Keys.{vector}
 use borrow.Author.Needs.{needs}
 use Rattle.seal.proofs.key.vector.Statement.{statement}

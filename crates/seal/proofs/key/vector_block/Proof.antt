@@ -1,4 +1,4 @@
--- Each field is read byte by byte at its place. Assumes nothing.
+-- Each field is read byte by byte at its place.
 use mathlib.Core.Path.{refl}
 use Rattle.laws.specs.Bytes.{bytesAt}
 use Rattle.seal.specs.Keys.{vectorBlock}

@@ -1,4 +1,4 @@
--- Each return is the row whose test led there. Assumes nothing.
+-- Each return is the row whose test led there.
 use Rattle.laws.proofs.Tests.{tests}
 use Rattle.seal.specs.Opening.{noPart}
 use borrow.Author.Needs.{needs}

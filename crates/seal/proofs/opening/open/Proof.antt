@@ -1,4 +1,4 @@
--- Each return is the row of the table that led there. Assumes nothing.
+-- Each return is the row of the table that led there.
 use mathlib.Core.Path.{_≡_, _∙_, sym}
 use Prim.Native.Nat.{ℕ}
 use native.Mathlib.Omega.{arith}

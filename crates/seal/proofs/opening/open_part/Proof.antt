@@ -1,4 +1,4 @@
--- Keys and vector are the definition's, so what is judged and written is the opened sealed part. Assumes nothing.
+-- Keys and vector are the definition's, so what is judged and written is the opened sealed part.
 use mathlib.Core.Path.{_∙_, sym}
 use Rattle.seal.proofs.Opened.{part-12, part-13, part-opened, opens, judged, decrypted}
 use borrow.Author.Needs.{needs}
@@ -16,7 +16,8 @@ returns-2 c =
     let at-block-at = at-expand-key .before in
     let at-if1 = at-block-at .before in
     part-13 _ _ _ _ (at-if1 .if1 .left)
-    (sym (judged _ _ _ _ _ _ _ (at-block-at .block-at .ensures) (at-expand-key .expand-key .ensures) (at-vector .vector .ensures) (at-bad-part .bad-part .ensures)) ∙ c .if2 .taken)
+    (sym (judged _ _ _ _ _ _ _ (at-block-at .block-at .ensures) (at-expand-key .expand-key .ensures) (at-vector .vector .ensures)
+    (at-bad-part .bad-part .ensures)) ∙ c .if2 .taken)
 
 returns-3 : tie.Need-returns-3
 returns-3 c =
@@ -31,8 +32,10 @@ returns-3 c =
     let start = at-before .before in
     let blocks = start .pre .1 .1 in
     let room = at-if1 .if1 .left in
-    let is = opens _ _ (start .args .sealed .now) _ _ _ (at-block-at .block-at .ensures) (at-expand-key .expand-key .ensures) (at-vector .vector .ensures) in
-    let judge = judged _ _ (start .args .sealed .now) _ _ _ _ (at-block-at .block-at .ensures) (at-expand-key .expand-key .ensures) (at-vector .vector .ensures)
+    let is = opens _ _ (start .args .sealed .now) _ _ _ (at-block-at .block-at .ensures) (at-expand-key .expand-key .ensures)
+    (at-vector .vector .ensures) in
+    let judge = judged _ _ (start .args .sealed .now) _ _ _ _ (at-block-at .block-at .ensures) (at-expand-key .expand-key .ensures)
+    (at-vector .vector .ensures)
     (at-bad-part .bad-part .ensures) in
     let done = part-opened _ _ (start .args .sealed .now) (start .args .working .now) room blocks (sym judge ∙ at-if2 .if2 .left) in (
       done .0,

@@ -1,6 +1,6 @@
+-- The tag of the body, against the message's last bytes.
 use native.Mathlib.Nat.{sub-zero}
 use Rattle.laws.proofs.Lists.{part-from}
--- The tag of the body, against the message's last bytes. Assumes nothing.
 use borrow.Author.Needs.{needs}
 use Rattle.seal.proofs.opening.wrong_tag.Statement.{statement}
 use Rattle.seal.proofs.opening.wrong_tag.Tie as tie

@@ -1,4 +1,4 @@
--- The told size, its padding and the last block's end are what `badBlocks` asks for. Assumes nothing.
+-- The told size, its padding and the last block's end are what `badBlocks` asks for.
 use Rattle.seal.proofs.Padded.{blocks-judged}
 use borrow.Author.Needs.{needs}
 use Rattle.seal.proofs.padding.bad_blocks.Statement.{statement}
@@ -6,7 +6,8 @@ use Rattle.seal.proofs.padding.bad_blocks.Tie as tie
 
 returns : tie.Need-returns
 returns c =
-    blocks-judged _ _ _ _ _ _ _ (c .before .before .before .told-size .ensures) (c .before .before .padding .ensures .0) (c .before .sealed-size .ensures) (c .differs .ensures)
+    blocks-judged _ _ _ _ _ _ _ (c .before .before .before .told-size .ensures) (c .before .before .padding .ensures .0)
+    (c .before .sealed-size .ensures) (c .differs .ensures)
 
 pub bad-blocks-spec : {M : Type 1} → statement M
 bad-blocks-spec =

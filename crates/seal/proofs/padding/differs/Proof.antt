@@ -1,5 +1,4 @@
 -- Going down from the block's end, the bytes looked at are `drop i block`: one byte more is one `∷` more on both sides of `same`.
--- Assumes nothing.
 use mathlib.Core.Path.{_≡_}
 use mathlib.Core.Bool.{not}
 use Prim.Native.Nat.{_≤_, _-_}

@@ -1,4 +1,4 @@
--- The code is the definition, and a remainder by 16 is below 16. Assumes nothing.
+-- The code is the definition, and a remainder by 16 is below 16.
 use native.Mathlib.Omega.{arith}
 use mathlib.Core.Path.{refl}
 use Rattle.seal.specs.Padding.{padding}

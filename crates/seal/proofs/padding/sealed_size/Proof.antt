@@ -1,4 +1,4 @@
--- Size, payload and padding. Assumes nothing.
+-- Size, payload and padding.
 use Rattle.seal.specs.Padding.{sealedSize}
 use borrow.Author.Needs.{needs}
 use Rattle.seal.proofs.padding.sealed_size.Statement.{statement}

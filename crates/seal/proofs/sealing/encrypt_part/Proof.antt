@@ -1,4 +1,4 @@
--- The plain text is whole blocks, so it is encrypted where it stands. Assumes nothing.
+-- The plain text is whole blocks, so it is encrypted where it stands.
 use Rattle.seal.proofs.Seals.{encrypted}
 use borrow.Author.Needs.{needs}
 use Rattle.seal.proofs.sealing.encrypt_part.Statement.{statement}
@@ -12,7 +12,8 @@ returns c =
     let at-put-plain = at-block-at .before .before .before in
     let at-before = at-put-plain .before .before .before .before in
     let start = at-before .before in
-    encrypted (start .args .keys .now) _ _ (start .args .room .now) _ _ (start .pre .1 .1) (at-put-plain .put-plain .ensures) (at-block-at .block-at .ensures) (at-expand-key .expand-key .ensures)
+    encrypted (start .args .keys .now) _ _ (start .args .room .now) _ _ (start .pre .1 .1) (at-put-plain .put-plain .ensures)
+    (at-block-at .block-at .ensures) (at-expand-key .expand-key .ensures)
     (at-cbc-encrypt-in-place .cbc-encrypt-in-place .ensures .1)
 
 pub encrypt-part-spec : {M : Type 1} → statement M

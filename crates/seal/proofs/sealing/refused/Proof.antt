@@ -1,4 +1,4 @@
--- Each return is the row that led there; a start or a size past 65,535 makes the message too long. Assumes nothing.
+-- Each return is the row that led there; a start or a size past 65,535 makes the message too long.
 use native.Mathlib.Omega.{arith}
 use Prim.Native.Nat.{_+_}
 use borrow.Author.Tests.{lt-ltb, le-ltb, eq-eqb, ne-eqb}

@@ -1,4 +1,4 @@
--- The part is encrypted in its room and the tag put behind it, where none of the rows applies. Assumes nothing.
+-- The part is encrypted in its room and the tag put behind it, where none of the rows applies.
 use mathlib.Core.Path.{_∙_, sym, ap, refl}
 use Prim.Native.Nat.{ℕ, _+_}
 use lib.ListN.{length}
@@ -47,8 +47,14 @@ encrypt-part-requires c κs =
     let at-refused = at-if1 .before in
     let start = at-refused .before .before .before .before in
     let s = start .args in
-    let f = fit _ _ _ _ (sym (at-refused .refused .ensures) ∙ at-if1 .if1 .left) in
-    (f .keys64, (small (length (s .payload .now)) (s .start) (f .short), part-room (s .out .now) (s .start) _ _ _ _ f (at-sealed-size .sealed-size .ensures) refl))
+    let f = fit _ _ _ _ (sym (at-refused .refused .ensures) ∙ at-if1 .if1 .left) in (
+      f .keys64,
+      (
+        small (length (s .payload .now)) (s .start) (f .short),
+        part-room (s .out .now) (s .start) _ _ _ _ f
+            (at-sealed-size .sealed-size .ensures) refl,
+      ),
+    )
 
 put-tag-requires : tie.Need-put-tag-requires
 put-tag-requires c κs =

@@ -1,4 +1,4 @@
--- The key copied over zeros. Assumes nothing.
+-- The key copied over zeros.
 use borrow.Author.Needs.{needs}
 use Rattle.sha256.proofs.Keys.{filled-by}
 use Rattle.sha256.proofs.key.filled.Statement.{statement}

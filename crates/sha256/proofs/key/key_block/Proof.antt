@@ -1,4 +1,4 @@
--- By the key's length. Assumes nothing.
+-- By the key's length.
 use mathlib.Core.Path.{_∙_, ap}
 use borrow.Author.Tests.{lt-ltb, le-ltb}
 use borrow.Author.Needs.{needs}
@@ -8,7 +8,8 @@ use Rattle.sha256.proofs.key.key_block.Tie as tie
 
 returns : tie.Need-returns
 unfolding keyBlock
-returns c = rw (lt-ltb _ _ (c .before .before .before .before .before .if1 .taken)) (c .filled .ensures ∙ ap filled (c .before .before .digest-from .ensures))
+returns c = rw (lt-ltb _ _ (c .before .before .before .before .before .if1 .taken))
+    (c .filled .ensures ∙ ap filled (c .before .before .digest-from .ensures))
 
 returns-2 : tie.Need-returns-2
 unfolding keyBlock

@@ -1,4 +1,4 @@
--- The invariant: the bytes passed are masked. Assumes nothing.
+-- The invariant: the bytes passed are masked.
 use mathlib.Core.Path.{_≡_, sym, _∙_}
 use Prim.Native.Nat.{_≤_, _-_}
 use native.Mathlib.Omega.{arith}
@@ -21,12 +21,18 @@ unfolding masked
 loop-holds c = search needs
 
 loop-again : tie.Need-loop-again Inv-loop μ-loop
-loop-again c = (search needs, search needs, masked-more _ (c .before .before .loop .i) (c .before .before .before .args .key .now) (c .before .before .loop .block) (omega arith) (omega arith) (c .before .before .loop .inv .2))
+loop-again c = (
+  search needs,
+  search needs,
+  masked-more _ (c .before .before .loop .i) (c .before .before .before .args .key .now)
+      (c .before .before .loop .block) (omega arith) (omega arith) (c .before .before .loop .inv .2),
+)
 
 returns : tie.Need-returns Inv-loop μ-loop
 returns c =
     let e : c .before .loop .i ≡ 64 = omega arith in
-    sym (take-all 64 (c .before .loop .block) (omega arith)) ∙ rw (e, take-all 64 (c .before .before .args .key .now) (omega arith)) at (c .before .loop .inv .2)
+    sym (take-all 64 (c .before .loop .block) (omega arith)) ∙ rw (e, take-all 64 (c .before .before .args .key .now) (omega arith)) at
+    (c .before .loop .inv .2)
 
 pub masked-spec : {M : Type 1} → statement M
 masked-spec =

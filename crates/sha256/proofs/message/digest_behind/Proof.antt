@@ -1,4 +1,4 @@
--- From the hash value after the block the message is hashed as if it stood behind it. Assumes nothing.
+-- From the hash value after the block the message is hashed as if it stood behind it.
 use mathlib.Core.Path.{_≡_, _∙_, sym}
 use mathlib.Core.List.{_++_}
 use Prim.Native.Nat.{_+_}
@@ -20,7 +20,8 @@ returns c =
     let n = (length (a .first .now) + (length (a .second .now) + length (a .third .now))) in
     let b = a .block .now in
     let e : 64 + n ≡ length (b ++ m) = simp length-append (omega arith) in
-    digest-behind b m _ n _ _ (omega arith) e (sym (c .before .before .before .before .fits2 .ensures) ∙ c .before .before .before .if1 .taken) (c .before .before .initial .ensures) (c .before .compress .ensures) (c .finish .ensures)
+    digest-behind b m _ n _ _ (omega arith) e (sym (c .before .before .before .before .fits2 .ensures)
+    ∙ c .before .before .before .if1 .taken) (c .before .before .initial .ensures) (c .before .compress .ensures) (c .finish .ensures)
 
 returns-2 : tie.Need-returns-2
 returns-2 c =

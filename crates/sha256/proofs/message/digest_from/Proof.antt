@@ -1,4 +1,4 @@
--- A message that has a digest is hashed with its padding; another gives zeros. Assumes nothing.
+-- A message that has a digest is hashed with its padding; another gives zeros.
 use mathlib.Core.Path.{_≡_, _∙_, sym, ap}
 use mathlib.Core.List.{_++_}
 use Prim.Native.Nat.{_+_}

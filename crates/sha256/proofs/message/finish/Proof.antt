@@ -1,4 +1,4 @@
--- The padding is a fourth part behind the three. Assumes nothing.
+-- The padding is a fourth part behind the three.
 use mathlib.Core.Path.{_≡_, _∙_, ap}
 use Prim.Native.Nat.{ℕ, _+_, _-_}
 use native.Mathlib.Nat.{sub-zero}
@@ -16,7 +16,8 @@ returns c =
     let tail = c .before .before .before .before .before .padding-of .result in
     let n = c .before .before .before .before .zeros-of .result in
     let e : take (9 + n - 0) (drop 0 tail) ≡ padding total =
-    ap (λ (k : ℕ). take k tail) (sub-zero (9 + n) ∙ ap (λ (k : ℕ). 9 + k) (c .before .before .before .before .zeros-of .ensures .0)) ∙ c .before .before .before .before .before .padding-of .ensures in
+    ap (λ (k : ℕ). take k tail) (sub-zero (9 + n) ∙ ap (λ (k : ℕ). 9 + k) (c .before .before .before .before .zeros-of .ensures .0))
+    ∙ c .before .before .before .before .before .padding-of .ensures in
     finish-by (a .v) _ (a .first .now) (a .second .now) (a .third .now) _ (padding total) _ (c .bytes-of .ensures) (c .before .hash .ensures) e
 
 pub finish-spec : {M : Type 1} → statement M

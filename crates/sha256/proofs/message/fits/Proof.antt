@@ -1,4 +1,4 @@
--- A part that is too long by itself makes the sum too large. Assumes nothing.
+-- A part that is too long by itself makes the sum too large.
 use mathlib.Core.Path.{sym}
 use Prim.Native.Nat.{_+_, _^_}
 use native.Mathlib.Omega.{arith}

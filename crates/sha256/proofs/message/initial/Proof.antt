@@ -1,4 +1,4 @@
--- The eight words are the definition's. Assumes nothing.
+-- The eight words are the definition's.
 use mathlib.Core.Path.{refl}
 use Rattle.sha256.specs.Constants.{H0}
 use Rattle.sha256.proofs.message.initial.Statement.{statement}

@@ -1,4 +1,4 @@
--- Four parts laid one behind the other are the message laid, and over zeros that is the message's block. Assumes nothing.
+-- Four parts laid one behind the other are the message laid, and over zeros that is the message's block.
 use mathlib.Core.List.{_++_, append-assoc}
 use native.Mathlib.Omega.{arith}
 use lib.ListN.{length-append, replicate}
@@ -19,7 +19,8 @@ returns c =
     let b4 = c .before .gather4 .last .0 in
     let m2 = a .first .now ++ a .second .now in
     let m3 = m2 ++ a .third .now in
-    let p = laid-append (replicate 64 0) b1 b2 (a .first .now) (a .second .now) 0 _ (a .at) (omega arith) (c1 .gather .ensures .1) (c2 .gather2 .ensures .1) in
+    let p = laid-append (replicate 64 0) b1 b2 (a .first .now) (a .second .now) 0 _ (a .at) (omega arith) (c1 .gather .ensures .1)
+    (c2 .gather2 .ensures .1) in
     let q = laid-append (replicate 64 0) b2 b3 m2 (a .third .now) 0 _ (a .at) (simp length-append (omega arith)) p (c3 .gather3 .ensures .1) in
     let s = laid-append (replicate 64 0) b3 b4 m3 (a .tail .now) 0 _ (a .at) (simp length-append (omega arith)) q (c .before .gather4 .ensures .1) in
     (search needs, simp append-assoc at (laid-message (m3 ++ a .tail .now) b4 (a .at) s))

@@ -1,4 +1,4 @@
--- A part that lies outside changes nothing; else the places laid are all those that part and block share. Assumes nothing.
+-- A part that lies outside changes nothing; else the places laid are all those that part and block share.
 use mathlib.Core.Logic.{inl, inr}
 use native.Mathlib.Omega.{arith}
 use borrow.Author.Needs.{needs}
@@ -14,13 +14,22 @@ returns-2 c = (search needs, λ j h. laid-outside _ _ _ _ j h (inr (c .if2 .take
 
 lay-requires : tie.Need-lay-requires
 lay-requires c κs =
-    let p = c .smaller .ensures .2 in
-    (search needs, search needs, search needs, c .before .larger .ensures .2 _ (p _ (omega arith) (omega arith)) (p _ (omega arith) (omega arith)), search needs, search needs)
+    let p = c .smaller .ensures .2 in (
+      search needs,
+      search needs,
+      search needs,
+      c .before .larger .ensures .2 _ (p _ (omega arith) (omega arith))
+          (p _ (omega arith) (omega arith)),
+      search needs,
+      search needs,
+    )
 
 returns-3 : tie.Need-returns-3
 returns-3 c = (
   c .before .before .lay .ensures .0,
-  laid-whole _ _ _ _ (c .before .before .lay .last .0) _ _ (c .before .before .before .before .larger .ensures .0) (c .before .before .before .smaller .ensures .0) (c .before .before .before .before .larger .ensures .2) (c .before .before .before .smaller .ensures .2) (c .before .before .lay .ensures .1),
+  laid-whole _ _ _ _ (c .before .before .lay .last .0) _ _ (c .before .before .before .before .larger .ensures .0)
+      (c .before .before .before .smaller .ensures .0) (c .before .before .before .before .larger .ensures .2)
+      (c .before .before .before .smaller .ensures .2) (c .before .before .lay .ensures .1),
 )
 
 pub gather-spec : {M : Type 1} → statement M

@@ -1,4 +1,4 @@
--- The invariant: n blocks of the message are hashed. Assumes nothing.
+-- The invariant: n blocks of the message are hashed.
 use mathlib.Core.Path.{_≡_, ap, _∙_}
 use mathlib.Core.List.{_++_}
 use Prim.Native.Nat.{_≤_, _-_, _/_}

@@ -1,4 +1,4 @@
--- The invariant: the places passed are laid. Assumes nothing.
+-- The invariant: the places passed are laid.
 use mathlib.Core.Path.{refl}
 use mathlib.Core.Path.{_≡_}
 use Prim.Native.Nat.{ℕ, _≤_, _-_}
@@ -21,7 +21,14 @@ loop-holds : tie.Need-loop-holds Inv-loop μ-loop
 loop-holds c = (search needs, search needs, search needs, laid-none _ _ _ _ _)
 
 loop-again : tie.Need-loop-again Inv-loop μ-loop
-loop-again c = (search needs, search needs, search needs, laid-more _ _ _ _ (c .before .before .loop .block) (c .before .before .before .args .from) (c .before .before .loop .i) _ (omega arith) (omega arith) (omega arith) (c .before .before .loop .inv .3) refl)
+loop-again c = (
+  search needs,
+  search needs,
+  search needs,
+  laid-more _ _ _ _ (c .before .before .loop .block)
+      (c .before .before .before .args .from) (c .before .before .loop .i) _ (omega arith) (omega arith) (omega arith)
+      (c .before .before .loop .inv .3) refl,
+)
 
 returns : tie.Need-returns Inv-loop μ-loop
 returns c = let e : c .before .loop .i ≡ c .before .before .args .to = omega arith in

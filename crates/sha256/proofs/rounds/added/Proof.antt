@@ -1,4 +1,4 @@
--- The eight sums are the definition's. Assumes nothing.
+-- The eight sums are the definition's.
 use borrow.Author.Needs.{needs}
 use Rattle.sha256.specs.Compression.{added}
 use Rattle.sha256.proofs.rounds.added.Statement.{statement}

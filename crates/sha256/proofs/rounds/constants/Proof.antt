@@ -1,4 +1,4 @@
--- The constants are the definition's, turn for turn: the one place where the two are compared. Assumes nothing.
+-- The constants are the definition's, turn for turn: the one place where the two are compared.
 use mathlib.Core.Path.{refl}
 use Rattle.sha256.specs.Constants.{K256}
 use Rattle.sha256.proofs.Turns.{constants-turn, last-turn}

@@ -1,4 +1,4 @@
--- Four rounds, each from what the one before gave. Assumes nothing.
+-- Four rounds, each from what the one before gave.
 use borrow.Author.Needs.{needs}
 use Rattle.sha256.specs.Compression.{fourRounds}
 use Rattle.sha256.proofs.rounds.four_rounds.Statement.{statement}

@@ -1,4 +1,4 @@
--- The invariant: so many words are loaded as have been passed. Assumes nothing.
+-- The invariant: so many words are loaded as have been passed.
 use mathlib.Core.Path.{_≡_}
 use Prim.Native.Nat.{_≤_, _-_}
 use native.Mathlib.Omega.{arith}
@@ -10,17 +10,17 @@ use Rattle.sha256.proofs.rounds.load.Statement.{statement}
 use Rattle.sha256.proofs.rounds.load.Tie as tie
 
 abbrev Inv-loop : tie.InvT-loop
-Inv-loop m at w₀ n₀ w n = (n ≤ 16) × (length w ≡ 64) × (take n w ≡ words m at n)
+Inv-loop block w₀ n₀ w n = (n ≤ 16) × (length w ≡ 64) × (take n w ≡ words block 0 n)
 
 abbrev μ-loop : tie.MeasureT-loop
-μ-loop m at w₀ n₀ w n = 16 - n
+μ-loop block w₀ n₀ w n = 16 - n
 
 loop-holds : tie.Need-loop-holds Inv-loop μ-loop
 unfolding words
 loop-holds c = search needs
 
 loop-again : tie.Need-loop-again Inv-loop μ-loop
-loop-again c = (search needs, search needs, words-more _ _ _ _ _ (omega arith) (c .before .before .loop .inv .2) (c .word-at .ensures))
+loop-again c = (search needs, search needs, words-more _ _ _ _ (omega arith) (c .before .before .loop .inv .2) (c .word-at .ensures))
 
 returns : tie.Need-returns Inv-loop μ-loop
 returns c = let e : c .before .loop .n ≡ 16 = omega arith in (search needs, rw e at (c .before .loop .inv .2))
@@ -28,5 +28,5 @@ returns c = let e : c .before .loop .n ≡ 16 = omega arith in (search needs, rw
 pub load-spec : {M : Type 1} → statement M
 load-spec =
     tie.close (tie.spec
-    Inv-loop μ-loop loop-holds (λ c. search needs) (λ c. search needs) (λ c κs. search needs) (λ c. search needs)
-    (λ c. search needs) (λ c. search needs) (λ c. search needs) loop-again returns)
+    Inv-loop μ-loop loop-holds (λ c. search needs) (λ c κs. search needs) (λ c. search needs) (λ c. search needs)
+    (λ c. search needs) (λ c. search needs) loop-again returns)

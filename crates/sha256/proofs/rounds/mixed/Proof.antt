@@ -1,4 +1,4 @@
--- The sum is the definition's. Assumes nothing.
+-- The sum is the definition's.
 use borrow.Author.Needs.{needs}
 use Rattle.sha256.specs.Compression.{mixed}
 use Rattle.sha256.proofs.rounds.mixed.Statement.{statement}

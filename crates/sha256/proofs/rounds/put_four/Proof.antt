@@ -1,4 +1,4 @@
--- Four words, each put into what the one before left. Assumes nothing.
+-- Four words, each put into what the one before left.
 use borrow.Author.Needs.{needs}
 use Rattle.sha256.specs.Compression.{putFour}
 use Rattle.sha256.proofs.rounds.put_four.Statement.{statement}

@@ -1,4 +1,4 @@
--- By the place: words are put before the forty-eighth round only. Assumes nothing.
+-- By the place: words are put before the forty-eighth round only.
 use borrow.Author.Needs.{needs}
 use borrow.Author.Tests.{lt-ltb, le-ltb}
 use Rattle.sha256.proofs.rounds.put_next.Statement.{statement}

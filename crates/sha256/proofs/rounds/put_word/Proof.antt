@@ -1,4 +1,4 @@
--- The word is the next one, and its place the first free one. Assumes nothing.
+-- The word is the next one, and its place the first free one.
 use borrow.Author.Needs.{needs}
 use Rattle.sha256.specs.Compression.{putWord, nextWord}
 use Rattle.sha256.proofs.rounds.put_word.Statement.{statement}

@@ -1,4 +1,4 @@
--- The round, with the constant and the word of its place. Assumes nothing.
+-- The round, with the constant and the word of its place.
 use borrow.Author.Needs.{needs}
 use Rattle.sha256.specs.Compression.{roundAt}
 use Rattle.sha256.proofs.rounds.round_at.Statement.{statement}

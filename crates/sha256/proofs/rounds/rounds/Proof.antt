@@ -1,4 +1,5 @@
--- The invariant: t rounds are done, and the schedule stands as far as it has to; a turn adds four to both, and the words it adds change none that were used. Assumes nothing.
+-- The invariant: t rounds are done, and the schedule stands as far as it has to; a turn adds four to both, and the words it adds change
+-- none that were used.
 use mathlib.Core.Path.{_≡_, _∙_, sym}
 use Prim.Native.Nat.{_+_, _≤_, _-_, _%_, min}
 use native.Mathlib.Omega.{arith}

@@ -1,4 +1,4 @@
--- The eight words are the definition's. Assumes nothing.
+-- The eight words are the definition's.
 use borrow.Author.Needs.{needs}
 use Rattle.sha256.specs.Compression.{turned}
 use Rattle.sha256.proofs.rounds.turned.Statement.{statement}

@@ -1,4 +1,4 @@
--- The byte 0x80, zeros that were there, and eight bytes stored behind them. Assumes nothing.
+-- The byte 0x80, zeros that were there, and eight bytes stored behind them.
 use mathlib.Core.Path.{refl}
 use native.Mathlib.Omega.{arith}
 use borrow.Author.Needs.{needs}

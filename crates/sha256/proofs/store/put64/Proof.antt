@@ -1,4 +1,4 @@
--- Two runs of four, one behind the other, are a run of eight. Assumes nothing.
+-- Two runs of four, one behind the other, are a run of eight.
 use Prim.Native.Nat.{_/_, _%_}
 use native.Mathlib.Omega.{arith}
 use borrow.Author.Needs.{needs}
@@ -11,7 +11,8 @@ returns : tie.Need-returns
 returns c =
     let b = c .before .before .before .before .before .before in
     let a = b .before .before .before .args in
-    stored-twice (bytes32 (a .x / 4294967296)) (bytes32 (a .x % 4294967296)) (a .out .now) (a .at) _ (b .put32 .ensures) (c .before .before .put322 .ensures) (omega arith)
+    stored-twice (bytes32 (a .x / 4294967296)) (bytes32 (a .x % 4294967296)) (a .out .now) (a .at) _ (b .put32 .ensures)
+    (c .before .before .put322 .ensures) (omega arith)
 
 pub put64-spec : {M : Type 1} → statement M
 put64-spec =

@@ -1,4 +1,4 @@
--- The invariant: no bit is set exactly where the bytes passed are the same. Assumes nothing.
+-- The invariant: no bit is set exactly where the bytes passed are the same.
 use mathlib.Core.Path.{_≡_, _∙_, ap₂}
 use Prim.Native.Nat.{_≤_, _-_}
 use native.Mathlib.Omega.{arith}
@@ -19,8 +19,11 @@ abbrev μ-loop : tie.MeasureT-loop
 
 loop-again : tie.Need-loop-again Inv-loop μ-loop
 loop-again c =
-    let a = c .before .before .before .before .args in
-    (search needs, differ-more (a .ours .now) (a .theirs .now) (c .before .before .before .loop .bits) (c .before .before .before .loop .i) (omega arith) (omega arith) (c .before .before .before .loop .inv .1))
+    let a = c .before .before .before .before .args in (
+      search needs,
+      differ-more (a .ours .now) (a .theirs .now) (c .before .before .before .loop .bits) (c .before .before .before .loop .i)
+          (omega arith) (omega arith) (c .before .before .before .loop .inv .1),
+    )
 
 returns : tie.Need-returns Inv-loop μ-loop
 returns c =

@@ -1,4 +1,4 @@
--- The library's wrapping sum is the definition's. Assumes nothing.
+-- The library's wrapping sum is the definition's.
 use borrow.Author.Needs.{needs}
 use Rattle.sha256.specs.Words.{plus}
 use Rattle.sha256.proofs.word.add.Statement.{statement}

@@ -1,4 +1,4 @@
--- Bit by bit the short form is the standard's. Assumes nothing.
+-- Bit by bit the short form is the standard's.
 use native.Mathlib.Omega.{arith}
 use Rattle.sha256.specs.Words.{Maj}
 use Rattle.sha256.proofs.Bitwise.{maj-by}

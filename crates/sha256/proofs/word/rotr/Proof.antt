@@ -1,4 +1,4 @@
--- The body is the definition. Assumes nothing.
+-- The body is the definition.
 use mathlib.Core.Path.{refl}
 use borrow.Author.Needs.{needs}
 use Rattle.sha256.specs.Words.{ROTR}

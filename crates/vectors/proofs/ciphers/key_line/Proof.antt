@@ -1,4 +1,4 @@
--- The loop looks at eleven round keys. Assumes nothing.
+-- The loop looks at eleven round keys.
 use Prim.Native.Nat.{_≤_, _-_}
 use borrow.Author.Needs.{needs}
 use Rattle.vectors.proofs.ciphers.key_line.Statement.{statement}

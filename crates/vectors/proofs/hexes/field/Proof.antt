@@ -1,4 +1,4 @@
--- A pair of digits was found two bytes before the end at the latest; what was stored stays within the room. Assumes nothing.
+-- A pair of digits was found two bytes before the end at the latest; what was stored stays within the room.
 use native.Mathlib.Omega.{arith}
 use borrow.Author.Needs.{needs}
 use mathlib.Core.Path.{_≡_}

@@ -39,7 +39,12 @@ pub +walk-spec : {M : Type 1} → statement M
     (λ c. spans-within _ (sym (c .before .before .before .before .read-entry .ensures) ∙ c .before .before .n .given .1) .1)
     (λ c. search needs)
     (λ c. omega arith)
-    (λ c κs. let s = c .before .before .before .before .before .before .before in let w = spans-within _ (sym (c .before .before .before .before .before .read-entry .ensures) ∙ c .before .before .before .n .given .1) in (part-shorter (s .args .room .now) _ t (s .pre .0) (omega arith) (w .1), tt))
+    (λ c κs. let s = c .before .before .before .before .before .before .before in let w = spans-within _
+    (sym (c .before .before .before .before .before .read-entry .ensures) ∙ c .before .before .before .n .given .1) in
+    (part-shorter (s .args .room .now) _ t (s .pre .0) (omega arith) (w .1), tt))
     (λ c. sym (chain-wrong _ _ (sym (c .before .before .read-entry .ensures) ∙ c .enum-told .given .1)))
     (λ c. sym (chain-end _ _ (sym (c .before .before .read-entry .ensures) ∙ c .enum-told2 .given .1)))
-    (λ c. let s = c .before .before .before .before .before .before .before .before in c .walk .ensures ∙ ap (chain _) (part-from (s .args .room .now) (c .before .before .before .before .n .given .0 .0)) ∙ sym (chain-more _ _ _ (c .before .before .if1 .left) (sym (c .before .before .before .before .before .before .read-entry .ensures) ∙ c .before .before .before .before .n .given .1)))
+    (λ c. let s = c .before .before .before .before .before .before .before .before in c .walk .ensures
+    ∙ ap (chain _) (part-from (s .args .room .now) (c .before .before .before .before .n .given .0 .0))
+    ∙ sym (chain-more _ _ _ (c .before .before .if1 .left)
+    (sym (c .before .before .before .before .before .before .read-entry .ensures) ∙ c .before .before .before .before .n .given .1)))

@@ -31,19 +31,47 @@ returns-6 c = rw (← c .before .bad-flags .ensures, ← c .before .before .befo
 
 returns-7 : tie.Need-returns-7
 unfolding headerRows
-returns-7 c = rw (← c .before .bad-piece .ensures, ← c .before .before .before .bad-flags .ensures, ← c .before .before .before .before .before .bad-kind .ensures) (search tests)
+returns-7 c = rw (
+  ← c .before .bad-piece .ensures,
+  ← c .before .before .before .bad-flags .ensures,
+  ← c .before .before .before .before .before .bad-kind .ensures,
+) (search tests)
 
 returns-8 : tie.Need-returns-8
 unfolding headerRows
-returns-8 c = rw (← c .before .before .bad-piece .ensures, ← c .before .before .before .before .bad-flags .ensures, ← c .before .before .before .before .before .before .bad-kind .ensures) (search tests)
+returns-8 c = rw (
+  ← c .before .before .bad-piece .ensures,
+  ← c .before .before .before .before .bad-flags .ensures,
+  ← c .before .before .before .before .before .before .bad-kind .ensures,
+) (search tests)
 
 returns-9 : tie.Need-returns-9
 unfolding headerRows
-returns-9 c = rw (← c .before .is-sealed .ensures, ← c .before .before .before .before .bad-piece .ensures, ← c .before .before .before .before .before .before .bad-flags .ensures, ← c .before .before .before .before .before .before .before .before .bad-kind .ensures, c .if9 .taken, c .before .before .if8 .left, c .before .before .before .if7 .left, c .before .before .before .before .before .if6 .left, c .before .before .before .before .before .before .before .if5 .left) (search tests)
+returns-9 c = rw (
+  ← c .before .is-sealed .ensures,
+  ← c .before .before .before .before .bad-piece .ensures,
+  ← c .before .before .before .before .before .before .bad-flags .ensures,
+  ← c .before .before .before .before .before .before .before .before .bad-kind .ensures,
+  c .if9 .taken,
+  c .before .before .if8 .left,
+  c .before .before .before .if7 .left,
+  c .before .before .before .before .before .if6 .left,
+  c .before .before .before .before .before .before .before .if5 .left,
+) (search tests)
 
 returns-10 : tie.Need-returns-10
 unfolding headerRows
-returns-10 c = rw (← c .before .is-sealed .ensures, ← c .before .before .before .before .bad-piece .ensures, ← c .before .before .before .before .before .before .bad-flags .ensures, ← c .before .before .before .before .before .before .before .before .bad-kind .ensures, c .if9 .left, c .before .before .if8 .left, c .before .before .before .if7 .left, c .before .before .before .before .before .if6 .left, c .before .before .before .before .before .before .before .if5 .left) (search tests)
+returns-10 c = rw (
+  ← c .before .is-sealed .ensures,
+  ← c .before .before .before .before .bad-piece .ensures,
+  ← c .before .before .before .before .before .before .bad-flags .ensures,
+  ← c .before .before .before .before .before .before .before .before .bad-kind .ensures,
+  c .if9 .left,
+  c .before .before .if8 .left,
+  c .before .before .before .if7 .left,
+  c .before .before .before .before .before .if6 .left,
+  c .before .before .before .before .before .before .before .if5 .left,
+) (search tests)
 
 pub judge-spec : {M : Type 1} → statement M
 judge-spec =

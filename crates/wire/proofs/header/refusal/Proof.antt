@@ -6,7 +6,14 @@ use Rattle.wire.proofs.header.refusal.Tie as tie
 
 returns : tie.Need-returns
 unfolding refusalWith rowsOf
-returns c = rw (c .judge .ensures, c .before .leaves .ensures, c .before .before .is-broken .ensures, c .before .before .before .byte .ensures, c .before .before .before .before .number162 .ensures, c .before .before .before .before .before .number16 .ensures)
+returns c = rw (
+  c .judge .ensures,
+  c .before .leaves .ensures,
+  c .before .before .is-broken .ensures,
+  c .before .before .before .byte .ensures,
+  c .before .before .before .before .number162 .ensures,
+  c .before .before .before .before .before .number16 .ensures,
+)
 
 pub refusal-spec : {M : Type 1} → statement M
 refusal-spec =

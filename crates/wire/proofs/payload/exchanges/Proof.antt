@@ -6,7 +6,8 @@ use Rattle.wire.proofs.payload.exchanges.Tie as tie
 
 returns : tie.Need-returns
 unfolding exchanges
-returns c = cc
+returns c =
+    rw (c .number163 .ensures, c .before .number162 .ensures, c .before .before .number32 .ensures, c .before .before .before .number16 .ensures)
 
 pub exchanges-spec : {M : Type 1} → statement M
 exchanges-spec =

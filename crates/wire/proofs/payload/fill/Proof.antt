@@ -26,13 +26,16 @@ loop-again c =
     let k : l .i < length (c .before .before .before .before .before .args .out .now) = omega arith in (
       omega arith,
       simp length-set (l .inv .1),
-      rw (l .inv .2) (filled-more (c .before .before .before .before .before .args .s .now) (c .before .before .before .before .before .args .out .now) (c .before .before .before .before .before .args .at) (l .i) (c .byte .result) k (c .byte .ensures)),
+      rw (l .inv .2) (filled-more (c .before .before .before .before .before .args .s .now)
+          (c .before .before .before .before .before .args .out .now) (c .before .before .before .before .before .args .at) (l .i)
+          (c .byte .result) k (c .byte .ensures)),
     )
 
 returns : tie.Need-returns Inv-loop μ-loop
 returns c =
     let l = c .before .loop in
-    l .inv .2 ∙ filled-all (c .before .before .before .before .args .s .now) (c .before .before .before .before .args .out .now) (c .before .before .before .before .args .at) (l .i) (omega arith)
+    l .inv .2 ∙ filled-all (c .before .before .before .before .args .s .now) (c .before .before .before .before .args .out .now)
+    (c .before .before .before .before .args .at) (l .i) (omega arith)
 
 pub fill-spec : {M : Type 1} → statement M
 fill-spec =

@@ -6,7 +6,7 @@ use Rattle.wire.proofs.payload.is_device_authentication.Tie as tie
 
 returns : tie.Need-returns
 unfolding isDeviceAuthentication
-returns c = cc
+returns c = rw (c .starts .ensures, c .before .number162 .ensures, c .before .before .number16 .ensures)
 
 pub is-device-authentication-spec : {M : Type 1} → statement M
 is-device-authentication-spec =

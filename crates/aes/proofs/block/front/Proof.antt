@@ -1,0 +1,19 @@
+-- The code is the definition.
+use mathlib.Core.Path.{refl}
+use Rattle.field.specs.Runs.{run}
+use Rattle.aes.specs.State.{block, loadBlock}
+use borrow.Author.Needs.{needs}
+use Rattle.aes.proofs.block.front.Statement.{statement}
+use Rattle.aes.proofs.block.front.Tie as tie
+
+returns : tie.Need-returns
+unfolding loadBlock block run
+returns c = refl
+
+pub front-spec : {M : Type 1} → statement M
+front-spec =
+    tie.close (tie.spec
+    (λ c. search needs) (λ c. search needs) (λ c. search needs) (λ c. search needs) (λ c. search needs)
+    (λ c. search needs) (λ c. search needs) (λ c. search needs) (λ c. search needs) (λ c. search needs)
+    (λ c. search needs) (λ c. search needs) (λ c. search needs) (λ c. search needs) (λ c. search needs)
+    (λ c. search needs) returns)

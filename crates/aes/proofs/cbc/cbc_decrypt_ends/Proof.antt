@@ -1,0 +1,35 @@
+-- A chain of two blocks.
+use mathlib.Core.Path.{refl}
+use lib.ListN.{replicate}
+use Rattle.aes.proofs.ChainEnds.{first-end, last-end}
+use borrow.Author.Needs.{needs}
+use Rattle.aes.proofs.cbc.cbc_decrypt_ends.Statement.{statement}
+use Rattle.aes.proofs.cbc.cbc_decrypt_ends.Tie as tie
+
+returns : tie.Need-returns
+returns c =
+    let at-front2 = c .before in
+    let at-sum = at-front2 .before .before in
+    let at-front = at-sum .before in
+    let at-plain = at-front .before .before .before .before in
+    let at-put2 = at-plain .before .before .before .before in
+    let at-put = at-put2 .before .before .before in
+    let start = at-put .before .before in
+    let a = start .args in
+    let good-first = start .good .1 .1 .0 in
+    let good-last = start .good .1 .1 .1 .1 .0 in (
+      first-end (a .first) (a .last) (search needs) (search needs) (a .keys .now) (a .vector) (replicate 32 0)
+          (replicate 32 0) _ _ _ refl refl (at-put .put .ensures) (at-put2 .put2 .ensures) (at-plain .cbc-decrypt .ensures .1)
+          _ (at-front2 .front2 .ensures),
+      last-end (a .first) (a .last) (search needs) (search needs) (a .keys .now) (a .vector) (replicate 32 0)
+          (replicate 32 0) _ _ _ refl refl (at-put .put .ensures) (at-put2 .put2 .ensures) (at-plain .cbc-decrypt .ensures .1)
+          _ _ _ _ (at-front .front .ensures) (at-sum .sum .ensures) (c .sum2 .ensures),
+    )
+
+pub cbc-decrypt-ends-spec : {M : Type 1} → statement M
+cbc-decrypt-ends-spec =
+    tie.close (tie.spec
+    (λ c. search needs) (λ c κs. search needs) (λ c. search needs) (λ c κs. search needs) (λ c. search needs)
+    (λ c. search needs) (λ c κs. search needs) (λ c. search needs) (λ c. search needs) (λ c. search needs)
+    (λ c κs. search needs) (λ c κs. search needs) (λ c. search needs) (λ c κs. search needs) (λ c κs. search needs)
+    returns)

@@ -1,0 +1,10 @@
+-- By the contracts of what it calls.
+use borrow.Author.Needs.{needs}
+use Rattle.aes.proofs.cbc.sum.Statement.{statement}
+use Rattle.aes.proofs.cbc.sum.Tie as tie
+
+returns : tie.Need-returns
+returns c = cc
+
+pub sum-spec : {M : Type 1} → statement M
+sum-spec = tie.close (tie.spec (λ c κs. search needs) (λ c κs. search needs) (λ c κs. search needs) (λ c κs. search needs) returns)

@@ -1,0 +1,20 @@
+-- Each sweep is run once; the buffers keep their lengths.
+use borrow.Author.Needs.{needs}
+use Prim.Native.Nat.{_≤_, _-_}
+use mathlib.Core.Path.{_≡_}
+use lib.ListN.{length}
+use Rattle.message_cases.proofs.run_all.Statement.{statement}
+use Rattle.message_cases.proofs.run_all.Tie as tie
+
+abbrev Inv-loop : tie.InvT-loop
+Inv-loop noise message₀ working₀ sweep₀ message working sweep =
+    (sweep ≤ 11) × (length message ≡ length message₀) × (length working ≡ length working₀)
+
+abbrev μ-loop : tie.MeasureT-loop
+μ-loop noise message₀ working₀ sweep₀ message working sweep = 11 - sweep
+
+pub run-all-spec : {M : Type 1} → statement M
+run-all-spec =
+    tie.close (tie.spec
+    Inv-loop μ-loop (λ c. search needs) (λ c κs. search needs) (λ c. search needs) (λ c. search needs)
+    (λ c. search needs) (λ c. search needs) (λ c. search needs) (λ c. search needs))

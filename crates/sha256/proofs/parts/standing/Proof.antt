@@ -1,0 +1,23 @@
+-- Each of the two parts with what stands before and behind it is the message.
+use mathlib.Core.List.{[], _++_, append-assoc, append-nil}
+use native.Mathlib.Omega.{arith}
+use lib.ListN.{length-append}
+use borrow.Author.Needs.{needs}
+use Rattle.sha256.proofs.parts.standing.Statement.{statement}
+use Rattle.sha256.proofs.parts.standing.Tie as tie
+
+returns : tie.Need-returns
+returns c =
+    let a = c .before .before .before .before .before .before .args in
+    λ l j h. simp append-assoc at (c .before .inside .ensures l (a .first .now ++ a .second .now) (a .tail .now)
+    (simp length-append (omega arith)) j h)
+
+returns-2 : tie.Need-returns-2
+returns-2 c =
+    let a = c .before .before .before .before .before .before .before .args in
+    λ l j h. simp (append-assoc, append-nil) at (c .inside2 .ensures l (a .first .now ++ (a .second .now ++ a .third .now)) []
+    (simp length-append (omega arith)) j h)
+
+pub standing-spec : {M : Type 1} → statement M
+standing-spec =
+    tie.close (tie.spec (λ c. search needs) (λ c κs. search needs) returns (λ c. search needs) (λ c κs. search needs) returns-2)

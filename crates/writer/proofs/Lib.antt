@@ -1,0 +1,7 @@
+pub mod Writing
+pub mod Payloads
+pub mod ChainBack
+pub mod ReadBack
+pub mod PayloadBack
+pub mod ExchangeBack
+pub mod DeviceBack

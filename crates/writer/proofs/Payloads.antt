@@ -1,0 +1,54 @@
+-- The parts of a payload as they are stored one behind the other, its length, and what its tests make sure of.
+use Prim.Native.Nat.{ℕ, _+_, _≤_}
+use mathlib.Core.Path.{_≡_}
+use mathlib.Core.List.{List, [], _∷_, _++_, append-assoc}
+use mathlib.Core.Bool.{Bool, false, not, _&&_, _||_}
+use native.Mathlib.Omega.{arith}
+use borrow.Author.Tests.{ltb-false, eqb-false}
+use lib.ListN.{length, length-append}
+use lib.Dec.{ltb, eqb}
+use Rattle.laws.specs.Bytes.{bytes16, bytes32}
+use Rattle.laws.proofs.Bools.{or-false, or4-false}
+use Rattle.wire.specs.declared.payload.Request.{Request}
+use Rattle.writer.specs.Payload.{badMode, exchangeBytes, badDevice, deviceAuthentication}
+
+regroup : (a b c d e f g : List ℕ) → (((a ++ b) ++ c) ++ (d ++ e)) ++ (f ++ g) ≡ a ++ b ++ c ++ d ++ e ++ f ++ g
+regroup a b c d e f g = simp append-assoc
+
+pub exchange-stored : (r : Request) → (((bytes16 32 ++ r .nonce) ++ bytes32 16384) ++ (bytes16 32 ++ r .x)) ++ (bytes16 32 ++ r .y) ≡ exchangeBytes r
+unfolding exchangeBytes
+exchange-stored r = regroup (bytes16 32) (r .nonce) (bytes32 16384) (bytes16 32) (r .x) (bytes16 32) (r .y)
+
+module _ (kind mode : ℕ) (certificate thumbprint : List ℕ) where
+  pub device-stored : ((((bytes16 mode ++ (kind ∷ [])) ++ bytes16 (length certificate)) ++ certificate) ++ bytes16 (length thumbprint)) ++ thumbprint
+      ≡ deviceAuthentication kind mode certificate thumbprint
+  unfolding deviceAuthentication
+  device-stored = simp append-assoc
+
+  pub length-device : length (deviceAuthentication kind mode certificate thumbprint) ≡ 7 + length certificate + length thumbprint
+  unfolding deviceAuthentication
+  length-device = simp length-append (omega arith)
+
+  abbrev other : Bool
+  other = not (eqb kind 2) && not (eqb kind 3)
+
+  -- The tests of `badDevice` as facts.
+  pub record Device : Type 0 where
+    pub kinds : other ≡ false
+    pub modes : mode ≤ 2
+    pub some : 1 ≤ length certificate
+    pub certificates : length certificate ≤ 2048
+    pub thumbprints : length thumbprint ≤ 512
+
+  pub device : badDevice kind mode certificate thumbprint ≡ false → Device
+  device e =
+      let t = or-false (other || badMode mode || eqb (length certificate) 0 || ltb 2048 (length certificate)) (ltb 512 (length thumbprint)) e in
+      let c = or4-false other (badMode mode) (eqb (length certificate) 0) (ltb 2048 (length certificate)) (t .0) in
+      let n = eqb-false (length certificate) 0 (c .2) in
+      record {
+        kinds = c .0;
+        modes = ltb-false 2 mode (c .1);
+        some = omega arith;
+        certificates = ltb-false 2048 (length certificate) (c .3);
+        thumbprints = ltb-false 512 (length thumbprint) (t .1);
+      }

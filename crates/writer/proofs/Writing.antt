@@ -1,0 +1,45 @@
+-- Laws of `written` and `output`: by the refusal, and for a writer whose stores make one run from the start of its output.
+use Prim.Native.Nat.{ℕ, _≤_, _<_}
+use mathlib.Core.Path.{_≡_, refl, sym, ap, _∙_}
+use mathlib.Core.List.{List, [], _∷_, _++_}
+use mathlib.Core.Bool.{Bool, true, false}
+use borrow.Author.Tests.{eq-eqb, ne-eqb, ltb-false, lt-ltb, le-ltb}
+use lib.ListN.{length, drop}
+use lib.Seq.{sets}
+use lib.Dec.{ltb}
+use Rattle.laws.proofs.Firsts.{first-quiet}
+use Rattle.laws.proofs.Stores.{sets-start}
+use Rattle.wire.specs.Refusals.{wrongPayload, noRoom}
+use Rattle.writer.specs.Written.{writeRefusal, written, output}
+use Rattle.writer.specs.declared.Written.the-variants.{Refused, Bytes}
+
+-- The rows of `writeRefusal`, from the first to none.
+module _ {bad : Bool} (size room : ℕ) where
+  pub told-bad : bad ≡ true → wrongPayload ≡ writeRefusal bad size room
+  unfolding writeRefusal
+  told-bad e = rw e
+
+  pub told-short : bad ≡ false → room < size → noRoom ≡ writeRefusal bad size room
+  unfolding writeRefusal
+  told-short e h = rw (e, lt-ltb room size h)
+
+  pub told-none : bad ≡ false → size ≤ room → 0 ≡ writeRefusal bad size room
+  unfolding writeRefusal
+  told-none e h = rw (e, le-ltb room size h)
+
+module _ (bad : Bool) (size : ℕ) (bytes out : List ℕ) (n : ℕ) (told : n ≡ writeRefusal bad size (length out)) where
+  pub refused : (n ≡ 0 → ⊥) → (Refused n ≡ written bad size out) × (out ≡ output bad size bytes out)
+  unfolding written output
+  refused p = (rw (← told, ne-eqb n 0 p), rw (← told, ne-eqb n 0 p))
+
+  pub roomy : n ≡ 0 → size ≤ length out
+  unfolding writeRefusal
+  roomy z = ltb-false (length out) size (first-quiet ((wrongPayload, bad) ∷ (noRoom, ltb (length out) size) ∷ []) refl (sym told ∙ z) .1 .0)
+
+  pub wrote : n ≡ 0 → length bytes ≡ size → {l : List ℕ} → l ≡ sets out 0 bytes
+      → (Bytes size ≡ written bad size out) × (l ≡ output bad size bytes out)
+  unfolding written output
+  wrote z e p = (
+    rw (← told, eq-eqb n 0 z),
+    rw (← told, eq-eqb n 0 z, p) (sets-start bytes out (rw e (roomy z)) ∙ ap (λ (k : ℕ). bytes ++ drop k out) e),
+  )

@@ -1,0 +1,21 @@
+-- Refused, or one run of stores from the start of the output.
+use mathlib.Core.Path.{refl}
+use Rattle.writer.proofs.Writing.{refused, wrote}
+use Rattle.writer.specs.Header.{headerBytes}
+use borrow.Author.Needs.{needs}
+use Rattle.writer.proofs.header.write_header.Statement.{statement}
+use Rattle.writer.proofs.header.write_header.Tie as tie
+
+returns : tie.Need-returns
+returns c = refused _ _ _ _ _ (c .before .write-refusal .ensures) (c .if1 .taken)
+
+returns-2 : tie.Need-returns-2
+unfolding headerBytes
+returns-2 c =
+    let put = c .before .before in
+    let judged = put .before .before in
+    wrote _ _ _ _ _ (judged .before .write-refusal .ensures) (judged .if1 .left) refl (put .put-header .ensures)
+
+pub write-header-spec : {M : Type 1} → statement M
+write-header-spec =
+    tie.close (tie.spec (λ c κs. search needs) returns (λ c κs. search needs) (λ c. search needs) returns-2)

@@ -1,0 +1,20 @@
+-- By the Result: one that is Pending is an exchange, another is 4 bytes.
+use borrow.Author.Tests.{ne-eqb}
+use Rattle.laws.proofs.Bools.{or-none}
+use Rattle.writer.specs.Payload.{responseSize, connectionResponse}
+use borrow.Author.Needs.{needs}
+use Rattle.writer.proofs.payload.write_connection_response.Statement.{statement}
+use Rattle.writer.proofs.payload.write_connection_response.Tie as tie
+
+returns : tie.Need-returns
+unfolding responseSize connectionResponse
+returns c = rw (c .before .before .before .before .if1 .taken, or-none) (c .before .before .write-exchange .ensures)
+
+returns-2 : tie.Need-returns-2
+unfolding responseSize connectionResponse
+returns-2 c = rw (ne-eqb _ _ (c .before .before .before .before .if1 .left)) (c .before .before .write-coded .ensures)
+
+pub write-connection-response-spec : {M : Type 1} → statement M
+write-connection-response-spec =
+    tie.close (tie.spec
+    (λ c κs. search needs) (λ c. search needs) returns (λ c κs. search needs) (λ c. search needs) returns-2)

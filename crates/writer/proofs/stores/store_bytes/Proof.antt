@@ -1,0 +1,34 @@
+-- The part that was lent comes back with the bytes over its first ones; what has no room is dropped by `sets` too.
+use Prim.Native.Nat.{_-_}
+use mathlib.Core.Path.{sym, _∙_}
+use native.Mathlib.Omega.{arith}
+use lib.ListN.{length, take, length-take}
+use Rattle.laws.proofs.Lent.{lent-stores}
+use Rattle.laws.proofs.Stores.{sets-past, sets-cut}
+use borrow.Author.Needs.{needs}
+use Rattle.writer.proofs.stores.store_bytes.Statement.{statement}
+use Rattle.writer.proofs.stores.store_bytes.Tie as tie
+
+returns : tie.Need-returns
+returns c = let s = c .before .before .before .args in sym (sets-past (s .bytes .now) (s .out .now) (s .at) (omega arith))
+
+returns-2 : tie.Need-returns-2
+returns-2 c =
+    let at-copy = c .before .before in
+    let s = at-copy .before .before .before .before .before .before .before .args in
+    let room = length (s .out .now) - s .at - 0 in
+    lent-stores (s .out .now) (take room (s .bytes .now)) (s .at) (simp length-take (omega arith)) _ (at-copy .copy .ensures .1)
+    ∙ sets-cut (s .bytes .now) (s .out .now) (s .at) room (omega arith)
+
+returns-3 : tie.Need-returns-3
+returns-3 c =
+    let at-copy = c .before .before in
+    let s = at-copy .before .before .before .before .before .before .args in
+    lent-stores (s .out .now) (s .bytes .now) (s .at) (omega arith) _ (at-copy .copy2 .ensures .1)
+
+pub store-bytes-spec : {M : Type 1} → statement M
+store-bytes-spec =
+    tie.close (tie.spec
+    returns (λ c. search needs) (λ c. search needs) (λ c. search needs) (λ c. search needs) (λ c. search needs)
+    (λ c. search needs) (λ c. search needs) (λ c κs. search needs) (λ c. search needs) returns-2 (λ c. search needs)
+    (λ c. search needs) (λ c. search needs) (λ c κs. search needs) (λ c. search needs) returns-3)

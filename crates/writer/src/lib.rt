@@ -1,0 +1,29 @@
+// Writing what may stand on the wire: numbers and runs of bytes at a place, the common header, the payloads of Discovery and Connect. Each writer
+// puts its bytes at the start of an output, or refuses and leaves it as it was.
+pub mod header;
+pub mod payload;
+pub mod stores;
+
+use wire::refusals::NO_ROOM;
+use wire::refusals::WRONG_PAYLOAD;
+ghost use mathlib.Core.Path.{_≡_};
+ghost use Rattle.writer.specs.Written.{writeRefusal};
+
+// What a writer answers: the number of a refusal, or how many bytes it wrote.
+pub enum Written {
+    Refused(u8),
+    Bytes(usize),
+}
+
+// The refusals of a writer whose bytes would have no shape, or no room.
+pub(crate) fn write_refusal(bad: bool, size: usize, room: usize) -> u8
+    ensures { λ r. ⌜ r ≡ writeRefusal bad size room ⌝ }
+{
+    if bad {
+        return WRONG_PAYLOAD;
+    }
+    if room < size {
+        return NO_ROOM;
+    }
+    0
+}
