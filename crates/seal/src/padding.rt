@@ -2,9 +2,10 @@
 //
 //     | size, 4 bytes | payload, size bytes | padding, each byte the number of padding bytes |
 //
+use wire::numbers::number32;
 ghost use mathlib.Core.Path.{_≡_};
 ghost use mathlib.Core.Bool.{not};
-ghost use Prim.Native.Nat.{_<_, _≤_, _-_};
+ghost use Prim.Native.Nat.{_≤_, _-_};
 ghost use lib.ListN.{drop, replicate};
 ghost use Rattle.laws.specs.Bytes.{be32};
 ghost use Rattle.laws.specs.Same.{same};
@@ -38,17 +39,11 @@ fn differs(block: [u8; 16], from: usize, byte: u8) -> bool
     bad
 }
 
-fn wide(byte: u8) -> u32
-    ensures { λ r. ⌜ (r ≡ byte) × (r < 256) ⌝ }
-{
-    byte as u32
-}
-
 // The payload's size, as the first block of the plain text tells it.
 fn told_size(front: [u8; 16]) -> u32
     ensures { λ r. ⌜ r ≡ be32 front 0 ⌝ }
 {
-    (wide(front[0]) * 256 + wide(front[1])) * 65536 + (wide(front[2]) * 256 + wide(front[3]))
+    number32(&front, 0)
 }
 
 // Refusal 13 by the first and the last block of an opened sealed part of `size` bytes.

@@ -16,28 +16,16 @@ use wire::refusals::TOO_SHORT;
 use wire::refusals::WRONG_KEYS;
 use wire::refusals::WRONG_LENGTH;
 use writer::stores::store_bytes;
+use writer::stores::store32;
 ghost use mathlib.Core.Path.{_≡_};
 ghost use Prim.Native.Nat.{_+_, _≤_, _<_, _^_};
 ghost use lib.Seq.{sets};
 ghost use lib.ListN.{length, take};
-ghost use Rattle.laws.specs.Bytes.{bytes32};
 ghost use Rattle.seal.specs.Padding.{sealedSize, plainText};
 ghost use Rattle.aes.specs.Key.{expandKey};
 ghost use Rattle.aes.specs.Cbc.{cbcEncrypt};
 ghost use Rattle.seal.specs.Keys.{encryptionKey, tagOf};
 ghost use Rattle.seal.specs.Sealed.{sealRefusal, sealedInto};
-
-// A payload's size in four bytes.
-fn size_bytes(size: u32) -> [u8; 4]
-    ensures { λ r. ⌜ r ≡ bytes32 size ⌝ }
-{
-    [
-        (size / 65536 / 256) as u8,
-        (size / 65536 % 256) as u8,
-        (size % 65536 / 256) as u8,
-        (size % 65536 % 256) as u8,
-    ]
-}
 
 // The plain text of a payload, over the whole of its room: of sixteen padding bytes those stay that have room.
 fn put_plain(payload: &[u8], room: &mut [u8])
@@ -45,9 +33,8 @@ fn put_plain(payload: &[u8], room: &mut [u8])
     ensures { λ _. ⌜ now (room .exit) ≡ plainText (now (payload .entry)) ⌝ }
 {
     let size = payload.len() as u32;
-    let told = size_bytes(size);
     let pad = [padding(size) as u8; 16];
-    store_bytes(room, 0, &told);
+    store32(room, 0, size);
     store_bytes(room, 4, payload);
     store_bytes(room, 4 + payload.len(), &pad);
 }
