@@ -76,6 +76,14 @@ pub fn all<I: Implementation>() -> Vec<Sweep<I>> {
     ]
 }
 
+/// Every pair of the two.
+fn pairs<A: Copy, B: Copy>(
+    left: impl IntoIterator<Item = A>,
+    right: impl IntoIterator<Item = B> + Clone,
+) -> Vec<(A, B)> {
+    left.into_iter().flat_map(|a| right.clone().into_iter().map(move |b| (a, b))).collect()
+}
+
 /// Tries each case; answers how many there were.
 fn each<I, T>(
     comparison: &mut Comparison<I>,

@@ -10,7 +10,7 @@ use second::writer::header_bytes;
 use super::as_expected;
 use super::trial::{Writing, fields, step_of};
 
-/// What stands in entries and behind the chain.
+/// What stands in entries and after the chain.
 const FILLER: u8 = 0xE1;
 
 /// A message of `given` bytes: its fields, and a chain of like entries and an end.
@@ -57,7 +57,7 @@ pub fn sealed() -> Described {
 }
 
 impl Described {
-    /// The same with so many bytes, as MessageLength says if it can.
+    /// The same with this number of bytes, as MessageLength says if it can.
     pub fn of(self, given: usize) -> Described {
         Described { given, said: given as u16, ..self }
     }

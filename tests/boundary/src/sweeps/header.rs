@@ -1,11 +1,11 @@
 //! The reader of headers over the boundary cases of document 01's rows 1 to 9.
 
 use second::compare::{Comparison, Implementation};
-use second::header::Kind;
+use second::header::{Header, Kind};
 
 use super::described::{Described, plain, sealed};
 use super::trial::fields;
-use super::{Tried, each};
+use super::{Tried, each, pairs};
 
 /// 0 to 130 bytes of a message whose MessageLength is 130; and 65,536 more than it says.
 pub fn lengths_not_said<I: Implementation>(comparison: &mut Comparison<I>) -> Tried {
@@ -25,12 +25,9 @@ pub fn lengths_sealed<I: Implementation>(comparison: &mut Comparison<I>) -> Trie
 
 /// Every MessageType, plain and sealed.
 pub fn types<I: Implementation>(comparison: &mut Comparison<I>) -> Tried {
-    let cases = [plain(), sealed()].into_iter().flat_map(|case| {
-        (0..=255).map(move |message_type| {
-            let mut case = case;
-            case.header.message_type = message_type;
-            case
-        })
+    let cases = pairs([plain(), sealed()], 0..=255).into_iter().map(|(mut case, message_type)| {
+        case.header.message_type = message_type;
+        case
     });
     each(comparison, cases, Described::judge_both)
 }
@@ -45,48 +42,35 @@ const KINDS: [Kind; 3] = [Kind::Discovery, Kind::Connect, Kind::Session];
 
 /// Every MessageFlags for each type, in 122 bytes, which serve a plain message and a sealed one.
 pub fn flags<I: Implementation>(comparison: &mut Comparison<I>) -> Tried {
-    let cases = KINDS.into_iter().flat_map(|kind| {
-        (0..=u16::MAX).map(move |flags| Described { header: fields(kind, flags), ..sealed() })
-    });
+    let cases = pairs(KINDS, 0..=u16::MAX)
+        .into_iter()
+        .map(|(kind, flags)| Described { header: fields(kind, flags), ..sealed() });
     each(comparison, cases, Described::judge_both)
 }
 
 /// FragmentCount and FragmentIndex at their edges, for each type.
 pub fn pieces<I: Implementation>(comparison: &mut Comparison<I>) -> Tried {
     let edges = [0, 1, 63, 64, 65, u16::MAX];
-    let mut cases = Vec::new();
-    for kind in KINDS {
-        for index in edges {
-            for count in edges {
-                let mut case = if kind == Kind::Session { sealed() } else { plain() };
-                case.header.message_type = kind.number();
-                (case.header.index, case.header.count) = (index, count);
-                cases.push(case);
-            }
-        }
-    }
+    let cases = pairs(KINDS, pairs(edges, edges)).into_iter().map(|(kind, (index, count))| {
+        let mut case = if kind == Kind::Session { sealed() } else { plain() };
+        case.header = Header { message_type: kind.number(), index, count, ..case.header };
+        case
+    });
     each(comparison, cases, Described::judge_both)
 }
 
 /// Chains of 0 to 9 entries of types that there are and that there are not, with sizes at their
-/// edges, an end with a size or not, and room for the end or not; plain and sealed.
+/// edges; an end with a size or not, and 0 to 34 bytes of room for it and what follows; plain and
+/// sealed.
 pub fn chains<I: Implementation>(comparison: &mut Comparison<I>) -> Tried {
-    let mut cases = Vec::new();
-    for end_size in [0, 1, 255] {
-        for behind in [0, 1, 2, 3, 18, 34] {
-            for entry_size in [0, 1, 255] {
-                for entry_type in [1, 2, 3, 4, 128, 255] {
-                    for entries in 0..=9 {
-                        let chain =
-                            |case| Described { entries, entry_type, entry_size, end_size, ..case };
-                        let given = 40 + entries * (2 + usize::from(entry_size)) + behind;
-                        cases.push(chain(plain()).of(given));
-                        cases.push(chain(sealed()).of(given + 32));
-                    }
-                }
-            }
-        }
-    }
+    let entries = pairs(pairs([1, 2, 3, 4, 128, 255], [0, 1, 255]), 0..=9);
+    let ends = pairs([0, 1, 255], [0, 1, 2, 3, 18, 34]);
+    let cases = pairs(ends, entries).into_iter().flat_map(|((end_size, room), entry)| {
+        let ((entry_type, entry_size), entries) = entry;
+        let chain = |case| Described { entries, entry_type, entry_size, end_size, ..case };
+        let given = 40 + entries * (2 + usize::from(entry_size)) + room;
+        [chain(plain()).of(given), chain(sealed()).of(given + 32)]
+    });
     each(comparison, cases, Described::judge_both)
 }
 

@@ -6,7 +6,7 @@ use second::draft::Draft;
 use second::header::Kind;
 
 use super::trial::{KEYS, Reading, Writing, fields, noise, step_of};
-use super::{Tried, each};
+use super::{Tried, each, pairs};
 
 /// A Connect payload, and whether it is as document 01 says.
 struct Described {
@@ -39,7 +39,7 @@ fn with(mut bytes: Vec<u8>, parts: &[(usize, &[u8])]) -> Vec<u8> {
     bytes
 }
 
-/// A payload of so many bytes: mode, type and the byte behind it, and all else as the shapes of 86
+/// A payload of this size: mode, type and the byte after it, and all else as the shapes of 86
 /// bytes have it.
 fn of_86(mode: u8, kind: u8, code: u8, size: usize) -> Vec<u8> {
     let front = [0, mode, kind, code];
@@ -62,27 +62,19 @@ fn is_good(sealed: bool, mode: u8, kind: u8, code: u8, size: usize) -> bool {
     shape && mode <= 2
 }
 
-/// Payloads of every length to 90 bytes, type to 8, byte behind it to 5 and mode to 3, plain and
+/// Payloads of every length to 90 bytes, type to 8, byte after it to 5 and mode to 3, plain and
 /// sealed.
 pub fn short<I: Implementation>(comparison: &mut Comparison<I>) -> Tried {
-    let mut cases = Vec::new();
-    for size in 0..=90 {
-        for mode in 0..=3 {
-            for code in 0..=5 {
-                for kind in 0..=8 {
-                    for sealed in [false, true] {
-                        let payload = of_86(mode, kind, code, size);
-                        let good = is_good(sealed, mode, kind, code, size);
-                        cases.push(Described { sealed, payload, good });
-                    }
-                }
-            }
-        }
-    }
+    let fronts = pairs(0..=3, pairs(0..=8, 0..=5));
+    let cases = pairs(pairs(0..=90, [false, true]), fronts).into_iter().map(|(outside, front)| {
+        let ((size, sealed), (mode, (kind, code))) = (outside, front);
+        let good = is_good(sealed, mode, kind, code, size);
+        Described { sealed, payload: of_86(mode, kind, code, size), good }
+    });
     each(comparison, cases, Described::judge)
 }
 
-/// A Device Authentication payload that says these lengths, and has so many bytes.
+/// A Device Authentication payload of this size that says these lengths.
 fn device(kind: u8, certificate: u16, thumbprint: u16, size: usize) -> Vec<u8> {
     let front = [&[0, 2, kind][..], &certificate.to_be_bytes()].concat();
     let thumbprint_at = front.len() + usize::from(certificate);
@@ -94,18 +86,13 @@ fn device(kind: u8, certificate: u16, thumbprint: u16, size: usize) -> Vec<u8> {
 
 /// Device Authentication: lengths at their edges, and a byte too few, none or one too many.
 pub fn credentials<I: Implementation>(comparison: &mut Comparison<I>) -> Tried {
-    let mut cases = Vec::new();
-    for more in 0..=2 {
-        for kind in [2, 3] {
-            for thumbprint in [0, 1, 511, 512, 513] {
-                for certificate in [0, 1, 2, 2_047, 2_048, 2_049] {
-                    let size = 6 + usize::from(certificate) + usize::from(thumbprint) + more;
-                    let payload = device(kind, certificate, thumbprint, size);
-                    let lengths = (1..=2_048).contains(&certificate) && thumbprint <= 512;
-                    cases.push(Described { sealed: true, payload, good: lengths && more == 1 });
-                }
-            }
-        }
-    }
+    let lengths = pairs([0, 1, 2, 2_047, 2_048, 2_049], [0, 1, 511, 512, 513]);
+    let cases = pairs(pairs([2, 3], 0..=2), lengths).into_iter().map(|((kind, more), lengths)| {
+        let (certificate, thumbprint) = lengths;
+        let size = 6 + usize::from(certificate) + usize::from(thumbprint) + more;
+        let payload = device(kind, certificate, thumbprint, size);
+        let good = (1..=2_048).contains(&certificate) && thumbprint <= 512 && more == 1;
+        Described { sealed: true, payload, good }
+    });
     each(comparison, cases, Described::judge)
 }

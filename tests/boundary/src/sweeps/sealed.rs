@@ -9,7 +9,7 @@ use second::generate::Case;
 
 use super::trial::{KEYS, Reading};
 use super::written::{SIZES, piece};
-use super::{Tried, each};
+use super::{Tried, each, pairs};
 
 const NO_ENTRY: &[u8] = &[0, 0];
 
@@ -34,7 +34,7 @@ pub fn part_flipped<I: Implementation>(comparison: &mut Comparison<I>) -> Tried 
     flipped(comparison, 42..154)
 }
 
-/// Two blocks of plain text: a size, and 28 bytes behind it.
+/// Two blocks of plain text: a size, and 28 bytes after it.
 type Text = (u32, [u8; 28]);
 
 /// Plain texts sealed by hand, their tags right, in a message of 106 bytes: read as their size
@@ -48,8 +48,8 @@ fn by_hand<I: Implementation>(
     let whole = writing.there_and_back(comparison)?;
     let header = writing.case.header;
     let reading = |(size, text): Text| {
-        let (payload, size_told, padding) = (text.to_vec(), Some(size), Some(Vec::new()));
-        let draft = Draft { size: size_told, padding, ..Draft::new(header, payload) };
+        let mut draft = Draft::new(header, text.to_vec());
+        (draft.size, draft.padding) = (Some(size), Some(Vec::new()));
         let case = Case { message: draft.bytes(&KEYS), ..whole.clone() };
         let expected =
             if by_the_rule { Ok((header, text[..size as usize].to_vec())) } else { Err(13) };
@@ -60,12 +60,11 @@ fn by_hand<I: Implementation>(
 
 /// 13 bytes of payload and fifteen of padding, one of which is not 15.
 pub fn padding_byte<I: Implementation>(comparison: &mut Comparison<I>) -> Tried {
-    let texts = (13..28).flat_map(|place| {
-        (0..=255).filter(|byte| *byte != 15).map(move |byte| {
-            let mut text = [15; 28];
-            text[place] = byte;
-            (13, text)
-        })
+    let wrong = pairs(13..28, 0..=255).into_iter().filter(|(_, byte)| *byte != 15);
+    let texts = wrong.map(|(place, byte): (usize, u8)| {
+        let mut text = [15; 28];
+        text[place] = byte;
+        (13, text)
     });
     by_hand(comparison, texts, false)
 }
@@ -77,7 +76,7 @@ const NUMBERS: Range<u8> = 0..32;
 /// each number of padding.
 pub fn size<I: Implementation>(comparison: &mut Comparison<I>) -> Tried {
     let sizes = [0xFFFF_FFFC, 0xFFFF_FFFF, 0x8000_0000, 65_564, 29, 0];
-    let texts = sizes.into_iter().flat_map(|size| NUMBERS.map(move |byte| (size, [byte; 28])));
+    let texts = pairs(sizes, NUMBERS).into_iter().map(|(size, byte)| (size, [byte; 28]));
     by_hand(comparison, texts, false)
 }
 

@@ -10,7 +10,7 @@ use second::prng::Prng;
 use super::as_expected;
 use crate::samples;
 
-/// So many bytes for a payload, always the same.
+/// Bytes for a payload, always the same.
 pub fn noise(length: usize) -> Vec<u8> {
     Prng::new(0x6361_7365).bytes(length)
 }

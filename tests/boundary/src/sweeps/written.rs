@@ -5,7 +5,7 @@ use second::header::{Header, Kind};
 use second::payload::{Connect, Credentials, Offer, Payload};
 
 use super::trial::{Writing, fields, noise};
-use super::{Tried, each};
+use super::{Tried, each, pairs};
 
 /// Chains of no entry, of one and of eight.
 const CHAINS: [&[u8]; 3] = [
@@ -35,7 +35,7 @@ pub fn piece(chain: &[u8], (size, sealed): (usize, usize)) -> Writing {
 }
 
 fn pieces() -> impl Iterator<Item = Writing> {
-    CHAINS.into_iter().flat_map(|chain| SIZES.map(|sizes| piece(chain, sizes)))
+    pairs(CHAINS, SIZES).into_iter().map(|(chain, sizes)| piece(chain, sizes))
 }
 
 /// Session messages of each size with each chain.
@@ -43,33 +43,32 @@ pub fn session<I: Implementation>(comparison: &mut Comparison<I>) -> Tried {
     each(comparison, pieces(), |piece, comparison| piece.there_and_back(comparison).map(|_| ()))
 }
 
-/// The Presence Request and a Connect payload of each type, with the message's bytes but for the
-/// chain.
-fn payloads() -> [(Payload<'static>, usize); 8] {
+/// The Presence Request, and a Connect payload of each type: the message's kind, flags and payload,
+/// and its bytes without the chain.
+fn payloads() -> [(Kind, u16, Payload<'static>, usize); 8] {
     use Connect::{AuthenticationRequest, AuthenticationResponse, DoneRequest, DoneResponse};
     use Connect::{ConnectionPending, ConnectionRequest, ConnectionResult};
     let offer = Offer { nonce: [7; 8], x: [8; 32], y: [9; 32] };
     let shown = |thumbprint| Credentials { certificate: b"certificate", thumbprint };
+    let plain = |mode, connect, length| (Kind::Connect, 1, Payload::Connect(mode, connect), length);
+    let sealed = |connect, length| (Kind::Connect, 14, Payload::Connect(1, connect), length);
     [
-        (Payload::PresenceRequest, 41),
-        (Payload::Connect(2, ConnectionRequest(offer)), 126),
-        (Payload::Connect(1, ConnectionPending(offer)), 126),
-        (Payload::Connect(0, ConnectionResult(3)), 44),
-        (Payload::Connect(1, AuthenticationRequest(shown(b""))), 104),
-        (Payload::Connect(1, AuthenticationResponse(shown(b"print"))), 104),
-        (Payload::Connect(1, DoneRequest), 88),
-        (Payload::Connect(1, DoneResponse(4)), 88),
+        (Kind::Discovery, 1, Payload::PresenceRequest, 41),
+        plain(2, ConnectionRequest(offer), 126),
+        plain(1, ConnectionPending(offer), 126),
+        plain(0, ConnectionResult(3), 44),
+        sealed(AuthenticationRequest(shown(b"")), 104),
+        sealed(AuthenticationResponse(shown(b"print")), 104),
+        sealed(DoneRequest, 88),
+        sealed(DoneResponse(4), 88),
     ]
 }
 
 /// The Presence Request and Connect messages of each type with each chain.
 pub fn connect<I: Implementation>(comparison: &mut Comparison<I>) -> Tried {
-    let cases = CHAINS.into_iter().flat_map(|chain| {
-        payloads().into_iter().enumerate().map(move |(number, (payload, length))| {
-            let kind = if number == 0 { Kind::Discovery } else { Kind::Connect };
-            let header = fields(kind, if number < 4 { 1 } else { 14 });
-            Writing::new(header, chain, &payload.to_bytes(), length + chain.len())
-        })
+    let cases = pairs(CHAINS, payloads()).into_iter().map(|(chain, described)| {
+        let (kind, flags, payload, length) = described;
+        Writing::new(fields(kind, flags), chain, &payload.to_bytes(), length + chain.len())
     });
     each(comparison, cases, |case, comparison| case.there_and_back(comparison).map(|_| ()))
 }
