@@ -1,7 +1,5 @@
 // A program's standard input, a part of it at a time in a buffer that is read into, taken from at the front and read into again. And what else the
-// programs share: the lesser of two numbers, the lines of a text, the report of a sweep.
-pub mod sweeps;
-
+// programs share: the lesser of two numbers, the lines of a text.
 use libc::STDIN_FILENO;
 ghost use Prim.Native.Nat.{_≤_};
 ghost use lib.ListN.{length};

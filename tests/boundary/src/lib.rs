@@ -3,7 +3,7 @@
 //! [`hub_h`] has the calls of include/hub.h on guarded memory ([`guard`]), [`state`] the connection's
 //! bytes; [`hub`] gives them to the second implementation's comparison, [`wrapper`] does so for
 //! host/rust. [`sizes`] tests what the comparison does not reach, [`samples`] a fault at every n,
-//! [`fuzz`] whatever libFuzzer comes up with.
+//! [`sweeps`] the boundary cases of CASES.md, [`fuzz`] whatever libFuzzer comes up with.
 
 #![deny(unsafe_code)]
 #![warn(missing_docs)]
@@ -16,4 +16,5 @@ pub mod hub_h;
 pub mod samples;
 pub mod sizes;
 pub mod state;
+pub mod sweeps;
 pub mod wrapper;

@@ -1,4 +1,5 @@
 //! boundary test              what ./test runs: a fixed seed, each count on a line
+//! boundary sweeps            the boundary cases of CASES.md alone
 //! boundary slice             a small part of it, for valgrind
 //! boundary fuzz SECONDS SEED rounds from this seed on, for so long
 //! boundary round SEED ROUND  one round again, to look at a difference
@@ -16,6 +17,7 @@ use boundary::samples::{self, samples};
 use boundary::sizes::{any_place, any_state, any_tag, every_wrong_size, long_message};
 use boundary::sizes::{wide_fields, wide_numbers};
 use boundary::state::{decode, encode};
+use boundary::sweeps;
 use boundary::wrapper::Wrapper;
 use second::compare::{Comparison, Difference, Implementation, Tally};
 use second::generate::{case, write_case};
@@ -120,7 +122,19 @@ fn all_came(hub: &Hub) -> String {
     format!("all 25 refusals and 6 kinds of answers came, the rarest {times} times ({rarest})")
 }
 
-/// The whole test: so many rounds, a fault at every n, wrong sizes, the wrapper.
+/// The boundary cases of CASES.md, a line for each sweep.
+fn every_sweep() {
+    let mut comparison = Comparison::new(Hub::default());
+    let (mut sweeps, mut cases) = (0, 0);
+    for sweep in sweeps::all() {
+        agree(sweep.name, || sweep.run(&mut comparison));
+        println!("boundary: {}: {} cases alike", sweep.name, sweep.cases);
+        (sweeps, cases) = (sweeps + 1, cases + sweep.cases);
+    }
+    println!("boundary: all {cases} cases of {sweeps} sweeps alike");
+}
+
+/// The whole test: so many rounds, a fault at every n, the sweeps, wrong sizes, the wrapper.
 fn test(rounds: u64) {
     let mut comparison = Comparison::new(Hub::default());
     constants(&comparison.other);
@@ -146,6 +160,7 @@ fn test(rounds: u64) {
         "boundary: a fault at every n of {messages} sample messages: {} steps and {} writes alike",
         faults.tally.steps, faults.tally.writes
     );
+    every_sweep();
     let calls = wrong_sizes(&mut comparison.other, 1 + rounds / 1_000);
     println!("boundary: {calls} calls with a buffer of wrong size change nothing");
     let mut wrapper = Comparison::new(Wrapper);
@@ -197,6 +212,7 @@ fn main() {
     let number = |at: usize| words.get(at).and_then(|word| word.parse::<u64>().ok());
     match (words.first().map(String::as_str), number(1), number(2)) {
         (Some("test"), None, None) => test(10_000),
+        (Some("sweeps"), None, None) => every_sweep(),
         (Some("slice"), None, None) => slice(),
         (Some("seeds"), None, None) if words.len() == 2 => {
             for (number, seed) in boundary::fuzz::seeds().iter().enumerate() {
@@ -218,7 +234,7 @@ fn main() {
         }
         _ => {
             eprintln!(
-                "usage: boundary test | slice | touch | seeds FOLDER | fuzz SECONDS SEED | round SEED ROUND"
+                "usage: boundary test | sweeps | slice | touch | seeds FOLDER | fuzz SECONDS SEED | round SEED ROUND"
             );
             exit(2);
         }

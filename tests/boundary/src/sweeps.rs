@@ -1,0 +1,112 @@
+//! Boundary cases of document 01 in numbered sweeps, as CASES.md lists them. Each case is judged
+//! twice: by the second implementation, answer by answer and byte by byte, and by what the sweep
+//! itself reckons of the case that it has made.
+
+pub mod conversations;
+pub mod described;
+pub mod header;
+pub mod payload;
+pub mod sealed;
+pub mod trial;
+pub mod written;
+
+use std::fmt::Debug;
+
+use second::compare::{Comparison, Difference, Implementation};
+
+/// How many cases of a sweep agreed, all of them, or the first that did not.
+pub type Tried = Result<u64, Difference>;
+
+/// A sweep: its name, how many cases it must have, and what tries them.
+pub struct Sweep<I> {
+    /// As it is printed.
+    pub name: &'static str,
+    /// How many cases it must have.
+    pub cases: u64,
+    run: fn(&mut Comparison<I>) -> Tried,
+}
+
+impl<I: Implementation> Sweep<I> {
+    fn new(name: &'static str, cases: u64, run: fn(&mut Comparison<I>) -> Tried) -> Sweep<I> {
+        Sweep { name, cases, run }
+    }
+
+    /// Tries all its cases, and that none is missing.
+    pub fn run(&self, comparison: &mut Comparison<I>) -> Result<(), Difference> {
+        let tried = (self.run)(comparison)?;
+        as_expected(&"cases", &self.cases, &tried)
+    }
+}
+
+/// All sweeps, in the order of CASES.md.
+pub fn all<I: Implementation>() -> Vec<Sweep<I>> {
+    vec![
+        Sweep::new("every length, MessageLength as it was", 132, header::lengths_not_said),
+        Sweep::new("every length, plain", 131, header::lengths_plain),
+        Sweep::new("every length, sealed", 131, header::lengths_sealed),
+        Sweep::new("every type", 512, header::types),
+        Sweep::new("every version", 256, header::versions),
+        Sweep::new("every flags, for each type", 196_608, header::flags),
+        Sweep::new("count and index", 108, header::pieces),
+        Sweep::new("chains", 6_480, header::chains),
+        Sweep::new("faults, all sets of them", 512, header::fault_sets),
+        Sweep::new("payloads of 0 to 90 bytes", 39_312, payload::short),
+        Sweep::new("certificates and thumbprints", 180, payload::credentials),
+        Sweep::new("Session, each size and chain", 30, written::session),
+        Sweep::new("Discovery and Connect, each type and chain", 24, written::connect),
+        Sweep::new("11: a bit of the tag flipped", 256, sealed::tag_flipped),
+        Sweep::new("11: a bit of the sealed part flipped", 896, sealed::part_flipped),
+        Sweep::new("13: a padding byte wrong, the tag right", 3_825, sealed::padding_byte),
+        Sweep::new("13: size 0xFFFFFFFC and others, the tag right", 192, sealed::size),
+        Sweep::new("13: a whole block of padding, the tag right", 32, sealed::whole_block),
+        Sweep::new("sealed by hand as the rule gives", 16, sealed::by_the_rule),
+        Sweep::new("10: keys of 63 and 65 bytes", 2, sealed::keys),
+        Sweep::new("12: working buffer one byte short", 10, sealed::working_short),
+        Sweep::new("22: output one byte short", 30, written::output_short),
+        Sweep::new(
+            "enrolment, each step again after every later one",
+            30,
+            conversations::enrolment,
+        ),
+        Sweep::new("every kind of message in every state", 324, conversations::every_kind),
+        Sweep::new("verdict 0, then everything", 31, conversations::failed),
+        Sweep::new("reports in every order, disturbed, empty", 813, conversations::reports),
+        Sweep::new("fragment sizes at their edges, 24 and 25", 92, conversations::sizes),
+        Sweep::new("19, 17, 18, 21, 20, 22, 23 in their order", 25, conversations::conflicts),
+    ]
+}
+
+/// Every pair of the two.
+fn pairs<A: Copy, B: Copy>(
+    left: impl IntoIterator<Item = A>,
+    right: impl IntoIterator<Item = B> + Clone,
+) -> Vec<(A, B)> {
+    left.into_iter().flat_map(|a| right.clone().into_iter().map(move |b| (a, b))).collect()
+}
+
+/// Tries each case; answers how many there were.
+fn each<I, T>(
+    comparison: &mut Comparison<I>,
+    cases: impl IntoIterator<Item = T>,
+    judge: impl Fn(&T, &mut Comparison<I>) -> Result<(), Difference>,
+) -> Tried {
+    let mut tried = 0;
+    for case in cases {
+        judge(&case, comparison)
+            .map_err(|Difference(text)| Difference(format!("case {tried}: {text}")))?;
+        tried += 1;
+    }
+    Ok(tried)
+}
+
+/// The library's answer is the one that the sweep reckons.
+fn as_expected<T: PartialEq + Debug>(
+    input: &dyn Debug,
+    expected: &T,
+    found: &T,
+) -> Result<(), Difference> {
+    if expected == found {
+        return Ok(());
+    }
+    Err(Difference(format!("{input:02x?}\nexpected: {expected:02x?}\nfound:    {found:02x?}")))
+}
