@@ -1,4 +1,5 @@
-//! Compiles src/through.c, by which every call goes through include/hub.h.
+//! Compiles src/through.c, by which every call goes through include/hub.h; by TARGET_CC and TARGET_AR
+//! where the library's machine is not the one at hand (tests/machine sets them).
 
 use std::env;
 use std::path::Path;
@@ -9,6 +10,12 @@ fn run(program: &str, arguments: &[&str]) {
     assert!(status.is_ok_and(|status| status.success()), "{program} {arguments:?}");
 }
 
+/// A tool for the library's machine.
+fn tool(variable: &str, usual: &str) -> String {
+    println!("cargo:rerun-if-env-changed={variable}");
+    env::var(variable).unwrap_or_else(|_| usual.into())
+}
+
 fn main() {
     let root = Path::new(env!("CARGO_MANIFEST_DIR"));
     let (source, include) = (root.join("src/through.c"), root.join("../../include"));
@@ -17,8 +24,8 @@ fn main() {
     let (source_name, include_name) = (source.display().to_string(), include.display().to_string());
     let strict = ["-std=c99", "-Wall", "-Wextra", "-pedantic", "-Werror", "-O2", "-g", "-fPIC"];
     let files = ["-I", &include_name, "-c", &source_name, "-o", &object];
-    run("cc", &[&strict[..], &files].concat());
-    run("ar", &["crs", &library, &object]);
+    run(&tool("TARGET_CC", "cc"), &[&strict[..], &files].concat());
+    run(&tool("TARGET_AR", "ar"), &["crs", &library, &object]);
     println!("cargo:rerun-if-changed={source_name}");
     println!("cargo:rerun-if-changed={include_name}/hub.h");
     println!("cargo:rustc-link-search=native={out}");

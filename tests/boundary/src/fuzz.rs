@@ -103,7 +103,8 @@ fn steps(comparison: &mut Comparison<Hub>, tape: &mut Tape<'_>) -> Result<(), Di
     Ok(())
 }
 
-fn one(comparison: &mut Comparison<Hub>, data: &[u8]) -> Result<(), Difference> {
+/// One input of the fuzzer: its first byte chooses the call.
+pub fn one(comparison: &mut Comparison<Hub>, data: &[u8]) -> Result<(), Difference> {
     let mut tape = Tape(data);
     match tape.byte() % 4 {
         0 | 1 => steps(comparison, &mut tape),

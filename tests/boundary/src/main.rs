@@ -1,5 +1,6 @@
-//! boundary test              what ./test runs: a fixed seed, each count on a line
+//! boundary test [ROUNDS]     what ./test runs: a fixed seed, each count on a line
 //! boundary sweeps            the boundary cases of CASES.md alone
+//! boundary replay FOLDER     what libFuzzer kept, again
 //! boundary slice             a small part of it, for valgrind
 //! boundary fuzz SECONDS SEED rounds from this seed on, for so long
 //! boundary round SEED ROUND  one round again, to look at a difference
@@ -171,6 +172,19 @@ fn test(rounds: u64) {
     println!("boundary: the Rust wrapper alike: {}", say(&wrapper.tally));
 }
 
+/// The inputs in a folder, each as libFuzzer would give it.
+fn replay(folder: &str) {
+    let entries = std::fs::read_dir(folder).expect("the folder is there");
+    let mut paths: Vec<_> = entries.map(|entry| entry.expect("an entry").path()).collect();
+    paths.sort();
+    let mut comparison = Comparison::new(Hub::default());
+    for path in &paths {
+        let data = std::fs::read(path).expect("an input");
+        agree(&path.display().to_string(), || boundary::fuzz::one(&mut comparison, &data));
+    }
+    println!("boundary: alike: {} inputs of {folder}: {}", paths.len(), say(&comparison.tally));
+}
+
 /// Part of the test, for valgrind.
 fn slice() {
     let mut comparison = Comparison::new(Hub::default());
@@ -211,8 +225,9 @@ fn main() {
     let words: Vec<String> = std::env::args().skip(1).collect();
     let number = |at: usize| words.get(at).and_then(|word| word.parse::<u64>().ok());
     match (words.first().map(String::as_str), number(1), number(2)) {
-        (Some("test"), None, None) => test(10_000),
+        (Some("test"), rounds, None) => test(rounds.unwrap_or(10_000)),
         (Some("sweeps"), None, None) => every_sweep(),
+        (Some("replay"), None, None) if words.len() == 2 => replay(&words[1]),
         (Some("slice"), None, None) => slice(),
         (Some("seeds"), None, None) if words.len() == 2 => {
             for (number, seed) in boundary::fuzz::seeds().iter().enumerate() {
@@ -234,7 +249,8 @@ fn main() {
         }
         _ => {
             eprintln!(
-                "usage: boundary test | sweeps | slice | touch | seeds FOLDER | fuzz SECONDS SEED | round SEED ROUND"
+                "usage: boundary test [ROUNDS] | sweeps | replay FOLDER | slice | touch | seeds FOLDER \
+                 | fuzz SECONDS SEED | round SEED ROUND"
             );
             exit(2);
         }

@@ -1,5 +1,6 @@
 //! Holds two programs against this implementation on their input cut at every byte:
-//! `cuts listing PROGRAM STREAM`, `cuts replay PROGRAM SEED F` on a short capture made from a seed.
+//! `cuts listing STREAM PROGRAM`, `cuts replay SEED F PROGRAM` on a short capture made from a seed.
+//! PROGRAM may be several words, the last the program's path: an emulator may stand in front.
 //!
 //! Each cut is a run of the program; it must end well, say what is said here, and leave exactly the
 //! reports that were complete before the cut.
@@ -20,9 +21,9 @@ struct Wanted {
     reports: Vec<(u32, Vec<u8>)>,
 }
 
-/// A program, the words that it is run with, its input, and what to expect of each cut.
+/// A program (or what emulates it), the words that it is run with, its input, and what to expect of each cut.
 struct Trial {
-    program: PathBuf,
+    program: String,
     words: Vec<String>,
     input: Vec<u8>,
     player: Option<Player>,
@@ -54,7 +55,7 @@ impl Trial {
             .current_dir(folder)
             .stdin(Stdio::from(input))
             .output()
-            .map_err(|error| format!("{}: {error}", self.program.display()))?;
+            .map_err(|error| format!("{}: {error}", self.program))?;
         let wanted = self.wanted(cut);
         let mut right = run.status.success() && run.stderr.is_empty() && run.stdout == wanted.lines;
         for (number, bytes) in &wanted.reports {
@@ -106,23 +107,23 @@ fn keys_file() -> PathBuf {
 fn trial(arguments: &[String]) -> Result<Trial, String> {
     let read = |name: &String| fs::read(name).map_err(|error| format!("{name}: {error}"));
     match arguments {
-        [kind, program, stream] if kind == "listing" => Ok(Trial {
-            program: program.into(),
-            words: Vec::new(),
+        [kind, stream, program, words @ ..] if kind == "listing" => Ok(Trial {
+            program: program.clone(),
+            words: words.to_vec(),
             input: read(stream)?,
             player: None,
         }),
-        [kind, program, seed, size] if kind == "replay" => {
+        [kind, seed, size, program, words @ ..] if kind == "replay" => {
             let number = |text: &String| text.parse().map_err(|_| format!("{text}: no number"));
             let (seed, size): (u32, u32) = (number(seed)?, number(size)?);
             let (keys, input) = short(seed.into(), size);
             let player = Player::new(keys, size, 1).map_err(|_| "F is out of range")?;
             let file = keys_file();
             fs::write(&file, keys).map_err(|error| error.to_string())?;
-            let words = vec![file.display().to_string(), size.to_string()];
-            Ok(Trial { program: program.into(), words, input, player: Some(player) })
+            let words = [words, &[file.display().to_string(), size.to_string()]].concat();
+            Ok(Trial { program: program.clone(), words, input, player: Some(player) })
         }
-        _ => Err("usage: cuts listing PROGRAM STREAM | cuts replay PROGRAM SEED F".into()),
+        _ => Err("usage: cuts listing STREAM PROGRAM | cuts replay SEED F PROGRAM".into()),
     }
 }
 
