@@ -11,10 +11,9 @@ use lib.Seq.{take-all}
 use Rattle.laws.proofs.Lists.{part-from}
 use Rattle.field.proofs.Below.{agree}
 use Rattle.aes.specs.State.{addRoundKey}
-use Rattle.aes.specs.Cipher.{cipher, invCipher}
-use Rattle.aes.specs.Cbc.{encryptBlocks, cbcDecryptBlock, cbcEncrypt}
+use Rattle.aes.specs.Cipher.{cipher}
+use Rattle.aes.specs.Cbc.{encryptBlocks, cbcEncrypt}
 use Rattle.aes.proofs.Steps.{add-zeros}
-use Rattle.aes.proofs.Undo.{invCipher-length}
 
 pub enough : (s : List ℕ) (at : ℕ) → at + 16 ≤ length s → 16 ≤ length (take (length s - at) (drop at s))
 enough s at h = let e = ap length (part-from s at) ∙ length-drop at s in omega arith
@@ -25,7 +24,7 @@ zeros = 0 ∷ 0 ∷ 0 ∷ 0 ∷ 0 ∷ 0 ∷ 0 ∷ 0 ∷ 0 ∷ 0 ∷ 0 ∷ 0 ∷ 
 zero-at : (i : ℕ) → i < 16 → getD zeros i 0 ≡ 0
 zero-at = agree (λ i. getD zeros i 0) (λ i. 0) 16 tt
 
--- a chain of one block after zeros is the cipher, and back
+-- a chain of one block after zeros is the cipher
 module _ (ks : List (List ℕ)) (b : List ℕ) (e : length b ≡ 16) where
   pub one-encrypted : cbcEncrypt ks zeros b ≡ cipher ks b
   unfolding cbcEncrypt encryptBlocks
@@ -33,10 +32,6 @@ module _ (ks : List (List ℕ)) (b : List ℕ) (e : length b ≡ 16) where
       let n : length b / 16 ≡ 1 = omega arith in
       ap (λ (k : ℕ). encryptBlocks ks k zeros b) n ∙ append-nil _
       ∙ ap (cipher ks) (ap (λ (x : List ℕ). addRoundKey x zeros) (take-all 16 b (omega arith)) ∙ add-zeros b zeros e zero-at)
-
-  pub after-zeros : cbcDecryptBlock ks zeros b ≡ invCipher ks b
-  unfolding cbcDecryptBlock
-  after-zeros = add-zeros (invCipher ks b) zeros (invCipher-length ks b) zero-at
 
   pub block-encrypted : (out : List ℕ) → cond (eqb (length b % 16) 0) out b ≡ out
   block-encrypted out = let p = eq-eqb (length b % 16) 0 (omega arith) in rw p (refl)
