@@ -1,6 +1,6 @@
 pub mod Steps
 pub mod Words
-pub mod Lookups
+pub mod TableRounds
 pub mod Undo
 pub mod Schedule
 pub mod ChainLoop

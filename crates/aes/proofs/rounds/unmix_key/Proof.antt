@@ -4,7 +4,7 @@ use Rattle.aes.specs.State.{Block, invMixColumns}
 use Rattle.aes.specs.Words.{bytesOf}
 use Rattle.aes.proofs.Steps.{unmix-block}
 use Rattle.aes.proofs.Words.{bytesOf-block, columns-bytes}
-use Rattle.aes.proofs.Lookups.{key-columns}
+use Rattle.aes.proofs.TableRounds.{key-columns}
 use borrow.Author.Needs.{needs}
 use Rattle.aes.proofs.rounds.unmix_key.Statement.{statement}
 use Rattle.aes.proofs.rounds.unmix_key.Tie as tie
