@@ -5,8 +5,8 @@ use Prim.Native.Nat.{ℕ, zero, suc, _+_, _*_, _/_, _≤_, _<_}
 use native.Mathlib.Omega.{arith}
 use lib.ListN.{length, take, drop, length-drop}
 use lib.Seq.{take-all, take-at, drop-drop, drop-append-add}
-use Rattle.aes.specs.Cbc.{cbcDecryptBlock, decryptBlocks, cbcDecrypt, blockBefore}
-use Rattle.aes.proofs.Steps.{add-length}
+use Rattle.aes.specs.Cbc.{chain, cbcDecryptBlock, cbcDecrypt, blockBefore}
+use Rattle.aes.proofs.Chain.{decrypt-long}
 
 -- ---- block k
 
@@ -21,23 +21,19 @@ unfolding blockBefore
 later-before zero v s = refl
 later-before (suc k) v s = ap (take 16) (drop-drop (16 * k) 16 s ∙ ap (λ (n : ℕ). drop n s) (sym (sixteens k)))
 
-one-length : (ks : List (List ℕ)) (v b : List ℕ) → length (cbcDecryptBlock ks v b) ≡ 16
-unfolding cbcDecryptBlock
-one-length ks v b = add-length _ v
-
 first-decrypted : (ks : List (List ℕ)) (v s r : List ℕ)
     → take 16 (cbcDecryptBlock ks v (take 16 s) ++ r) ≡ cbcDecryptBlock ks (blockBefore 0 v s) (take 16 s)
 unfolding blockBefore
-first-decrypted ks v s r = take-at (cbcDecryptBlock ks v (take 16 s)) r 16 (one-length ks v (take 16 s))
+first-decrypted ks v s r = take-at (cbcDecryptBlock ks v (take 16 s)) r 16 (decrypt-long ks v (take 16 s))
 
 block-decrypted : (ks : List (List ℕ)) (m k : ℕ) (v s : List ℕ) → k < m
-    → take 16 (drop (16 * k) (decryptBlocks ks m v s)) ≡ cbcDecryptBlock ks (blockBefore k v s) (take 16 (drop (16 * k) s))
-unfolding decryptBlocks
+    → take 16 (drop (16 * k) (chain (cbcDecryptBlock ks) (λ b c. b) m v s)) ≡ cbcDecryptBlock ks (blockBefore k v s) (take 16 (drop (16 * k) s))
+unfolding chain
 block-decrypted ks zero k v s h = absurd (omega arith)
-block-decrypted ks (suc m) zero v s h = first-decrypted ks v s (decryptBlocks ks m (take 16 s) (drop 16 s))
+block-decrypted ks (suc m) zero v s h = first-decrypted ks v s (chain (cbcDecryptBlock ks) (λ b c. b) m (take 16 s) (drop 16 s))
 block-decrypted ks (suc m) (suc k) v s h =
-    ap (λ (n : ℕ). take 16 (drop n (cbcDecryptBlock ks v (take 16 s) ++ decryptBlocks ks m (take 16 s) (drop 16 s)))) (sixteens k)
-    ∙ ap (take 16) (drop-past (cbcDecryptBlock ks v (take 16 s)) (decryptBlocks ks m (take 16 s) (drop 16 s)) (16 * k) (one-length ks v (take 16 s)))
+    ap (λ (n : ℕ). take 16 (drop n (cbcDecryptBlock ks v (take 16 s) ++ chain (cbcDecryptBlock ks) (λ b c. b) m (take 16 s) (drop 16 s)))) (sixteens k)
+    ∙ ap (take 16) (drop-past (cbcDecryptBlock ks v (take 16 s)) (chain (cbcDecryptBlock ks) (λ b c. b) m (take 16 s) (drop 16 s)) (16 * k) (decrypt-long ks v (take 16 s)))
     ∙ block-decrypted ks m k (take 16 s) (drop 16 s) (omega arith)
     ∙ ap₂ (cbcDecryptBlock ks) (later-before k v s) (ap (take 16) (drop-drop (16 * k) 16 s ∙ ap (λ (n : ℕ). drop n s) (sym (sixteens k))))
 

@@ -1,13 +1,13 @@
 pub mod Steps
 pub mod Words
 pub mod TableRounds
-pub mod Undo
 pub mod Schedule
+pub mod Undo
+pub mod Chain
 pub mod ChainLoop
 pub mod ChainPair
 pub mod ChainRoom
 pub mod ChainBlock
-pub mod Chain
 pub mod Ends
 pub mod ChainEnds
 pub mod Examples
