@@ -5,9 +5,6 @@ pub mod Schedule
 pub mod Undo
 pub mod Chain
 pub mod ChainLoop
-pub mod ChainPair
-pub mod ChainRoom
-pub mod ChainBlock
+pub mod ChainCalls
 pub mod Ends
-pub mod ChainEnds
 pub mod Examples

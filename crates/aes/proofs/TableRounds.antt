@@ -6,6 +6,7 @@ use Prim.Native.Nat.{ℕ, _/_, _%_, _<_}
 use native.Mathlib.Omega.{arith}
 use lib.ListN.{getD}
 use Rattle.field.specs.Runs.{run, table}
+use Rattle.field.specs.Xor.{xor}
 use Rattle.field.specs.Sbox.{sbox, invSbox}
 use Rattle.field.specs.Mix.{mixed, unmixed}
 use Rattle.field.specs.Words.{word, column, Mixes}
@@ -13,9 +14,11 @@ use Rattle.field.proofs.Runs.{table-at}
 use Rattle.field.proofs.Sbox.{sbox-byte, invSbox-byte, invSbox-sbox}
 use Rattle.field.proofs.Words.{words, looked-up}
 use Rattle.aes.specs.declared.columns.State.{State}
-use Rattle.aes.specs.State.{block, subBytes, shifted, shiftRows, down, mixColumns, unshifted, invShiftRows, invSubBytes, invMixColumns}
+use Rattle.aes.specs.State.{block, Block, subBytes, shifted, shiftRows, down, mixColumns, addRoundKey}
+use Rattle.aes.specs.State.{unshifted, invShiftRows, invSubBytes, invMixColumns}
 use Rattle.aes.specs.Words.{bytesOf, lookedUp, lookedUpBytes}
-use Rattle.aes.proofs.Words.{Columns, get0, get1, get2, get3}
+use Rattle.aes.proofs.Steps.{sub-block, shift-block, mix-block, unsub-block, unshift-block, unmix-block}
+use Rattle.aes.proofs.Words.{Columns, bytesOf-block, columns-added, get0, get1, get2, get3}
 
 -- four words p q r u, each found from the words a b c d, which are read in turn; what the code says of each lookup
 pub record Turn (found : ℕ → ℕ → ℕ → ℕ → ℕ) (a b c d p q r u : ℕ) : Type 0 where
@@ -58,33 +61,63 @@ module _ (found made : ℕ → ℕ → ℕ → ℕ → ℕ) (h : (w a b c d : �
 
 -- the columns after SubBytes, ShiftRows and MixColumns, and after SubBytes and ShiftRows alone; and back
 module _ (s : State) (t : List ℕ) (p q r u : ℕ) where
-  pub mixed-columns : Mixes sbox 2 3 1 1 t → Turn (lookedUp t) (s .a) (s .b) (s .c) (s .d) p q r u
+  mixed-columns : Mixes sbox 2 3 1 1 t → Turn (lookedUp t) (s .a) (s .b) (s .c) (s .d) p q r u
       → Columns (mixColumns (shiftRows (subBytes (bytesOf s)))) p q r u
   unfolding mixColumns shiftRows shifted subBytes block run down bytesOf column mixed
   mixed-columns et e =
       let m = each _ _ (by-words sbox t sbox-byte 2 3 1 1 et) _ _ _ _ p q r u e in
       record { is-a = m .one .0; is-b = m .two .0; is-c = m .three .0; is-d = m .four .0 }
 
-  pub unmixed-columns : Mixes invSbox 14 11 13 9 t → Turn (lookedUp t) (s .a) (s .d) (s .c) (s .b) p u r q
+  unmixed-columns : Mixes invSbox 14 11 13 9 t → Turn (lookedUp t) (s .a) (s .d) (s .c) (s .b) p u r q
       → Columns (invMixColumns (invSubBytes (invShiftRows (bytesOf s)))) p q r u
   unfolding invMixColumns invShiftRows unshifted invSubBytes block run down bytesOf column unmixed
   unmixed-columns et e =
       let m = each _ _ (by-words invSbox t invSbox-byte 14 11 13 9 et) _ _ _ _ p u r q e in
       record { is-a = m .one .0; is-b = m .four .0; is-c = m .three .0; is-d = m .two .0 }
 
-  pub shifted-columns : t ≡ table sbox → Turn (lookedUpBytes t) (s .a) (s .b) (s .c) (s .d) p q r u
+  shifted-columns : t ≡ table sbox → Turn (lookedUpBytes t) (s .a) (s .b) (s .c) (s .d) p q r u
       → Columns (shiftRows (subBytes (bytesOf s))) p q r u
   unfolding shiftRows shifted subBytes block run bytesOf
   shifted-columns et e =
       let m = each _ _ (by-bytes sbox t et) _ _ _ _ p q r u e in
       record { is-a = m .one .0; is-b = m .two .0; is-c = m .three .0; is-d = m .four .0 }
 
-  pub unshifted-columns : t ≡ table invSbox → Turn (lookedUpBytes t) (s .a) (s .d) (s .c) (s .b) p u r q
+  unshifted-columns : t ≡ table invSbox → Turn (lookedUpBytes t) (s .a) (s .d) (s .c) (s .b) p u r q
       → Columns (invSubBytes (invShiftRows (bytesOf s))) p q r u
   unfolding invShiftRows unshifted invSubBytes block run bytesOf
   unshifted-columns et e =
       let m = each _ _ (by-bytes invSbox t et) _ _ _ _ p u r q e in
       record { is-a = m .one .0; is-b = m .four .0; is-c = m .three .0; is-d = m .two .0 }
+
+-- ---- the rounds: with the words of a key added
+
+module _ (s k : State) (t : List ℕ) (p q r u : ℕ) where
+  abbrev sums : State
+  sums = record { a = xor p (k .a); b = xor q (k .b); c = xor r (k .c); d = xor u (k .d) }
+
+  forth-block : {found : ℕ → ℕ → ℕ → ℕ → ℕ} → Turn found (s .a) (s .b) (s .c) (s .d) p q r u → Block (bytesOf s)
+  forth-block e = bytesOf-block s (record { fits-a = e .two .1; fits-b = e .three .1; fits-c = e .four .1; fits-d = e .one .1 })
+
+  back-block : {found : ℕ → ℕ → ℕ → ℕ → ℕ} → Turn found (s .a) (s .d) (s .c) (s .b) p u r q → Block (bytesOf s)
+  back-block e = bytesOf-block s (record { fits-a = e .two .1; fits-b = e .one .1; fits-c = e .four .1; fits-d = e .three .1 })
+
+  pub mixed-round : Mixes sbox 2 3 1 1 t → Turn (lookedUp t) (s .a) (s .b) (s .c) (s .d) p q r u
+      → bytesOf sums ≡ addRoundKey (mixColumns (shiftRows (subBytes (bytesOf s)))) (bytesOf k)
+  mixed-round et e = columns-added _ (mix-block _ (shift-block _ (sub-block _ (forth-block e)))) k p q r u (mixed-columns s t p q r u et e)
+
+  pub unmixed-round : Mixes invSbox 14 11 13 9 t → Turn (lookedUp t) (s .a) (s .d) (s .c) (s .b) p u r q
+      → (bytesOf sums ≡ addRoundKey (invMixColumns (invSubBytes (invShiftRows (bytesOf s)))) (bytesOf k)) × Block (bytesOf s)
+  unmixed-round et e =
+      let b = back-block e in
+      (columns-added _ (unmix-block _ (unsub-block _ (unshift-block _ b))) k p q r u (unmixed-columns s t p q r u et e), b)
+
+  pub shifted-round : t ≡ table sbox → Turn (lookedUpBytes t) (s .a) (s .b) (s .c) (s .d) p q r u
+      → bytesOf sums ≡ addRoundKey (shiftRows (subBytes (bytesOf s))) (bytesOf k)
+  shifted-round et e = columns-added _ (shift-block _ (sub-block _ (forth-block e))) k p q r u (shifted-columns s t p q r u et e)
+
+  pub unshifted-round : t ≡ table invSbox → Turn (lookedUpBytes t) (s .a) (s .d) (s .c) (s .b) p u r q
+      → bytesOf sums ≡ addRoundKey (invSubBytes (invShiftRows (bytesOf s))) (bytesOf k)
+  unshifted-round et e = columns-added _ (unsub-block _ (unshift-block _ (back-block e))) k p q r u (unshifted-columns s t p q r u et e)
 
 -- ---- a round key of the way back
 

@@ -3,7 +3,7 @@ use mathlib.Core.Path.{_∙_, ap}
 use mathlib.Core.List.{List}
 use Prim.Native.Nat.{ℕ}
 use Rattle.aes.specs.Cbc.{cbcEncrypt}
-use Rattle.aes.proofs.ChainRoom.{odd-buffer, whole-buffer}
+use Rattle.aes.proofs.ChainCalls.{odd-buffer, whole-buffer}
 use borrow.Author.Needs.{needs}
 use Rattle.aes.proofs.cbc.cbc_encrypt_in_place.Statement.{statement}
 use Rattle.aes.proofs.cbc.cbc_encrypt_in_place.Tie as tie

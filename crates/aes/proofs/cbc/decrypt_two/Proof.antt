@@ -8,7 +8,7 @@ use lib.Seq.{paste}
 use Rattle.aes.specs.Words.{bytesOf}
 use Rattle.aes.specs.Cbc.{cbcDecryptBlock}
 use Rattle.aes.proofs.ChainLoop.{loaded, decrypted}
-use Rattle.aes.proofs.ChainRoom.{room-after}
+use Rattle.aes.proofs.ChainCalls.{room-after}
 use borrow.Author.Needs.{needs}
 use Rattle.aes.proofs.cbc.decrypt_two.Statement.{statement}
 use Rattle.aes.proofs.cbc.decrypt_two.Tie as tie

@@ -7,7 +7,7 @@ use lib.ListN.{length, take}
 use Rattle.aes.specs.Words.{bytesOf}
 use Rattle.aes.specs.Cbc.{cbcEncryptBlock, cbcEncrypt}
 use Rattle.aes.proofs.ChainLoop.{enough, loaded, Chained, begin, block-left, done, encrypt-more}
-use Rattle.aes.proofs.ChainRoom.{all-written}
+use Rattle.aes.proofs.ChainCalls.{all-written}
 use borrow.Author.Needs.{needs}
 use Rattle.aes.proofs.cbc.encrypt_buffer.Statement.{statement}
 use Rattle.aes.proofs.cbc.encrypt_buffer.Tie as tie

@@ -1,8 +1,6 @@
 -- The words looked up are the columns of the round.
 use Rattle.field.specs.Xor.{xor}
-use Rattle.aes.proofs.Steps.{mix-block, shift-block, sub-block}
-use Rattle.aes.proofs.Words.{bytesOf-block, columns-added}
-use Rattle.aes.proofs.TableRounds.{mixed-columns}
+use Rattle.aes.proofs.TableRounds.{mixed-round}
 use borrow.Author.Needs.{needs}
 use Rattle.aes.proofs.rounds.round.Statement.{statement}
 use Rattle.aes.proofs.rounds.round.Tie as tie
@@ -15,10 +13,8 @@ returns c =
     let two = three .before .before in
     let one = two .before .before in
     let a = one .before in
-    let b = bytesOf-block (a .args .s) (record { fits-a = two .look2 .ensures .1; fits-b = three .look3 .ensures .1; fits-c = four .look4 .ensures .1; fits-d = one .look .ensures .1 }) in
-    columns-added _ (mix-block _ (shift-block _ (sub-block _ b))) (a .args .k) _ _ _ _
-    (mixed-columns (a .args .s) _ _ _ _ _ (a .pre)
-    (record { one = one .look .ensures; two = two .look2 .ensures; three = three .look3 .ensures; four = four .look4 .ensures }))
+    mixed-round (a .args .s) (a .args .k) _ _ _ _ _ (a .pre)
+    (record { one = one .look .ensures; two = two .look2 .ensures; three = three .look3 .ensures; four = four .look4 .ensures })
 
 pub round-spec : {M : Type 1} → statement M
 round-spec =
