@@ -104,16 +104,6 @@ encrypt-more ks s t₀ u₀ u t at c b y v o t′ h eb ey ev eo et =
     let e : v ≡ cipher ks (addRoundKey (take 16 (drop at s)) u) = ev ∙ ap (cipher ks) (ey ∙ ap (λ (x : List ℕ). addRoundKey x u) eb) in
     more (cbcEncryptBlock ks) (λ b c. c) s t₀ u₀ u t at c (encrypt-long ks) h v t′ e (et ∙ ap (λ (x : List ℕ). paste t at x 16) (eo ∙ e))
 
--- one block decrypted, as the code does it: b is the block as words, p its plain text before the block u is added, a the sum, o that as bytes
-pub decrypted : (ks : List (List ℕ)) (s u t : List ℕ) (at : ℕ) (b p a o t′ : List ℕ) → at + 16 ≤ length s
-    → b ≡ loadBlock (take (length s - at) (drop at s)) → p ≡ invCipher ks b → a ≡ addRoundKey p u → o ≡ a → t′ ≡ paste t at o 16
-    → t′ ≡ paste t at (cbcDecryptBlock ks u (take 16 (drop at s))) 16
-unfolding cbcDecryptBlock
-decrypted ks s u t at b p a o t′ h eb ep ea eo et =
-    et
-    ∙ ap (λ (x : List ℕ). paste t at x 16)
-    (eo ∙ ea ∙ ap (λ (x : List ℕ). addRoundKey x u) (ep ∙ ap (invCipher ks) (eb ∙ loaded s at h)))
-
 -- ---- two blocks a turn
 
 -- what stands before a place is not changed there
@@ -165,5 +155,23 @@ module _ (ks : List (List ℕ)) (s t₀ u₀ u t : List ℕ) (at : ℕ) (c : Cha
       subst (λ (k : ℕ). Chained (cbcDecryptBlock ks) (λ b c. b) s t₀ u₀ v t′ (k + 16)) (sym p)
       (more (cbcDecryptBlock ks) (λ b c. b) s t₀ u₀ (here at) t₁ (at + 16) one (decrypt-long ks) (omega arith) v t′ (ev ∙ ap here p)
       (et ∙ ap both p
-      ∙ paste-swap t (cbcDecryptBlock ks u (here at)) (cbcDecryptBlock ks (here at) (here (at + 16))) at (omega (arith, c .room, c .len)) (omega arith)
-      (omega arith)))
+      ∙ paste-swap t (cbcDecryptBlock ks u (here at)) (cbcDecryptBlock ks (here at) (here (at + 16))) at
+      (omega (arith, c .room, c .len)) (omega arith) (omega arith)))
+
+-- two blocks decrypted, as the code does it: x and y are the blocks as words, p and q their plain text before the cipher blocks u and x are
+-- added, a and b the sums; the later is written first
+pub decrypted-two : (ks : List (List ℕ)) (s u t : List ℕ) (at next : ℕ) → at + 16 ≤ length s → next + 16 ≤ length s → (x y p q a b o o′ t₁ t₂ : List ℕ)
+    → x ≡ loadBlock (take (length s - at) (drop at s)) → y ≡ loadBlock (take (length s - next) (drop next s)) → p ≡ invCipher ks x → q ≡ invCipher ks y
+    → b ≡ addRoundKey q x → o ≡ b → t₁ ≡ paste t next o 16 → a ≡ addRoundKey p u → o′ ≡ a → t₂ ≡ paste t₁ at o′ 16
+    → (y ≡ take 16 (drop next s)) × (t₂ ≡ paste (paste t next (cbcDecryptBlock ks (take 16 (drop at s)) (take 16 (drop next s))) 16) at
+    (cbcDecryptBlock ks u (take 16 (drop at s))) 16)
+unfolding cbcDecryptBlock
+decrypted-two ks s u t at next h g x y p q a b o o′ t₁ t₂ ex ey ep eq eb eo e₁ ea eo′ e₂ =
+    let lx = ex ∙ loaded s at h in
+    let ly = ey ∙ loaded s next g in (
+      ly,
+      e₂
+          ∙ ap₂ (λ (w z : List ℕ). paste w at z 16)
+          (e₁ ∙ ap (λ (z : List ℕ). paste t next z 16) (eo ∙ eb ∙ ap₂ addRoundKey (eq ∙ ap (invCipher ks) ly) lx))
+          (eo′ ∙ ea ∙ ap (λ (z : List ℕ). addRoundKey z u) (ep ∙ ap (invCipher ks) lx)),
+    )

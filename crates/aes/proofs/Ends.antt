@@ -38,9 +38,11 @@ unfolding chain
 block-decrypted ks zero k v s h = absurd (omega arith)
 block-decrypted ks (suc m) zero v s h = first-decrypted ks v s (chain (cbcDecryptBlock ks) (λ b c. b) m (take 16 s) (drop 16 s))
 block-decrypted ks (suc m) (suc k) v s h =
-    ap (λ (n : ℕ). take 16 (drop n (cbcDecryptBlock ks v (take 16 s) ++ chain (cbcDecryptBlock ks) (λ b c. b) m (take 16 s) (drop 16 s)))) (sixteens k)
-    ∙ ap (take 16) (drop-past (cbcDecryptBlock ks v (take 16 s)) (chain (cbcDecryptBlock ks) (λ b c. b) m (take 16 s) (drop 16 s)) (16 * k) (decrypt-long ks v (take 16 s)))
-    ∙ block-decrypted ks m k (take 16 s) (drop 16 s) (omega arith)
+    let b : List ℕ = take 16 s in
+    let c : List ℕ = cbcDecryptBlock ks v b in
+    let r : List ℕ = chain (cbcDecryptBlock ks) (λ b c. b) m b (drop 16 s) in
+    ap (λ (n : ℕ). take 16 (drop n (c ++ r))) (sixteens k) ∙ ap (take 16) (drop-past c r (16 * k) (decrypt-long ks v b))
+    ∙ block-decrypted ks m k b (drop 16 s) (omega arith)
     ∙ ap₂ (cbcDecryptBlock ks) (later-before k v s) (ap (take 16) (drop-drop (16 * k) 16 s ∙ ap (λ (n : ℕ). drop n s) (sym (sixteens k))))
 
 cbcDecrypt-block : (ks : List (List ℕ)) (v s : List ℕ) (k : ℕ) → 16 * k + 16 ≤ length s

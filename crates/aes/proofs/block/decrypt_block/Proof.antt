@@ -6,7 +6,9 @@ use Rattle.aes.proofs.block.decrypt_block.Statement.{statement}
 use Rattle.aes.proofs.block.decrypt_block.Tie as tie
 
 returns : tie.Need-returns
-returns c = c .bytes-of .ensures ∙ c .before .decrypt-pair .ensures .0 ∙ ap (invCipher _) (c .before .before .before .before .before .before .words .ensures)
+returns c =
+    c .bytes-of .ensures ∙ c .before .decrypt-pair .ensures .0
+    ∙ ap (invCipher _) (c .before .before .before .before .before .before .words .ensures)
 
 pub decrypt-block-spec : {M : Type 1} → statement M
 decrypt-block-spec =

@@ -31,7 +31,8 @@ returns-2 c =
     let a = at-if .before .before .before .before .args in
     fit (a .source .now) (a .target .now) _ (at-if .before .fit .ensures) (cbcDecrypt (a .keys .now) (a .vector) (a .source .now)) _ (at-if .if1 .left)
     (at-blocks .decrypt-blocks .ensures
-    ∙ ap (λ (v : List ℕ). cbcDecrypt (a .keys .now) v (a .source .now) ++ drop (length (a .source .now)) (a .target .now)) (at-words .words .ensures))
+    ∙ ap (λ (v : List ℕ). cbcDecrypt (a .keys .now) v (a .source .now) ++ drop (length (a .source .now)) (a .target .now))
+    (at-words .words .ensures))
 
 pub cbc-decrypt-spec : {M : Type 1} → statement M
 cbc-decrypt-spec =

@@ -10,7 +10,8 @@ use Rattle.aes.proofs.cbc.decrypt_blocks.Statement.{statement}
 use Rattle.aes.proofs.cbc.decrypt_blocks.Tie as tie
 
 abbrev Inv-loop : tie.InvT-loop
-Inv-loop keys inverse sb t source target₀ v₀ at₀ target v at = Chained (cbcDecryptBlock keys) (λ b c. b) source target₀ (bytesOf v₀) (bytesOf v) target at
+Inv-loop keys inverse sb t source target₀ v₀ at₀ target v at =
+    Chained (cbcDecryptBlock keys) (λ b c. b) source target₀ (bytesOf v₀) (bytesOf v) target at
 
 abbrev μ-loop : tie.MeasureT-loop
 μ-loop keys inverse sb t source target₀ v₀ at₀ target v at = length source - at
