@@ -1,5 +1,5 @@
 pub mod Steps
-pub mod Words
+pub mod StateWords
 pub mod TableRounds
 pub mod Schedule
 pub mod Undo

@@ -12,13 +12,13 @@ use Rattle.field.specs.Mix.{mixed, unmixed}
 use Rattle.field.specs.Words.{word, column, Mixes}
 use Rattle.field.proofs.Runs.{table-at}
 use Rattle.field.proofs.Sbox.{sbox-byte, invSbox-byte, invSbox-sbox}
-use Rattle.field.proofs.Words.{words, looked-up}
+use Rattle.field.proofs.Words.{words, byte0, byte1, byte2, byte3, looked-up}
 use Rattle.aes.specs.declared.columns.State.{State}
 use Rattle.aes.specs.State.{block, Block, subBytes, shifted, shiftRows, down, mixColumns, addRoundKey}
 use Rattle.aes.specs.State.{unshifted, invShiftRows, invSubBytes, invMixColumns}
 use Rattle.aes.specs.Words.{bytesOf, lookedUp, lookedUpBytes}
 use Rattle.aes.proofs.Steps.{sub-block, shift-block, mix-block, unsub-block, unshift-block, unmix-block}
-use Rattle.aes.proofs.Words.{Columns, bytesOf-block, columns-added, get0, get1, get2, get3}
+use Rattle.aes.proofs.StateWords.{Columns, bytesOf-block, columns-added}
 
 -- four words p q r u, each found from the words a b c d, which are read in turn; what the code says of each lookup
 pub record Turn (found : ℕ → ℕ → ℕ → ℕ → ℕ) (a b c d p q r u : ℕ) : Type 0 where
@@ -59,65 +59,57 @@ module _ (found made : ℕ → ℕ → ℕ → ℕ → ℕ) (h : (w a b c d : �
         four = (h u d a b c (e .four .1) (e .four .0), e .four .1);
       }
 
--- the columns after SubBytes, ShiftRows and MixColumns, and after SubBytes and ShiftRows alone; and back
-module _ (s : State) (t : List ℕ) (p q r u : ℕ) where
-  mixed-columns : Mixes sbox 2 3 1 1 t → Turn (lookedUp t) (s .a) (s .b) (s .c) (s .d) p q r u
-      → Columns (mixColumns (shiftRows (subBytes (bytesOf s)))) p q r u
+-- what the tables hold is the columns after a round: forth, with MixColumns and without, and back
+module _ (s : State) {p q r u : ℕ} where
+  mixed-columns : Turn (taken (column 2 3 1 1) sbox) (s .a) (s .b) (s .c) (s .d) p q r u → Columns (mixColumns (shiftRows (subBytes (bytesOf s)))) p q r u
   unfolding mixColumns shiftRows shifted subBytes block run down bytesOf column mixed
-  mixed-columns et e =
-      let m = each _ _ (by-words sbox t sbox-byte 2 3 1 1 et) _ _ _ _ p q r u e in
-      record { is-a = m .one .0; is-b = m .two .0; is-c = m .three .0; is-d = m .four .0 }
+  mixed-columns m = record { is-a = m .one .0; is-b = m .two .0; is-c = m .three .0; is-d = m .four .0 }
 
-  unmixed-columns : Mixes invSbox 14 11 13 9 t → Turn (lookedUp t) (s .a) (s .d) (s .c) (s .b) p u r q
+  shifted-columns : Turn (taken word sbox) (s .a) (s .b) (s .c) (s .d) p q r u → Columns (shiftRows (subBytes (bytesOf s))) p q r u
+  unfolding shiftRows shifted subBytes block run bytesOf
+  shifted-columns m = record { is-a = m .one .0; is-b = m .two .0; is-c = m .three .0; is-d = m .four .0 }
+
+  unmixed-columns : Turn (taken (column 14 11 13 9) invSbox) (s .a) (s .d) (s .c) (s .b) p u r q
       → Columns (invMixColumns (invSubBytes (invShiftRows (bytesOf s)))) p q r u
   unfolding invMixColumns invShiftRows unshifted invSubBytes block run down bytesOf column unmixed
-  unmixed-columns et e =
-      let m = each _ _ (by-words invSbox t invSbox-byte 14 11 13 9 et) _ _ _ _ p u r q e in
-      record { is-a = m .one .0; is-b = m .four .0; is-c = m .three .0; is-d = m .two .0 }
+  unmixed-columns m = record { is-a = m .one .0; is-b = m .four .0; is-c = m .three .0; is-d = m .two .0 }
 
-  shifted-columns : t ≡ table sbox → Turn (lookedUpBytes t) (s .a) (s .b) (s .c) (s .d) p q r u
-      → Columns (shiftRows (subBytes (bytesOf s))) p q r u
-  unfolding shiftRows shifted subBytes block run bytesOf
-  shifted-columns et e =
-      let m = each _ _ (by-bytes sbox t et) _ _ _ _ p q r u e in
-      record { is-a = m .one .0; is-b = m .two .0; is-c = m .three .0; is-d = m .four .0 }
-
-  unshifted-columns : t ≡ table invSbox → Turn (lookedUpBytes t) (s .a) (s .d) (s .c) (s .b) p u r q
-      → Columns (invSubBytes (invShiftRows (bytesOf s))) p q r u
+  unshifted-columns : Turn (taken word invSbox) (s .a) (s .d) (s .c) (s .b) p u r q → Columns (invSubBytes (invShiftRows (bytesOf s))) p q r u
   unfolding invShiftRows unshifted invSubBytes block run bytesOf
-  unshifted-columns et e =
-      let m = each _ _ (by-bytes invSbox t et) _ _ _ _ p u r q e in
-      record { is-a = m .one .0; is-b = m .four .0; is-c = m .three .0; is-d = m .two .0 }
+  unshifted-columns m = record { is-a = m .one .0; is-b = m .four .0; is-c = m .three .0; is-d = m .two .0 }
 
--- ---- the rounds: with the words of a key added
-
+-- the rounds, with the words of a key added
 module _ (s k : State) (t : List ℕ) (p q r u : ℕ) where
   abbrev sums : State
   sums = record { a = xor p (k .a); b = xor q (k .b); c = xor r (k .c); d = xor u (k .d) }
 
-  forth-block : {found : ℕ → ℕ → ℕ → ℕ → ℕ} → Turn found (s .a) (s .b) (s .c) (s .d) p q r u → Block (bytesOf s)
-  forth-block e = bytesOf-block s (record { fits-a = e .two .1; fits-b = e .three .1; fits-c = e .four .1; fits-d = e .one .1 })
-
-  back-block : {found : ℕ → ℕ → ℕ → ℕ → ℕ} → Turn found (s .a) (s .d) (s .c) (s .b) p u r q → Block (bytesOf s)
-  back-block e = bytesOf-block s (record { fits-a = e .two .1; fits-b = e .one .1; fits-c = e .four .1; fits-d = e .three .1 })
-
   pub mixed-round : Mixes sbox 2 3 1 1 t → Turn (lookedUp t) (s .a) (s .b) (s .c) (s .d) p q r u
       → bytesOf sums ≡ addRoundKey (mixColumns (shiftRows (subBytes (bytesOf s)))) (bytesOf k)
-  mixed-round et e = columns-added _ (mix-block _ (shift-block _ (sub-block _ (forth-block e)))) k p q r u (mixed-columns s t p q r u et e)
+  mixed-round et e =
+      let b = bytesOf-block s (e .two .1) (e .three .1) (e .four .1) (e .one .1) in
+      columns-added _ (mix-block _ (shift-block _ (sub-block _ b))) k p q r u
+      (mixed-columns s (each _ _ (by-words sbox t sbox-byte 2 3 1 1 et) _ _ _ _ p q r u e))
+
+  pub shifted-round : t ≡ table sbox → Turn (lookedUpBytes t) (s .a) (s .b) (s .c) (s .d) p q r u
+      → bytesOf sums ≡ addRoundKey (shiftRows (subBytes (bytesOf s))) (bytesOf k)
+  shifted-round et e =
+      let b = bytesOf-block s (e .two .1) (e .three .1) (e .four .1) (e .one .1) in
+      columns-added _ (shift-block _ (sub-block _ b)) k p q r u (shifted-columns s (each _ _ (by-bytes sbox t et) _ _ _ _ p q r u e))
 
   pub unmixed-round : Mixes invSbox 14 11 13 9 t → Turn (lookedUp t) (s .a) (s .d) (s .c) (s .b) p u r q
       → (bytesOf sums ≡ addRoundKey (invMixColumns (invSubBytes (invShiftRows (bytesOf s)))) (bytesOf k)) × Block (bytesOf s)
   unmixed-round et e =
-      let b = back-block e in
-      (columns-added _ (unmix-block _ (unsub-block _ (unshift-block _ b))) k p q r u (unmixed-columns s t p q r u et e), b)
-
-  pub shifted-round : t ≡ table sbox → Turn (lookedUpBytes t) (s .a) (s .b) (s .c) (s .d) p q r u
-      → bytesOf sums ≡ addRoundKey (shiftRows (subBytes (bytesOf s))) (bytesOf k)
-  shifted-round et e = columns-added _ (shift-block _ (sub-block _ (forth-block e))) k p q r u (shifted-columns s t p q r u et e)
+      let b = bytesOf-block s (e .two .1) (e .one .1) (e .four .1) (e .three .1) in (
+        columns-added _ (unmix-block _ (unsub-block _ (unshift-block _ b))) k p q r u
+            (unmixed-columns s (each _ _ (by-words invSbox t invSbox-byte 14 11 13 9 et) _ _ _ _ p u r q e)),
+        b,
+      )
 
   pub unshifted-round : t ≡ table invSbox → Turn (lookedUpBytes t) (s .a) (s .d) (s .c) (s .b) p u r q
       → bytesOf sums ≡ addRoundKey (invSubBytes (invShiftRows (bytesOf s))) (bytesOf k)
-  unshifted-round et e = columns-added _ (unsub-block _ (unshift-block _ (back-block e))) k p q r u (unshifted-columns s t p q r u et e)
+  unshifted-round et e =
+      let b = bytesOf-block s (e .two .1) (e .one .1) (e .four .1) (e .three .1) in
+      columns-added _ (unsub-block _ (unshift-block _ b)) k p q r u (unshifted-columns s (each _ _ (by-bytes invSbox t et) _ _ _ _ p u r q e))
 
 -- ---- a round key of the way back
 
@@ -130,15 +122,15 @@ unmixed-word tb t eb et x y z hx ey ez =
     let b1 : x / 256 % 256 < 256 = omega arith in
     let b2 : x / 65536 % 256 < 256 = omega arith in
     let b3 : x / 16777216 < 256 = omega arith in
-    let e : y ≡ word (sbox (x % 256)) (sbox (x / 256 % 256)) (sbox (x / 65536 % 256)) (sbox (x / 16777216)) = by-bytes sbox tb eb y x x x x hx ey in
     let h0 = sbox-byte (x % 256) b0 in
     let h1 = sbox-byte (x / 256 % 256) b1 in
     let h2 = sbox-byte (x / 65536 % 256) b2 in
     let h3 = sbox-byte (x / 16777216) b3 in
+    let e : y ≡ taken word sbox x x x x = by-bytes sbox tb eb y x x x x hx ey in
     let hy : y < 4294967296 = omega arith in
-    by-words invSbox t invSbox-byte 14 11 13 9 et z y y y y hy ez
-    ∙ (λ i. column 14 11 13 9 (ap invSbox (get0 _ _ _ _ _ e h0 h1 h2 h3) i) (ap invSbox (get1 _ _ _ _ _ e h0 h1 h2 h3) i)
-    (ap invSbox (get2 _ _ _ _ _ e h0 h1 h2 h3) i) (ap invSbox (get3 _ _ _ _ _ e h0 h1 h2 h3) i))
+    by-words invSbox t invSbox-byte 14 11 13 9 et z y y y y hy ez ∙ (λ i. taken (column 14 11 13 9) invSbox (e i) (e i) (e i) (e i))
+    ∙ (λ i. column 14 11 13 9 (invSbox (byte0 _ _ _ _ h0 h1 h2 h3 i)) (invSbox (byte1 _ _ _ _ h0 h1 h2 h3 i))
+    (invSbox (byte2 _ _ _ _ h0 h1 h2 h3 i)) (invSbox (byte3 _ _ _ _ h0 h1 h2 h3 i)))
     ∙ (λ i. column 14 11 13 9 (invSbox-sbox (x % 256) b0 i) (invSbox-sbox (x / 256 % 256) b1 i) (invSbox-sbox (x / 65536 % 256) b2 i)
     (invSbox-sbox (x / 16777216) b3 i))
 

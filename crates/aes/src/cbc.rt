@@ -121,7 +121,7 @@ fn decrypt_blocks(
     }
 }
 
-// Whether so many bytes are whole blocks for which so much room is enough.
+// Whether `size` bytes are whole blocks, and `room` bytes are enough for them.
 fn fit(size: usize, room: usize) -> bool
     ensures { λ r. ⌜ r ≡ (eqb (size % 16) 0 && leb size room) ⌝ }
 {

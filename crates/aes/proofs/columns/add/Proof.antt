@@ -1,6 +1,6 @@
 -- The words are added byte by byte.
 use Rattle.field.specs.Xor.{xor}
-use Rattle.aes.proofs.Words.{words-added}
+use Rattle.aes.proofs.StateWords.{words-added}
 use Rattle.aes.proofs.columns.add.Statement.{statement}
 use Rattle.aes.proofs.columns.add.Tie as tie
 

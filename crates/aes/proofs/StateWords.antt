@@ -17,13 +17,6 @@ use Rattle.aes.proofs.Steps.{block-is}
 
 -- ---- words and their bytes
 
--- each word has 32 binary digits
-pub record Words (s : State) : Type 0 where
-  pub fits-a : s .a < 4294967296
-  pub fits-b : s .b < 4294967296
-  pub fits-c : s .c < 4294967296
-  pub fits-d : s .d < 4294967296
-
 -- the four words are the four columns of the list m
 pub record Columns (m : List ℕ) (a b c d : ℕ) : Type 0 where
   pub is-a : a ≡ word (getD m 0 0) (getD m 1 0) (getD m 2 0) (getD m 3 0)
@@ -38,12 +31,11 @@ four x = x % 256 ∷ x / 256 % 256 ∷ x / 65536 % 256 ∷ x / 16777216 ∷ []
 four-bytes : (x : ℕ) → x < 4294967296 → AllBytes (four x)
 four-bytes x h = cons-bytes (omega arith) (cons-bytes (omega arith) (cons-bytes (omega arith) (cons-bytes (omega arith) nil-bytes)))
 
-pub bytesOf-block : (s : State) → Words s → Block (bytesOf s)
+pub bytesOf-block : (s : State) → s .a < 4294967296 → s .b < 4294967296 → s .c < 4294967296 → s .d < 4294967296 → Block (bytesOf s)
 unfolding bytesOf
-bytesOf-block s w =
-    let all =
-    append-bytes (four-bytes (s .a) (w .fits-a))
-    (append-bytes (four-bytes (s .b) (w .fits-b)) (append-bytes (four-bytes (s .c) (w .fits-c)) (four-bytes (s .d) (w .fits-d)))) in
+bytesOf-block s ha hb hc hd =
+    let all = append-bytes (four-bytes (s .a) ha)
+    (append-bytes (four-bytes (s .b) hb) (append-bytes (four-bytes (s .c) hc) (four-bytes (s .d) hd))) in
     record { len = refl; bytes = λ i h. all .at i }
 
 -- ---- words added: AddRoundKey
@@ -63,32 +55,22 @@ words-added s k t = four-sum (s .a) (k .a) t ++ four-sum (s .b) (k .b) t ++ four
 
 -- ---- words made of columns
 
--- the bytes of a word that is given as four
-module _ (x p q r s : ℕ) (e : x ≡ word p q r s) (hp : p < 256) (hq : q < 256) (hr : r < 256) (hs : s < 256) where
-  pub get0 : x % 256 ≡ p
-  get0 = ap (λ (y : ℕ). y % 256) e ∙ byte0 p q r s hp hq hr hs
-
-  pub get1 : x / 256 % 256 ≡ q
-  get1 = ap (λ (y : ℕ). y / 256 % 256) e ∙ byte1 p q r s hp hq hr hs
-
-  pub get2 : x / 65536 % 256 ≡ r
-  get2 = ap (λ (y : ℕ). y / 65536 % 256) e ∙ byte2 p q r s hp hq hr hs
-
-  pub get3 : x / 16777216 ≡ s
-  get3 = ap (λ (y : ℕ). y / 16777216) e ∙ byte3 p q r s hp hq hr hs
-
-  four-of : four x ≡ p ∷ q ∷ r ∷ s ∷ []
-  four-of t = get0 t ∷ get1 t ∷ get2 t ∷ get3 t ∷ []
+-- a word that is made of four bytes has them
+word-four : (p q r s : ℕ) → p < 256 → q < 256 → r < 256 → s < 256 → four (word p q r s) ≡ p ∷ q ∷ r ∷ s ∷ []
+word-four p q r s hp hq hr hs t =
+    byte0 p q r s hp hq hr hs t ∷ byte1 p q r s hp hq hr hs t ∷ byte2 p q r s hp hq hr hs t ∷ byte3 p q r s hp hq hr hs t ∷ []
 
 -- the words of a list alone
 pub columns-bytes : (m : List ℕ) → Block m → (s : State) → Columns m (s .a) (s .b) (s .c) (s .d) → bytesOf s ≡ m
 unfolding bytesOf block run
-columns-bytes m b s e = (λ t. from 0 (e .is-a) (omega arith) t ++ from 4 (e .is-b) (omega arith) t ++ from 8 (e .is-c) (omega arith) t
-    ++ from 12 (e .is-d) (omega arith) t) ∙ block-is (λ i. getD m i 0) m (b .len) (λ i h. refl)
+columns-bytes m b s e =
+    (λ t. four (e .is-a t) ++ four (e .is-b t) ++ four (e .is-c t) ++ four (e .is-d t))
+    ∙ (λ t. from 0 (omega arith) t ++ from 4 (omega arith) t ++ from 8 (omega arith) t ++ from 12 (omega arith) t)
+    ∙ block-is (λ i. getD m i 0) m (b .len) (λ i h. refl)
   where
-    from : (i : ℕ) {x : ℕ} → x ≡ word (getD m i 0) (getD m (i + 1) 0) (getD m (i + 2) 0) (getD m (i + 3) 0) → i + 4 ≤ 16
-        → four x ≡ getD m i 0 ∷ getD m (i + 1) 0 ∷ getD m (i + 2) 0 ∷ getD m (i + 3) 0 ∷ []
-    from i f h = four-of _ _ _ _ _ f (b .bytes i (omega arith)) (b .bytes (i + 1) (omega arith)) (b .bytes (i + 2) (omega arith))
+    from : (i : ℕ) → i + 4 ≤ 16 → four (word (getD m i 0) (getD m (i + 1) 0) (getD m (i + 2) 0) (getD m (i + 3) 0))
+        ≡ getD m i 0 ∷ getD m (i + 1) 0 ∷ getD m (i + 2) 0 ∷ getD m (i + 3) 0 ∷ []
+    from i h = word-four _ _ _ _ (b .bytes i (omega arith)) (b .bytes (i + 1) (omega arith)) (b .bytes (i + 2) (omega arith))
         (b .bytes (i + 3) (omega arith))
 
 -- the words of a list with the words of a key added
