@@ -1,4 +1,4 @@
--- Cipher block chaining: decryption undoes encryption for any number of blocks; lengths.
+-- Cipher block chaining: lengths, and that decryption undoes encryption for any number of blocks.
 use mathlib.Core.Path.{_≡_, refl, sym, ap, ap₂, _∙_, subst}
 use mathlib.Core.List.{List, [], _∷_, _++_}
 use Prim.Native.Nat.{ℕ, zero, suc, _+_, _*_, _/_, _%_, _<_}
@@ -7,10 +7,40 @@ use lib.ListN.{getD, length, take, drop, length-append, length-drop, take-append
 use lib.Seq.{take-at, drop-at, length-take-le, getD-take, getD-drop}
 use Rattle.aes.specs.State.{Block, addRoundKey}
 use Rattle.aes.specs.Cipher.{cipher, invCipher}
-use Rattle.aes.specs.Cbc.{encryptBlocks, cbcDecryptBlock, decryptBlocks, cbcEncrypt, cbcDecrypt}
+use Rattle.aes.specs.Cbc.{chain, cbcEncryptBlock, cbcDecryptBlock, cbcEncrypt, cbcDecrypt}
 use Rattle.aes.proofs.Steps.{add-length, add-block, add-add}
 use Rattle.aes.proofs.Schedule.{Keys}
 use Rattle.aes.proofs.Undo.{cipher-length, cipher-block, invCipher-cipher}
+
+-- ---- lengths
+
+pub encrypt-long : (ks : List (List ℕ)) (v b : List ℕ) → length (cbcEncryptBlock ks v b) ≡ 16
+unfolding cbcEncryptBlock
+encrypt-long ks v b = cipher-length ks (addRoundKey b v)
+
+pub decrypt-long : (ks : List (List ℕ)) (v b : List ℕ) → length (cbcDecryptBlock ks v b) ≡ 16
+unfolding cbcDecryptBlock
+decrypt-long ks v b = add-length (invCipher ks b) v
+
+module _ (out next : List ℕ → List ℕ → List ℕ) (long : (v b : List ℕ) → length (out v b) ≡ 16) where
+  chain-length : (n : ℕ) (v s : List ℕ) → length (chain out next n v s) ≡ n * 16
+  unfolding chain
+  chain-length zero v s = refl
+  chain-length (suc n) v s =
+      let c : List ℕ = out v (take 16 s) in
+      length-append c (chain out next n (next (take 16 s) c) (drop 16 s))
+      ∙ ap₂ (λ (x y : ℕ). x + y) (long v (take 16 s)) (chain-length n (next (take 16 s) c) (drop 16 s)) ∙ omega arith
+
+-- the length is kept where it is a multiple of 16
+pub cbcEncrypt-length : (ks : List (List ℕ)) (v s : List ℕ) → length s % 16 ≡ 0 → length (cbcEncrypt ks v s) ≡ length s
+unfolding cbcEncrypt
+cbcEncrypt-length ks v s h = chain-length (cbcEncryptBlock ks) (λ b c. c) (encrypt-long ks) (length s / 16) v s ∙ omega arith
+
+pub cbcDecrypt-length : (ks : List (List ℕ)) (v s : List ℕ) → length s % 16 ≡ 0 → length (cbcDecrypt ks v s) ≡ length s
+unfolding cbcDecrypt
+cbcDecrypt-length ks v s h = chain-length (cbcDecryptBlock ks) (λ b c. b) (decrypt-long ks) (length s / 16) v s ∙ omega arith
+
+-- ---- decryption undoes encryption
 
 -- n whole blocks of bytes
 pub record Blocks (n : ℕ) (s : List ℕ) : Type 0 where
@@ -35,54 +65,32 @@ nothing : (s : List ℕ) → length s ≡ 0 → [] ≡ s
 nothing [] e = refl
 nothing (x ∷ s) e = absurd (omega arith)
 
-undone : (ks : List (List ℕ)) → Keys ks → (n : ℕ) (v s : List ℕ) → Block v → Blocks n s
-    → decryptBlocks ks n v (encryptBlocks ks n v s) ≡ s
-unfolding encryptBlocks decryptBlocks cbcDecryptBlock
-undone ks hk zero v s hv hs = nothing s (hs .len)
-undone ks hk (suc n) v s hv hs =
-    let p : List ℕ = take 16 s in
-    let bp : Block p = first-block n s hs in
-    let bx : Block (addRoundKey p v) = add-block p v bp hv in
-    let c : List ℕ = cipher ks (addRoundKey p v) in
-    let bc : Block c = cipher-block ks hk (addRoundKey p v) bx in
-    let t : List ℕ = encryptBlocks ks n c (drop 16 s) in
-    ap₂ (λ (x y : List ℕ). addRoundKey (invCipher ks x) v ++ decryptBlocks ks n x y)
-    (take-at c t 16 (bc .len)) (drop-at c t 16 (bc .len))
-    ∙ ap₂ (λ (x y : List ℕ). x ++ y)
-    (ap (λ (x : List ℕ). addRoundKey x v) (invCipher-cipher ks hk (addRoundKey p v) bx) ∙ add-add p v (bp .len))
-    (undone ks hk n c (drop 16 s) bc (later-blocks n s hs))
-    ∙ take-append-drop 16 s
+module _ (ks : List (List ℕ)) (hk : Keys ks) where
+  undone : (n : ℕ) (v s : List ℕ) → Block v → Blocks n s
+      → chain (cbcDecryptBlock ks) (λ b c. b) n v (chain (cbcEncryptBlock ks) (λ b c. c) n v s) ≡ s
+  unfolding chain cbcEncryptBlock cbcDecryptBlock
+  undone zero v s hv hs = nothing s (hs .len)
+  undone (suc n) v s hv hs =
+      let p : List ℕ = take 16 s in
+      let bp : Block p = first-block n s hs in
+      let bx : Block (addRoundKey p v) = add-block p v bp hv in
+      let c : List ℕ = cipher ks (addRoundKey p v) in
+      let bc : Block c = cipher-block ks hk (addRoundKey p v) bx in
+      let t : List ℕ = chain (cbcEncryptBlock ks) (λ b c. c) n c (drop 16 s) in
+      ap₂ (λ (x y : List ℕ). addRoundKey (invCipher ks x) v ++ chain (cbcDecryptBlock ks) (λ b c. b) n x y)
+      (take-at c t 16 (bc .len)) (drop-at c t 16 (bc .len))
+      ∙ ap₂ (λ (x y : List ℕ). x ++ y)
+      (ap (λ (x : List ℕ). addRoundKey x v) (invCipher-cipher ks hk (addRoundKey p v) bx) ∙ add-add p v (bp .len))
+      (undone n c (drop 16 s) bc (later-blocks n s hs))
+      ∙ take-append-drop 16 s
 
--- ---- lengths
+  encrypted : (n : ℕ) (v s : List ℕ) → length s / 16 ≡ n → cbcEncrypt ks v s ≡ chain (cbcEncryptBlock ks) (λ b c. c) n v s
+  unfolding cbcEncrypt
+  encrypted n v s e = ap (λ (k : ℕ). chain (cbcEncryptBlock ks) (λ b c. c) k v s) e
 
-encryptBlocks-length : (ks : List (List ℕ)) (n : ℕ) (v s : List ℕ) → length (encryptBlocks ks n v s) ≡ n * 16
-unfolding encryptBlocks
-encryptBlocks-length ks zero v s = refl
-encryptBlocks-length ks (suc n) v s =
-    let c = cipher ks (addRoundKey (take 16 s) v) in
-    length-append c (encryptBlocks ks n c (drop 16 s))
-    ∙ ap₂ (λ (x y : ℕ). x + y) (cipher-length ks (addRoundKey (take 16 s) v)) (encryptBlocks-length ks n c (drop 16 s)) ∙ omega arith
-
-decryptBlocks-length : (ks : List (List ℕ)) (n : ℕ) (v s : List ℕ) → length (decryptBlocks ks n v s) ≡ n * 16
-unfolding decryptBlocks cbcDecryptBlock
-decryptBlocks-length ks zero v s = refl
-decryptBlocks-length ks (suc n) v s =
-    length-append (addRoundKey (invCipher ks (take 16 s)) v) (decryptBlocks ks n (take 16 s) (drop 16 s))
-    ∙ ap₂ (λ (x y : ℕ). x + y) (add-length (invCipher ks (take 16 s)) v) (decryptBlocks-length ks n (take 16 s) (drop 16 s)) ∙ omega arith
-
--- the length is kept where it is a multiple of 16
-pub cbcEncrypt-length : (ks : List (List ℕ)) (v s : List ℕ) → length s % 16 ≡ 0 → length (cbcEncrypt ks v s) ≡ length s
-unfolding cbcEncrypt
-cbcEncrypt-length ks v s h = encryptBlocks-length ks (length s / 16) v s ∙ omega arith
-
-pub cbcDecrypt-length : (ks : List (List ℕ)) (v s : List ℕ) → length s % 16 ≡ 0 → length (cbcDecrypt ks v s) ≡ length s
-unfolding cbcDecrypt
-cbcDecrypt-length ks v s h = decryptBlocks-length ks (length s / 16) v s ∙ omega arith
-
-pub cbcDecrypt-cbcEncrypt : (ks : List (List ℕ)) → Keys ks → (n : ℕ) (v s : List ℕ) → Block v → Blocks n s → cbcDecrypt ks v (cbcEncrypt ks v s) ≡ s
-unfolding cbcDecrypt cbcEncrypt
-cbcDecrypt-cbcEncrypt ks hk n v s hv hs =
-    let e : length s / 16 ≡ n = omega (arith, hs .len) in
-    let l : length (encryptBlocks ks (length s / 16) v s) ≡ n * 16 = encryptBlocks-length ks (length s / 16) v s ∙ ap (λ (k : ℕ). k * 16) e in
-    let f : length (encryptBlocks ks (length s / 16) v s) / 16 ≡ n = omega (arith, l) in
-    ap₂ (λ (j k : ℕ). decryptBlocks ks j v (encryptBlocks ks k v s)) f e ∙ undone ks hk n v s hv hs
+  pub cbcDecrypt-cbcEncrypt : (n : ℕ) (v s : List ℕ) → Block v → Blocks n s → cbcDecrypt ks v (cbcEncrypt ks v s) ≡ s
+  unfolding cbcDecrypt
+  cbcDecrypt-cbcEncrypt n v s hv hs =
+      let e : length s / 16 ≡ n = omega (arith, hs .len) in
+      let f : length (cbcEncrypt ks v s) / 16 ≡ n = omega (arith, hs .len, cbcEncrypt-length ks v s (omega (arith, hs .len))) in
+      ap₂ (λ (j : ℕ) (x : List ℕ). chain (cbcDecryptBlock ks) (λ b c. b) j v x) f (encrypted n v s e) ∙ undone n v s hv hs

@@ -1,24 +1,22 @@
--- The round keys: each is a block, the code makes the next, and the 44 words that they hold are those of FIPS 197, 5.2.
-use mathlib.Core.Path.{_≡_, refl, sym, ap, ap₂, _∙_, subst}
-use mathlib.Core.Bool.{Bool, cond}
+-- The round keys: each is a block, and the code makes the next.
+use mathlib.Core.Path.{_≡_, sym, ap, _∙_, subst}
 use mathlib.Core.List.{List, [], _∷_}
-use Prim.Native.Nat.{ℕ, zero, suc, _+_, _-_, _*_, _/_, _%_, _≤_, _<_}
+use Prim.Native.Nat.{ℕ, zero, suc, _+_, _*_, _/_, _%_, _<_}
 use native.Mathlib.Numerals.{add-one}
 use native.Mathlib.Omega.{arith}
-use borrow.Author.Tests.{eq-eqb, ne-eqb}
-use lib.Dec.{eqb, lit<}
+use lib.Dec.{lit<}
 use lib.ListN.{getD, length}
 use Rattle.field.specs.Runs.{run}
 use Rattle.field.specs.Xor.{xor}
 use Rattle.field.specs.Field.{xtime}
 use Rattle.field.specs.Sbox.{sbox}
 use Rattle.field.proofs.Runs.{run-from-zero, Filled}
-use Rattle.field.proofs.Xor.{byte, zero-r}
+use Rattle.field.proofs.Xor.{byte}
 use Rattle.field.proofs.Linear.{xtime-byte}
 use Rattle.field.proofs.Sbox.{sbox-byte}
 use Rattle.aes.specs.State.{block, Block}
-use Rattle.aes.specs.Key.{rcon, turnedByte, nextByte, nextKey, roundKey, expandKey, keyWord, wordAdded}
-use Rattle.aes.proofs.Steps.{block-at, block-of}
+use Rattle.aes.specs.Key.{rcon, turnedByte, nextByte, nextKey, roundKey, expandKey}
+use Rattle.aes.proofs.Steps.{block-of}
 
 -- ---- one round key more
 
@@ -91,62 +89,3 @@ expandKey-at key i h = run-from-zero (roundKey key) 11 i [] h
 
 pub expandKey-keys : (key : List ℕ) → Block key → Keys (expandKey key)
 expandKey-keys key b i h = subst Block (sym (expandKey-at key i h)) (roundKey-block key b i)
-
--- ---- the 44 words of the standard
-
-word-at : (key : List ℕ) (n j r : ℕ) → j < 4 → keyWord key (4 * n + j) r ≡ getD (roundKey key n) (4 * j + r) 0
-unfolding keyWord
-word-at key n j r h =
-    let p : (4 * n + j) / 4 ≡ n = omega arith in
-    let q : (4 * n + j) % 4 ≡ j = omega arith in
-    ap₂ (λ (a b : ℕ). getD (roundKey key a) (4 * b + r) 0) p q
-
-word-next : (key : List ℕ) (n j r : ℕ) → j < 4 → r < 4 → keyWord key (4 * suc n + j) r ≡ nextByte (roundKey key n) (rcon n) j r
-unfolding roundKey nextKey
-word-next key n j r hj hr =
-    let p : (4 * j + r) / 4 ≡ j = omega arith in
-    let q : (4 * j + r) % 4 ≡ r = omega arith in
-    word-at key (suc n) j r hj ∙ block-at _ (4 * j + r) (omega arith) ∙ ap₂ (nextByte (roundKey key n) (rcon n)) p q
-
--- the first word of a round key: w[i - 1] turned, substituted, and the round constant
-turned-word : (key : List ℕ) (n r : ℕ) → r < 4
-    → turnedByte (roundKey key n) (rcon n) r ≡ xor (sbox (keyWord key (4 * n + 3) ((r + 1) % 4))) (cond (eqb r 0) (rcon n) 0)
-unfolding turnedByte
-turned-word key n zero h = ap (λ (x : ℕ). xor (sbox x) (rcon n)) (sym (word-at key n 3 1 (lit< tt)))
-turned-word key n (suc r) h =
-    let x : ℕ = sbox (keyWord key (4 * n + 3) ((suc r + 1) % 4)) in
-    let b = ne-eqb (suc r) 0 (omega arith) in
-    ap sbox (sym (word-at key n 3 ((suc r + 1) % 4) (lit< tt))) ∙ sym (zero-r x) ∙ ap (λ (y : Bool). xor x (cond y (rcon n) 0)) (sym b)
-
-by-place : (key : List ℕ) (n j r : ℕ) → j < 4 → r < 4
-    → keyWord key (4 * suc n + j) r ≡ xor (keyWord key (4 * suc n + j - 4) r) (wordAdded key (4 * suc n + j) r)
-unfolding wordAdded nextByte
-by-place key n zero r hj hr =
-    let p : 4 * suc n + 0 - 4 ≡ 4 * n + 0 = omega arith in
-    let q : 4 * suc n + 0 - 1 ≡ 4 * n + 3 = omega arith in
-    let u : (4 * suc n + 0) / 4 - 1 ≡ n = omega arith in
-    let z : 4 * 0 + r ≡ r = omega arith in
-    let b = eq-eqb ((4 * suc n + 0) % 4) 0 (omega arith) in
-    word-next key n zero r hj hr
-    ∙ ap₂ xor (sym (ap (λ (k : ℕ). keyWord key k r) p ∙ word-at key n 0 r hj ∙ ap (λ (k : ℕ). getD (roundKey key n) k 0) z))
-    (turned-word key n r hr ∙ sym (rw (b, q, u) refl))
-by-place key n (suc j) r hj hr =
-    let p : 4 * suc n + suc j - 4 ≡ 4 * n + suc j = omega arith in
-    let q : 4 * suc n + suc j - 1 ≡ 4 * suc n + j = omega arith in
-    let b = ne-eqb ((4 * suc n + suc j) % 4) 0 (omega arith) in
-    word-next key n (suc j) r hj hr
-    ∙ ap₂ xor (sym (ap (λ (k : ℕ). keyWord key k r) p ∙ word-at key n (suc j) r hj))
-    (sym (rw (b, q) (word-next key n j r (omega arith) hr)))
-
--- the key itself, and each later word by the rule of KeyExpansion
-pub key-words : (key : List ℕ) (i r : ℕ) → i < 4 → keyWord key i r ≡ getD key (4 * i + r) 0
-unfolding keyWord roundKey
-key-words key i r h =
-    let p : i / 4 ≡ 0 = omega arith in
-    let q : i % 4 ≡ i = omega arith in
-    ap₂ (λ (a b : ℕ). getD (roundKey key a) (4 * b + r) 0) p q
-
-pub later-words : (key : List ℕ) (i r : ℕ) → 4 ≤ i → r < 4 → keyWord key i r ≡ xor (keyWord key (i - 4) r) (wordAdded key i r)
-later-words key i r h hr =
-    let e : 4 * suc (i / 4 - 1) + i % 4 ≡ i = omega arith in
-    subst (λ (k : ℕ). keyWord key k r ≡ xor (keyWord key (k - 4) r) (wordAdded key k r)) e (by-place key (i / 4 - 1) (i % 4) r (omega arith) hr)

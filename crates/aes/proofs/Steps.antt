@@ -1,20 +1,21 @@
 -- The steps of a round: each takes a block to a block, and each is undone by its inverse.
-use mathlib.Core.Path.{_≡_, sym, ap, _∙_, subst}
-use mathlib.Core.Bool.{Bool}
-use mathlib.Core.List.{List}
-use Prim.Native.Nat.{ℕ, _+_, _%_, _<_}
+use mathlib.Core.Path.{_≡_, refl, sym, ap, _∙_, subst}
+use mathlib.Core.List.{List, [], _∷_, _++_}
+use Prim.Native.Nat.{ℕ, _<_}
 use native.Mathlib.Omega.{arith}
-use lib.Dec.{eqb, eqb→eq, lit<}
+use lib.Dec.{lit<}
 use lib.ListN.{getD, length}
+use Rattle.field.specs.Runs.{run}
 use Rattle.field.specs.Xor.{xor}
 use Rattle.field.specs.Sbox.{invSbox}
 use Rattle.field.specs.Mix.{row, mixed, unmixed}
-use Rattle.field.proofs.Below.{every, below, agree, bounded}
+use Rattle.field.proofs.Below.{agree, bounded}
 use Rattle.field.proofs.Runs.{run-length, run-from-zero, run-is}
 use Rattle.field.proofs.Xor.{byte, cancel, zero-r}
 use Rattle.field.proofs.Sbox.{sbox-byte, invSbox-byte, invSbox-sbox}
 use Rattle.field.proofs.Mix.{mixed-byte, unmixed-byte, unmixed-mixed, row-xor}
-use Rattle.aes.specs.State.{block, Block, subBytes, shifted, shiftRows, down, mixColumns, addRoundKey, unshifted, invShiftRows, invSubBytes, invMixColumns}
+use Rattle.aes.specs.State.{block, Block, subBytes, shifted, shiftRows, down, mixColumns, addRoundKey}
+use Rattle.aes.specs.State.{unshifted, invShiftRows, invSubBytes, invMixColumns}
 
 -- ---- blocks by their bytes
 
@@ -104,20 +105,6 @@ down-lt : (j i : ℕ) → i < 16 → down i j < 16
 unfolding down
 down-lt j i h = omega arith
 
-down-zero : (i : ℕ) → down i 0 ≡ i
-unfolding down
-down-zero i = omega arith
-
-turns : ℕ → ℕ → ℕ → Bool
-turns j k i = eqb (down (down i j) k) (down i ((j + k) % 4))
-
-down-down : (j k : ℕ) → j < 4 → k < 4 → (i : ℕ) → i < 16 → down (down i j) k ≡ down i ((j + k) % 4)
-unfolding turns down
-down-down j k hj hk i hi =
-    eqb→eq (down (down i j) k) (down i ((j + k) % 4))
-    (below (turns j k) 16
-    (below (λ k. every (turns j k) 0 16) 4 (below (λ j. every (λ k. every (turns j k) 0 16) 0 4) 4 tt j hj) k hk) i hi)
-
 -- the four bytes of a column of a block are bytes
 module _ {A : Type 0} (s : List ℕ) (b : Block s) (i : ℕ) (h : i < 16) where
   on-column : ((getD s (down i 0) 0 < 256) → (getD s (down i 1) 0 < 256) → (getD s (down i 2) 0 < 256) → (getD s (down i 3) 0 < 256) → A) → A
@@ -133,23 +120,23 @@ pub unmix-block : (s : List ℕ) → Block s → Block (invMixColumns s)
 unfolding invMixColumns
 unmix-block s b = block-of _ (λ i h. on-column s b i h (unmixed-byte _ _ _ _))
 
--- four bytes of one column, mixed
-mix-at : (s : List ℕ) (j : ℕ) → j < 4 → (i : ℕ) → i < 16
-    → getD (mixColumns s) (down i j) 0
-    ≡ mixed (getD s (down i ((j + 0) % 4)) 0) (getD s (down i ((j + 1) % 4)) 0) (getD s (down i ((j + 2) % 4)) 0) (getD s (down i ((j + 3) % 4)) 0)
-unfolding mixColumns
-mix-at s j hj i hi =
-    block-at _ (down i j) (down-lt j i hi)
-    ∙ (λ t. mixed (getD s (down-down j 0 hj (lit< tt) i hi t) 0) (getD s (down-down j 1 hj (lit< tt) i hi t) 0)
-    (getD s (down-down j 2 hj (lit< tt) i hi t) 0) (getD s (down-down j 3 hj (lit< tt) i hi t) 0))
+-- one column, there and back
+column-back : (a b c d : ℕ) → a < 256 → b < 256 → c < 256 → d < 256
+    → unmixed (mixed a b c d) (mixed b c d a) (mixed c d a b) (mixed d a b c) ∷ unmixed (mixed b c d a) (mixed c d a b) (mixed d a b c) (mixed a b c d)
+    ∷ unmixed (mixed c d a b) (mixed d a b c) (mixed a b c d) (mixed b c d a) ∷ unmixed (mixed d a b c) (mixed a b c d) (mixed b c d a) (mixed c d a b)
+    ∷ [] ≡ a ∷ b ∷ c ∷ d ∷ []
+column-back a b c d ha hb hc hd t =
+    unmixed-mixed a b c d ha hb hc hd t ∷ unmixed-mixed b c d a hb hc hd ha t ∷ unmixed-mixed c d a b hc hd ha hb t
+    ∷ unmixed-mixed d a b c hd ha hb hc t ∷ []
 
 pub unmix-mix : (s : List ℕ) → Block s → invMixColumns (mixColumns s) ≡ s
-unfolding invMixColumns
+unfolding invMixColumns mixColumns block run down
 unmix-mix s b =
-    block-is _ s (b .len)
-    (λ i h. (λ t. unmixed (mix-at s 0 (lit< tt) i h t) (mix-at s 1 (lit< tt) i h t) (mix-at s 2 (lit< tt) i h t) (mix-at s 3 (lit< tt) i h t))
-    ∙ on-column s b i h (unmixed-mixed _ _ _ _)
-    ∙ ap (λ (k : ℕ). getD s k 0) (down-zero i))
+    (λ t. column-back _ _ _ _ (b .bytes 0 (lit< tt)) (b .bytes 1 (lit< tt)) (b .bytes 2 (lit< tt)) (b .bytes 3 (lit< tt)) t
+    ++ column-back _ _ _ _ (b .bytes 4 (lit< tt)) (b .bytes 5 (lit< tt)) (b .bytes 6 (lit< tt)) (b .bytes 7 (lit< tt)) t
+    ++ column-back _ _ _ _ (b .bytes 8 (lit< tt)) (b .bytes 9 (lit< tt)) (b .bytes 10 (lit< tt)) (b .bytes 11 (lit< tt)) t
+    ++ column-back _ _ _ _ (b .bytes 12 (lit< tt)) (b .bytes 13 (lit< tt)) (b .bytes 14 (lit< tt)) (b .bytes 15 (lit< tt)) t)
+    ∙ block-is (λ i. getD s i 0) s (b .len) (λ i h. refl)
 
 -- InvMixColumns of a sum is the sum of both
 pub unmix-add : (s k : List ℕ) → Block s → Block k → invMixColumns (addRoundKey s k) ≡ addRoundKey (invMixColumns s) (invMixColumns k)

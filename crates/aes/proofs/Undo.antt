@@ -13,7 +13,8 @@ use Rattle.aes.specs.State.{Block, subBytes, shiftRows, mixColumns, addR
 use Rattle.aes.specs.Words.{InverseKeys}
 use Rattle.aes.specs.Key.{expandKey}
 use Rattle.aes.specs.Cipher.{rounds, cipher, unrounds, invCipher}
-use Rattle.aes.proofs.Steps.{add-length, add-block, add-add, sub-block, unsub-sub, shift-block, unshift-shift, mix-block, unmix-mix, unsub-block, unshift-block, unmix-add}
+use Rattle.aes.proofs.Steps.{add-length, add-block, add-add, sub-block, unsub-sub, unsub-block, shift-block, unshift-shift}
+use Rattle.aes.proofs.Steps.{unshift-block, mix-block, unmix-mix, unmix-add}
 use Rattle.aes.proofs.Schedule.{Keys, expandKey-keys}
 
 -- ---- a round more

@@ -7,29 +7,29 @@ use lib.ListN.{length, take, drop}
 use Rattle.aes.specs.State.{addRoundKey}
 use Rattle.aes.specs.Cipher.{cipher, invCipher}
 
--- n blocks of s after the block v, each added to the cipher block before it and then encrypted.
-unfoldable pub encryptBlocks : List (List ℕ) → ℕ → List ℕ → List ℕ → List ℕ
-encryptBlocks ks zero v s = []
-encryptBlocks ks (suc n) v s =
-    let c = cipher ks (addRoundKey (take 16 s) v) in
-    c ++ encryptBlocks ks n c (drop 16 s)
+-- n blocks of s after the cipher block v: `out v b` is what becomes of the block b after v, and `next b c`, of b and what became of it, is the
+-- cipher block that the one after it is chained to.
+unfoldable pub chain : (List ℕ → List ℕ → List ℕ) → (List ℕ → List ℕ → List ℕ) → ℕ → List ℕ → List ℕ → List ℕ
+chain out next zero v s = []
+chain out next (suc n) v s =
+    let c = out v (take 16 s) in
+    c ++ chain out next n (next (take 16 s) c) (drop 16 s)
+
+-- One block of CBC encryption: the cipher block before it added, and encrypted.
+unfoldable pub cbcEncryptBlock : List (List ℕ) → List ℕ → List ℕ → List ℕ
+cbcEncryptBlock ks v b = cipher ks (addRoundKey b v)
 
 -- One block of CBC decryption: decrypted, and the cipher block before it added.
 unfoldable pub cbcDecryptBlock : List (List ℕ) → List ℕ → List ℕ → List ℕ
 cbcDecryptBlock ks v b = addRoundKey (invCipher ks b) v
 
--- n blocks of s after the block v, each decrypted.
-unfoldable pub decryptBlocks : List (List ℕ) → ℕ → List ℕ → List ℕ → List ℕ
-decryptBlocks ks zero v s = []
-decryptBlocks ks (suc n) v s = cbcDecryptBlock ks v (take 16 s) ++ decryptBlocks ks n (take 16 s) (drop 16 s)
-
--- 6.2, CBC Encryption: C_1 = CIPH_K(P_1 ⊕ IV), C_j = CIPH_K(P_j ⊕ C_(j-1)).
+-- 6.2, CBC Encryption: C_1 = CIPH_K(P_1 ⊕ IV), C_j = CIPH_K(P_j ⊕ C_(j-1)). The cipher block is what a block becomes.
 unfoldable pub cbcEncrypt : List (List ℕ) → List ℕ → List ℕ → List ℕ
-cbcEncrypt ks v s = encryptBlocks ks (length s / 16) v s
+cbcEncrypt ks v s = chain (cbcEncryptBlock ks) (λ b c. c) (length s / 16) v s
 
--- 6.2, CBC Decryption: P_1 = CIPH_K⁻¹(C_1) ⊕ IV, P_j = CIPH_K⁻¹(C_j) ⊕ C_(j-1).
+-- 6.2, CBC Decryption: P_1 = CIPH_K⁻¹(C_1) ⊕ IV, P_j = CIPH_K⁻¹(C_j) ⊕ C_(j-1). The cipher block is the block itself.
 unfoldable pub cbcDecrypt : List (List ℕ) → List ℕ → List ℕ → List ℕ
-cbcDecrypt ks v s = decryptBlocks ks (length s / 16) v s
+cbcDecrypt ks v s = chain (cbcDecryptBlock ks) (λ b c. b) (length s / 16) v s
 
 -- The source is whole blocks, and the target has room for them.
 abbrev pub fits : List ℕ → List ℕ → Bool

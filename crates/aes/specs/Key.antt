@@ -1,8 +1,6 @@
 -- FIPS 197, 5.2: KeyExpansion, a round key of four words at a time.
-use mathlib.Core.Bool.{cond}
 use mathlib.Core.List.{List}
-use Prim.Native.Nat.{ℕ, zero, suc, _+_, _-_, _*_, _/_, _%_}
-use lib.Dec.{eqb}
+use Prim.Native.Nat.{ℕ, zero, suc, _+_, _*_, _/_, _%_}
 use lib.ListN.{getD}
 use Rattle.field.specs.Runs.{run}
 use Rattle.field.specs.Xor.{xor}
@@ -26,7 +24,7 @@ unfoldable pub nextByte : List ℕ → ℕ → ℕ → ℕ → ℕ
 nextByte k c zero r = xor (getD k r 0) (turnedByte k c r)
 nextByte k c (suc j) r = xor (getD k (4 * suc j + r) 0) (nextByte k c j r)
 
--- The round key behind k, whose round constant begins with c.
+-- The round key after k, whose round constant begins with c.
 unfoldable pub nextKey : List ℕ → ℕ → List ℕ
 nextKey k c = block (λ i. nextByte k c (i / 4) (i % 4))
 
@@ -38,13 +36,3 @@ roundKey key (suc n) = nextKey (roundKey key n) (rcon n)
 -- The eleven round keys.
 unfoldable pub expandKey : List ℕ → List (List ℕ)
 expandKey key = run (roundKey key) 0 11
-
--- Byte r of the word w[i] of the standard, of which there are 44, read off the round keys: four words to each.
-unfoldable pub keyWord : List ℕ → ℕ → ℕ → ℕ
-keyWord key i r = getD (roundKey key (i / 4)) (4 * (i % 4) + r) 0
-
--- 5.2: byte r of what is added to w[i - 4] to make w[i]: the word before; and where a round key begins, that word turned by one byte (RotWord)
--- and substituted (SubWord), the round constant added to its first byte.
-unfoldable pub wordAdded : List ℕ → ℕ → ℕ → ℕ
-wordAdded key i r =
-    cond (eqb (i % 4) 0) (xor (sbox (keyWord key (i - 1) ((r + 1) % 4))) (cond (eqb r 0) (rcon (i / 4 - 1)) 0)) (keyWord key (i - 1) r)

@@ -1,13 +1,14 @@
 // Cipher block chaining (SP 800-38A, 6.2), from one slice to another and, for encryption, in place.
+use super::block::Pair;
+use super::block::decrypt_pair;
+use super::block::encrypt;
 use super::block::front;
+use super::block::inverse_keys;
+use super::block::words_from;
 use super::columns::State;
 use super::columns::add;
 use super::columns::bytes_of;
 use super::columns::words;
-use super::rounds::Pair;
-use super::rounds::decrypt_pair;
-use super::rounds::encrypt;
-use super::rounds::inverse_keys;
 use field::tables::inverse_substitution;
 use field::tables::mixing;
 use field::tables::substitution;
@@ -22,17 +23,10 @@ ghost use lib.Seq.{paste};
 ghost use Rattle.field.specs.Runs.{table};
 ghost use Rattle.field.specs.Sbox.{sbox, invSbox};
 ghost use Rattle.field.specs.Words.{Mixes};
-ghost use Rattle.aes.specs.State.{addRoundKey, loadBlock};
+ghost use Rattle.aes.specs.State.{addRoundKey};
 ghost use Rattle.aes.specs.Words.{bytesOf, InverseKeys};
+ghost use Rattle.aes.specs.Cipher.{cipher};
 ghost use Rattle.aes.specs.Cbc.{cbcDecryptBlock, cbcEncrypt, cbcDecrypt, fits, written};
-
-// The block at the front of a slice, as words.
-fn words_from(s: &[u8]) -> State
-    requires { ⌜ 16 ≤ length (now s) ⌝ }
-    ensures { λ r. ⌜ bytesOf r ≡ loadBlock (now (s .entry)) ⌝ }
-{
-    words(front(s))
-}
 
 // Sixteen bytes to place `at` of a slice.
 fn put(s: &mut [u8], at: usize, b: [u8; 16])
@@ -127,7 +121,7 @@ fn decrypt_blocks(
     }
 }
 
-// Whether so many bytes are whole blocks for which so much room is enough.
+// Whether `size` bytes are whole blocks, and `room` bytes are enough for them.
 fn fit(size: usize, room: usize) -> bool
     ensures { λ r. ⌜ r ≡ (eqb (size % 16) 0 && leb size room) ⌝ }
 {
@@ -167,6 +161,16 @@ pub fn cbc_encrypt_in_place(keys: &[[u8; 16]; 11], vector: [u8; 16], buffer: &mu
     let t = mixing();
     encrypt_buffer(keys, &sb, &t, words(vector), buffer);
     true
+}
+
+// One block as a chain of its own, after zeros, which add nothing: the cipher of it. A program that chains as well has the rounds and their
+// table only once by it, where `encrypt_block` would be a second copy.
+pub fn cbc_encrypt_one(keys: &[[u8; 16]; 11], block: [u8; 16]) -> [u8; 16]
+    ensures { λ r. ⌜ r ≡ cipher (now (keys .entry)) block ⌝ }
+{
+    let mut b = block;
+    cbc_encrypt_in_place(keys, [0u8; 16], &mut b);
+    b
 }
 
 // Decrypts the source into the front of the target. False, with the target left alone, where the source is not whole blocks or the target
@@ -226,12 +230,4 @@ pub fn cbc_decrypt_ends(
         first: front(&plain),
         last: sum(end, before),
     }
-}
-
-// One block of CBC decryption, by the cipher block before it, or the vector: the first and the last.
-pub fn cbc_decrypt_block(keys: &[[u8; 16]; 11], previous: [u8; 16], block: [u8; 16]) -> [u8; 16]
-    ensures { λ r. ⌜ r ≡ cbcDecryptBlock (now (keys .entry)) previous block ⌝ }
-{
-    let ends = cbc_decrypt_ends(keys, previous, block, previous, block);
-    ends.first
 }

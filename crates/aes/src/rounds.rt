@@ -1,10 +1,9 @@
-// The rounds of the cipher, by a table of words, and those of its inverse, two blocks at a time.
+// The rounds of the cipher and of its inverse (FIPS 197, 5.1 and 5.3), each by a table of words.
 //
 // A round looks up four words for each column: SubBytes, ShiftRows and MixColumns in one. The table holds each word twice over, so that a
 // lower row reads it turned, at the cost of no rotation. The last round has no MixColumns and takes bytes.
 // The way back is the same with the other table, once InvMixColumns was applied to the round keys (FIPS 197, 5.3.5): it is linear.
 use super::columns::State;
-use super::columns::add;
 use super::columns::bytes_of;
 use super::columns::join;
 use super::columns::words;
@@ -14,8 +13,7 @@ ghost use Rattle.field.specs.Runs.{table};
 ghost use Rattle.field.specs.Sbox.{sbox, invSbox};
 ghost use Rattle.field.specs.Words.{column, Mixes};
 ghost use Rattle.aes.specs.State.{Block, subBytes, shiftRows, mixColumns, addRoundKey, invShiftRows, invSubBytes, invMixColumns};
-ghost use Rattle.aes.specs.Words.{bytesOf, lookedUp, lookedUpBytes, InverseKeys};
-ghost use Rattle.aes.specs.Cipher.{cipher, invCipher};
+ghost use Rattle.aes.specs.Words.{bytesOf, lookedUp, lookedUpBytes};
 
 // A column by a table of doubled words: each division by a power of 256 reads the word turned.
 fn look(t: &[u64; 256], a: u32, b: u32, c: u32, d: u32) -> u32
@@ -40,7 +38,7 @@ fn look_bytes(t: &[u8; 256], a: u32, b: u32, c: u32, d: u32) -> u32
 }
 
 // A round of the cipher.
-fn round(t: &[u64; 256], s: State, k: State) -> State
+pub(crate) fn round(t: &[u64; 256], s: State, k: State) -> State
     requires { ⌜ Mixes sbox 2 3 1 1 (now t) ⌝ }
     ensures { λ r. ⌜ bytesOf r ≡ addRoundKey (mixColumns (shiftRows (subBytes (bytesOf s)))) (bytesOf k) ⌝ }
 {
@@ -53,7 +51,7 @@ fn round(t: &[u64; 256], s: State, k: State) -> State
 }
 
 // The last round of the cipher.
-fn last_round(t: &[u8; 256], s: State, k: State) -> State
+pub(crate) fn last_round(t: &[u8; 256], s: State, k: State) -> State
     requires { ⌜ now t ≡ table sbox ⌝ }
     ensures { λ r. ⌜ bytesOf r ≡ addRoundKey (shiftRows (subBytes (bytesOf s))) (bytesOf k) ⌝ }
 {
@@ -66,7 +64,7 @@ fn last_round(t: &[u8; 256], s: State, k: State) -> State
 }
 
 // A round of the inverse cipher, by a round key that InvMixColumns was applied to.
-fn inv_round(t: &[u64; 256], s: State, k: State) -> State
+pub(crate) fn inv_round(t: &[u64; 256], s: State, k: State) -> State
     requires { ⌜ Mixes invSbox 14 11 13 9 (now t) ⌝ }
     ensures { λ r. ⌜ (bytesOf r ≡ addRoundKey (invMixColumns (invSubBytes (invShiftRows (bytesOf s)))) (bytesOf k)) × Block (bytesOf s) ⌝ }
 {
@@ -79,7 +77,7 @@ fn inv_round(t: &[u64; 256], s: State, k: State) -> State
 }
 
 // The last round of the inverse cipher.
-fn inv_last_round(t: &[u8; 256], s: State, k: State) -> State
+pub(crate) fn inv_last_round(t: &[u8; 256], s: State, k: State) -> State
     requires { ⌜ now t ≡ table invSbox ⌝ }
     ensures { λ r. ⌜ bytesOf r ≡ addRoundKey (invSubBytes (invShiftRows (bytesOf s))) (bytesOf k) ⌝ }
 {
@@ -101,7 +99,7 @@ fn unmix_word(sb: &[u8; 256], t: &[u64; 256], x: u32) -> u32
 }
 
 // InvMixColumns of a round key.
-fn unmix_key(sb: &[u8; 256], t: &[u64; 256], k: [u8; 16]) -> [u8; 16]
+pub(crate) fn unmix_key(sb: &[u8; 256], t: &[u64; 256], k: [u8; 16]) -> [u8; 16]
     requires { ⌜ (now sb ≡ table sbox) × Mixes invSbox 14 11 13 9 (now t) ⌝ }
     ensures { λ r. ⌜ (r ≡ invMixColumns k) × Block k ⌝ }
 {
@@ -112,75 +110,4 @@ fn unmix_key(sb: &[u8; 256], t: &[u64; 256], k: [u8; 16]) -> [u8; 16]
         c: unmix_word(sb, t, s.c),
         d: unmix_word(sb, t, s.d),
     })
-}
-
-// The round keys of the way back, between the first and the last, which stay as they are.
-pub(crate) fn inverse_keys(keys: &[[u8; 16]; 11], sb: &[u8; 256], t: &[u64; 256]) -> [[u8; 16]; 11]
-    requires { ⌜ (now sb ≡ table sbox) × Mixes invSbox 14 11 13 9 (now t) ⌝ }
-    ensures { λ r. ⌜ InverseKeys (now (keys .entry)) r 10 ⌝ }
-{
-    let mut inverse = [[0u8; 16]; 11];
-    let mut n: usize = 1;
-    while n < 10 {
-        let k = keys[n];
-        let u = unmix_key(sb, t, k);
-        inverse[n] = u;
-        n += 1;
-    }
-    inverse
-}
-
-// The cipher on four words.
-pub(crate) fn encrypt(keys: &[[u8; 16]; 11], sb: &[u8; 256], t: &[u64; 256], b: State) -> State
-    requires { ⌜ (now sb ≡ table sbox) × Mixes sbox 2 3 1 1 (now t) ⌝ }
-    ensures { λ r. ⌜ bytesOf r ≡ cipher (now (keys .entry)) (bytesOf b) ⌝ }
-{
-    let first = keys[0];
-    let mut s = add(b, words(first));
-    let mut n: usize = 0;
-    while n < 9 {
-        let k = keys[n + 1];
-        s = round(t, s, words(k));
-        n += 1;
-    }
-    let last = keys[10];
-    last_round(sb, s, words(last))
-}
-
-// Two blocks.
-pub struct Pair {
-    pub x: State,
-    pub y: State,
-}
-
-// The inverse cipher on two blocks, whose rounds do not wait for each other.
-pub(crate) fn decrypt_pair(
-    keys: &[[u8; 16]; 11],
-    inverse: &[[u8; 16]; 11],
-    sb: &[u8; 256],
-    t: &[u64; 256],
-    p: Pair,
-) -> Pair
-    requires { ⌜ (now sb ≡ table invSbox) × Mixes invSbox 14 11 13 9 (now t) × InverseKeys (now keys) (now inverse) 10 ⌝ }
-    ensures { λ r. ⌜ (bytesOf (r .x) ≡ invCipher (now (keys .entry)) (bytesOf (p .x)))
-        × (bytesOf (r .y) ≡ invCipher (now (keys .entry)) (bytesOf (p .y))) ⌝ }
-{
-    let first = keys[10];
-    let k = words(first);
-    let mut x = add(p.x, k);
-    let mut y = add(p.y, k);
-    let mut n: usize = 9;
-    while 0 < n {
-        let kn = inverse[n];
-        let kw = words(kn);
-        x = inv_round(t, x, kw);
-        y = inv_round(t, y, kw);
-        n -= 1;
-    }
-    let last = keys[0];
-    let kl = words(last);
-    Pair {
-        x: inv_last_round(sb, x, kl),
-        y: inv_last_round(sb, y, kl),
-    }
 }

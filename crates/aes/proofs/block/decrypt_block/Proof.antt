@@ -1,14 +1,17 @@
--- A block decrypted after zeros is the inverse cipher of it.
-use mathlib.Core.Path.{_∙_}
-use Rattle.aes.proofs.ChainBlock.{after-zeros}
+-- The first of a pair.
+use mathlib.Core.Path.{_∙_, ap}
+use Rattle.aes.specs.Cipher.{invCipher}
 use borrow.Author.Needs.{needs}
 use Rattle.aes.proofs.block.decrypt_block.Statement.{statement}
 use Rattle.aes.proofs.block.decrypt_block.Tie as tie
 
 returns : tie.Need-returns
 returns c =
-    let a = c .before .args in
-    c .cbc-decrypt-block .ensures ∙ after-zeros (a .keys .now) (a .block) (search needs)
+    c .bytes-of .ensures ∙ c .before .decrypt-pair .ensures .0
+    ∙ ap (invCipher _) (c .before .before .before .before .before .before .words .ensures)
 
 pub decrypt-block-spec : {M : Type 1} → statement M
-decrypt-block-spec = tie.close (tie.spec (λ c κs. search needs) returns)
+decrypt-block-spec =
+    tie.close (tie.spec
+    (λ c κs. search needs) (λ c κs. search needs) (λ c κs. search needs) (λ c κs. search needs) (λ c κs. search needs)
+    (λ c κs. search needs) (λ c κs. search needs) (λ c κs. search needs) returns)

@@ -1,16 +1,13 @@
--- A chain of one block after zeros is the cipher.
-use mathlib.Core.Path.{_∙_}
-use Rattle.aes.proofs.ChainBlock.{one-encrypted, block-encrypted}
+-- The cipher on the words of the block.
+use mathlib.Core.Path.{_∙_, ap}
+use Rattle.aes.specs.Cipher.{cipher}
 use borrow.Author.Needs.{needs}
 use Rattle.aes.proofs.block.encrypt_block.Statement.{statement}
 use Rattle.aes.proofs.block.encrypt_block.Tie as tie
 
 returns : tie.Need-returns
-returns c =
-    let a = c .before .before .before .args in
-    c .before .cbc-encrypt-in-place .ensures .1 ∙ block-encrypted (a .keys .now) (a .block) (search needs) _
-    ∙ one-encrypted (a .keys .now) (a .block) (search needs)
+returns c = c .bytes-of .ensures ∙ c .before .encrypt .ensures ∙ ap (cipher _) (c .before .before .words .ensures)
 
 pub encrypt-block-spec : {M : Type 1} → statement M
 encrypt-block-spec =
-    tie.close (tie.spec (λ c. search needs) (λ c κs. search needs) returns)
+    tie.close (tie.spec (λ c κs. search needs) (λ c κs. search needs) (λ c κs. search needs) (λ c κs. search needs) (λ c κs. search needs) returns)

@@ -1,20 +1,18 @@
 -- By the contracts of what it calls.
-use mathlib.Core.Path.{_∙_, ap, sym}
+use mathlib.Core.Path.{_∙_, ap}
 use mathlib.Core.List.{List, _++_}
 use Prim.Native.Nat.{ℕ}
 use lib.ListN.{length, drop}
 use Rattle.aes.specs.Cbc.{cbcDecrypt}
-use Rattle.aes.proofs.ChainRoom.{roomy, no-fit, fit}
+use Rattle.aes.proofs.ChainCalls.{roomy, no-fit, fit}
 use borrow.Author.Needs.{needs}
-use borrow.Author.Tests.{not-true, not-false}
 use Rattle.aes.proofs.cbc.cbc_decrypt.Statement.{statement}
 use Rattle.aes.proofs.cbc.cbc_decrypt.Tie as tie
 
 returns : tie.Need-returns
 returns c =
     let a = c .before .before .before .before .args in
-    no-fit (a .source .now) (a .target .now) (cbcDecrypt (a .keys .now) (a .vector) (a .source .now))
-    (sym (c .before .fit .ensures) ∙ not-true _ (c .if1 .taken))
+    no-fit (a .source .now) (a .target .now) _ (c .before .fit .ensures) (cbcDecrypt (a .keys .now) (a .vector) (a .source .now)) (c .if1 .taken)
 
 decrypt-blocks-requires : tie.Need-decrypt-blocks-requires
 decrypt-blocks-requires c κs =
@@ -22,7 +20,7 @@ decrypt-blocks-requires c κs =
     let at-unmixing = at-inverse .before .before .before in
     let at-if = at-unmixing .before .before .before in
     let a = at-if .before .before .before .before .args in
-    let room = roomy (a .source .now) (a .target .now) (sym (at-if .before .fit .ensures) ∙ not-false _ (at-if .if1 .left)) in
+    let room = roomy (a .source .now) (a .target .now) _ (at-if .before .fit .ensures) (at-if .if1 .left) in
     (at-unmixing .before .inverse-substitution .ensures, at-unmixing .unmixing .ensures, at-inverse .inverse-keys .ensures, room .0, room .1)
 
 returns-2 : tie.Need-returns-2
@@ -31,10 +29,10 @@ returns-2 c =
     let at-words = at-blocks .before .before in
     let at-if = at-words .before .before .before .before .before .before .before .before .before .before in
     let a = at-if .before .before .before .before .args in
-    fit (a .source .now) (a .target .now) (cbcDecrypt (a .keys .now) (a .vector) (a .source .now)) _
-    (sym (at-if .before .fit .ensures) ∙ not-false _ (at-if .if1 .left))
+    fit (a .source .now) (a .target .now) _ (at-if .before .fit .ensures) (cbcDecrypt (a .keys .now) (a .vector) (a .source .now)) _ (at-if .if1 .left)
     (at-blocks .decrypt-blocks .ensures
-    ∙ ap (λ (v : List ℕ). cbcDecrypt (a .keys .now) v (a .source .now) ++ drop (length (a .source .now)) (a .target .now)) (at-words .words .ensures))
+    ∙ ap (λ (v : List ℕ). cbcDecrypt (a .keys .now) v (a .source .now) ++ drop (length (a .source .now)) (a .target .now))
+    (at-words .words .ensures))
 
 pub cbc-decrypt-spec : {M : Type 1} → statement M
 cbc-decrypt-spec =

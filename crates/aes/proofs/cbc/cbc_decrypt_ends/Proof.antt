@@ -1,7 +1,7 @@
 -- A chain of two blocks.
 use mathlib.Core.Path.{refl}
 use lib.ListN.{replicate}
-use Rattle.aes.proofs.ChainEnds.{first-end, last-end}
+use Rattle.aes.proofs.Ends.{both-ends}
 use borrow.Author.Needs.{needs}
 use Rattle.aes.proofs.cbc.cbc_decrypt_ends.Statement.{statement}
 use Rattle.aes.proofs.cbc.cbc_decrypt_ends.Tie as tie
@@ -17,14 +17,10 @@ returns c =
     let start = at-put .before .before in
     let a = start .args in
     let good-first = start .good .1 .1 .0 in
-    let good-last = start .good .1 .1 .1 .1 .0 in (
-      first-end (a .first) (a .last) (search needs) (search needs) (a .keys .now) (a .vector) (replicate 32 0)
-          (replicate 32 0) _ _ _ refl refl (at-put .put .ensures) (at-put2 .put2 .ensures) (at-plain .cbc-decrypt .ensures .1)
-          _ (at-front2 .front2 .ensures),
-      last-end (a .first) (a .last) (search needs) (search needs) (a .keys .now) (a .vector) (replicate 32 0)
-          (replicate 32 0) _ _ _ refl refl (at-put .put .ensures) (at-put2 .put2 .ensures) (at-plain .cbc-decrypt .ensures .1)
-          _ _ _ _ (at-front .front .ensures) (at-sum .sum .ensures) (c .sum2 .ensures),
-    )
+    let good-last = start .good .1 .1 .1 .1 .0 in
+    both-ends (a .keys .now) (a .vector) (a .first) (a .last) (search needs) (search needs) (replicate 32 0) (replicate 32 0) _ _ _ refl refl
+    (at-put .put .ensures) (at-put2 .put2 .ensures) (at-plain .cbc-decrypt .ensures .1) _ _ _ _ _ (at-front2 .front2 .ensures)
+    (at-front .front .ensures) (at-sum .sum .ensures) (c .sum2 .ensures)
 
 pub cbc-decrypt-ends-spec : {M : Type 1} → statement M
 cbc-decrypt-ends-spec =

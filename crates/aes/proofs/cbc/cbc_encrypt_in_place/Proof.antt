@@ -3,7 +3,7 @@ use mathlib.Core.Path.{_∙_, ap}
 use mathlib.Core.List.{List}
 use Prim.Native.Nat.{ℕ}
 use Rattle.aes.specs.Cbc.{cbcEncrypt}
-use Rattle.aes.proofs.ChainRoom.{odd-buffer, whole-buffer}
+use Rattle.aes.proofs.ChainCalls.{odd-buffer, whole-buffer}
 use borrow.Author.Needs.{needs}
 use Rattle.aes.proofs.cbc.cbc_encrypt_in_place.Statement.{statement}
 use Rattle.aes.proofs.cbc.cbc_encrypt_in_place.Tie as tie
@@ -13,15 +13,16 @@ returns c = odd-buffer _ _ (c .if1 .taken)
 
 encrypt-buffer-requires : tie.Need-encrypt-buffer-requires
 encrypt-buffer-requires c κs =
-    (c .before .before .before .before .before .substitution .ensures, c .before .before .before .before .mixing .ensures, c .before .before .before .before .before .before .if1 .left)
+    let at-mixing = c .before .before .before .before in
+    (at-mixing .before .substitution .ensures, at-mixing .mixing .ensures, at-mixing .before .before .if1 .left)
 
 returns-2 : tie.Need-returns-2
 returns-2 c =
-    let a = c .before .before .before .before .before .before .before .before .before .before .before .args in
-    whole-buffer (a .buffer .now) (cbcEncrypt (a .keys .now) (a .vector) (a .buffer .now)) _
-    (c .before .before .before .before .before .before .before .before .before .if1 .left)
-    (c .before .before .encrypt-buffer .ensures ∙ ap (λ (v : List ℕ). cbcEncrypt (a .keys .now) v (a .buffer .now))
-    (c .before .before .before .before .words .ensures))
+    let at-words = c .before .before .before .before in
+    let at-if = at-words .before .before .before .before .before in
+    let a = at-if .before .before .args in
+    whole-buffer (a .buffer .now) (cbcEncrypt (a .keys .now) (a .vector) (a .buffer .now)) _ (at-if .if1 .left)
+    (c .before .before .encrypt-buffer .ensures ∙ ap (λ (v : List ℕ). cbcEncrypt (a .keys .now) v (a .buffer .now)) (at-words .words .ensures))
 
 pub cbc-encrypt-in-place-spec : {M : Type 1} → statement M
 cbc-encrypt-in-place-spec =

@@ -4,23 +4,23 @@ use native.Mathlib.Omega.{arith}
 use Prim.Native.Nat.{_-_}
 use lib.ListN.{length}
 use Rattle.aes.specs.Words.{bytesOf}
-use Rattle.aes.specs.Cbc.{decryptBlocks, cbcDecrypt}
-use Rattle.aes.proofs.ChainLoop.{Chained, begin, in-source, done, decrypt-none}
-use Rattle.aes.proofs.ChainPair.{decrypt-two-more}
+use Rattle.aes.specs.Cbc.{cbcDecryptBlock, cbcDecrypt}
+use Rattle.aes.proofs.ChainLoop.{Chained, begin, block-left, done, decrypt-two-more}
 use Rattle.aes.proofs.cbc.decrypt_blocks.Statement.{statement}
 use Rattle.aes.proofs.cbc.decrypt_blocks.Tie as tie
 
 abbrev Inv-loop : tie.InvT-loop
-Inv-loop keys inverse sb t source target₀ v₀ at₀ target v at = Chained (decryptBlocks keys) source target₀ (bytesOf v₀) (bytesOf v) target at
+Inv-loop keys inverse sb t source target₀ v₀ at₀ target v at =
+    Chained (cbcDecryptBlock keys) (λ b c. b) source target₀ (bytesOf v₀) (bytesOf v) target at
 
 abbrev μ-loop : tie.MeasureT-loop
 μ-loop keys inverse sb t source target₀ v₀ at₀ target v at = length source - at
 
 loop-holds : tie.Need-loop-holds Inv-loop μ-loop
-loop-holds c = begin _ _ _ _ (c .before .before .pre .3) (c .before .before .pre .4)
+loop-holds c = begin _ _ _ _ _ (c .before .before .pre .3) (c .before .before .pre .4)
 
 following-requires : tie.Need-following-requires Inv-loop μ-loop
-following-requires c κs = in-source _ _ _ _ _ _ _ (c .before .loop .inv) (c .loop-test .taken)
+following-requires c κs = block-left _ _ _ _ _ _ _ _ (c .before .loop .inv) (c .loop-test .taken) .0
 
 decrypt-two-requires : tie.Need-decrypt-two-requires Inv-loop μ-loop
 decrypt-two-requires c κs =
@@ -47,7 +47,7 @@ same-length c = c .before .loop .inv .len
 
 returns : tie.Need-returns Inv-loop μ-loop
 unfolding cbcDecrypt
-returns c = done _ _ _ _ _ _ _ (c .before .loop .inv) (decrypt-none _) (c .loop-test .left)
+returns c = done _ _ _ _ _ _ _ _ (c .before .loop .inv) (c .loop-test .left)
 
 pub decrypt-blocks-spec : {M : Type 1} → statement M
 decrypt-blocks-spec =

@@ -5,65 +5,54 @@ use mathlib.Core.Path.{_∙_, ap}
 use Prim.Native.Nat.{_-_, _<_}
 use lib.ListN.{length, take}
 use Rattle.aes.specs.Words.{bytesOf}
-use Rattle.aes.specs.Cbc.{encryptBlocks, cbcEncrypt}
-use Rattle.aes.proofs.ChainLoop.{loaded, Chained, begin, in-source, in-target, done, encrypt-none, encrypt-more}
-use Rattle.aes.proofs.ChainBlock.{enough}
-use Rattle.aes.proofs.ChainRoom.{all-written}
+use Rattle.aes.specs.Cbc.{cbcEncryptBlock, cbcEncrypt}
+use Rattle.aes.proofs.ChainLoop.{enough, loaded, Chained, begin, block-left, done, encrypt-more}
+use Rattle.aes.proofs.ChainCalls.{all-written}
 use borrow.Author.Needs.{needs}
 use Rattle.aes.proofs.cbc.encrypt_buffer.Statement.{statement}
 use Rattle.aes.proofs.cbc.encrypt_buffer.Tie as tie
 
 abbrev Inv-loop : tie.InvT-loop
-Inv-loop keys sb t buffer₀ v₀ at₀ buffer v at = Chained (encryptBlocks keys) buffer₀ buffer₀ (bytesOf v₀) (bytesOf v) buffer at
+Inv-loop keys sb t buffer₀ v₀ at₀ buffer v at = Chained (cbcEncryptBlock keys) (λ b c. c) buffer₀ buffer₀ (bytesOf v₀) (bytesOf v) buffer at
     × (length buffer₀ < 18446744073709551616)
 
 abbrev μ-loop : tie.MeasureT-loop
 μ-loop keys sb t buffer₀ v₀ at₀ buffer v at = length buffer₀ - at
 
 loop-holds : tie.Need-loop-holds Inv-loop μ-loop
-loop-holds c = (begin _ _ _ _ (c .before .pre .2) (le-refl _), omega arith)
+loop-holds c = (begin _ _ _ _ _ (c .before .pre .2) (le-refl _), omega arith)
 
 sub-words-from : tie.Need-sub-words-from Inv-loop μ-loop
 sub-words-from c = omega (arith, c .before .loop .inv .0 .len)
 
 words-from-requires : tie.Need-words-from-requires Inv-loop μ-loop
-words-from-requires c κs = enough (c .before .before .before .loop .buffer) (c .before .before .before .loop .at)
-    (in-target _ _ _ _ _ _ _ (c .before .before .before .loop .inv .0) (omega (arith, c .before .before .before .loop .inv .0 .len)))
+words-from-requires c κs =
+    let l = c .before .before .before .loop in
+    enough (l .buffer) (l .at) (block-left _ _ _ _ _ _ _ _ (l .inv .0) (omega (arith, l .inv .0 .len)) .1)
 
 put-requires : tie.Need-put-requires Inv-loop μ-loop
-put-requires c κs = in-target _ _ _ _ _ _ _ (c .before .before .before .before .before .before .before .before .loop .inv .0)
-    (omega (arith, c .before .before .before .before .before .before .before .before .loop .inv .0 .len))
+put-requires c κs =
+    let l = c .before .before .before .before .before .before .before .before .loop in
+    block-left _ _ _ _ _ _ _ _ (l .inv .0) (omega (arith, l .inv .0 .len)) .1
 
 add-at : tie.Need-add-at Inv-loop μ-loop
-add-at c = omega (
-  arith,
-  c .before .before .before .before .before .before .before .before .before .before .before .loop .inv .1,
-  c .before .before .before .before .before .before .before .before .before .before .before .loop .inv .0 .len,
-  in-source _ _ _ _ _ _ _
-      (c .before .before .before .before .before .before .before .before .before .before .before .loop .inv .0)
-      (omega (arith, c .before .before .before .before .before .before .before .before .before .before .before .loop .inv .0 .len)),
-)
+add-at c =
+    let l = c .before .before .before .before .before .before .before .before .before .before .before .loop in
+    omega (arith, l .inv .1, l .inv .0 .len, block-left _ _ _ _ _ _ _ _ (l .inv .0) (omega (arith, l .inv .0 .len)) .1)
 
 loop-less : tie.Need-loop-less Inv-loop μ-loop
-loop-less c = omega (
-  arith,
-  c .before .before .before .before .before .before .before .before .before .before .before .loop .inv .0 .len,
-  in-source _ _ _ _ _ _ _ (c .before .before .before .before .before .before .before .before .before .before .before .loop .inv .0)
-      (omega (arith, c .before .before .before .before .before .before .before .before .before .before .before .loop .inv .0 .len)),
-)
+loop-less c =
+    let l = c .before .before .before .before .before .before .before .before .before .before .before .loop in
+    omega (arith, l .inv .0 .len)
 
 loop-again : tie.Need-loop-again Inv-loop μ-loop
 loop-again c =
-    let l = c .before .before .before .before .before .before .before .before .before .before .before .loop in
-    let h : l .at < length
-    (c .before .before .before .before .before .before .before .before .before .before .before .before .before .args .buffer .now) = omega (
-      arith,
-      l .inv .0 .len,
-    ) in (
+    let at-add = c .before .before .before .before .before .before in
+    let l = at-add .before .before .before .before .before .loop in
+    let h : l .at < length (at-add .before .before .before .before .before .before .before .args .buffer .now) = omega (arith, l .inv .0 .len) in (
       encrypt-more _ _ _ _ _ _ _ (l .inv .0) _ _ _ _ _ h
-          (c .before .before .before .before .before .before .before .words-from .ensures
-          ∙ loaded _ _ (in-target _ _ _ _ _ _ _ (l .inv .0) h) ∙ ap (take 16) (l .inv .0 .rest))
-          (c .before .before .before .before .before .before .add .ensures) (c .before .before .before .before .before .encrypt .ensures)
+          (at-add .before .words-from .ensures ∙ loaded _ _ (block-left _ _ _ _ _ _ _ _ (l .inv .0) h .1) ∙ ap (take 16) (l .inv .0 .rest))
+          (at-add .add .ensures) (c .before .before .before .before .before .encrypt .ensures)
           (c .before .before .before .bytes-of .ensures) (c .before .before .put .ensures),
       l .inv .1,
     )
@@ -74,7 +63,7 @@ same-length c = c .before .loop .inv .0 .len
 returns : tie.Need-returns Inv-loop μ-loop
 unfolding cbcEncrypt
 returns c =
-    done _ _ _ _ _ _ _ (c .before .loop .inv .0) (encrypt-none _) (omega (arith, c .before .loop .inv .0 .len))
+    done _ _ _ _ _ _ _ _ (c .before .loop .inv .0) (omega (arith, c .before .loop .inv .0 .len))
     ∙ all-written _ (c .before .before .before .args .buffer .now)
 
 pub encrypt-buffer-spec : {M : Type 1} → statement M

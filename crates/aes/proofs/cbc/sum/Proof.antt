@@ -4,7 +4,7 @@ use Rattle.aes.proofs.cbc.sum.Statement.{statement}
 use Rattle.aes.proofs.cbc.sum.Tie as tie
 
 returns : tie.Need-returns
-returns c = cc
+returns c = rw (c .bytes-of .ensures, c .before .add .ensures, c .before .before .words2 .ensures, c .before .before .before .words .ensures)
 
 pub sum-spec : {M : Type 1} → statement M
 sum-spec = tie.close (tie.spec (λ c κs. search needs) (λ c κs. search needs) (λ c κs. search needs) (λ c κs. search needs) returns)

@@ -4,7 +4,7 @@ use mir.Val.{Fits}
 use mir.Syntax.{w8}
 use native.Mathlib.Omega.{arith}
 use Rattle.aes.specs.State.{Block}
-use Rattle.aes.proofs.Words.{columns-bytes}
+use Rattle.aes.proofs.StateWords.{columns-bytes}
 use borrow.Author.Needs.{needs}
 use Rattle.aes.proofs.columns.words.Statement.{statement}
 use Rattle.aes.proofs.columns.words.Tie as tie

@@ -1,8 +1,6 @@
--- The words looked up are the columns of the round back.
+-- The words looked up, the columns turned, are those of the round back.
 use Rattle.field.specs.Xor.{xor}
-use Rattle.aes.proofs.Steps.{unmix-block, unsub-block, unshift-block}
-use Rattle.aes.proofs.Words.{Words, bytesOf-block, columns-added}
-use Rattle.aes.proofs.Lookups.{unmixed-columns}
+use Rattle.aes.proofs.TableRounds.{unmixed-round}
 use borrow.Author.Needs.{needs}
 use Rattle.aes.proofs.rounds.inv_round.Statement.{statement}
 use Rattle.aes.proofs.rounds.inv_round.Tie as tie
@@ -10,23 +8,13 @@ use Rattle.aes.proofs.rounds.inv_round.Tie as tie
 returns : tie.Need-returns
 unfolding xor
 returns c =
-    let a = c .before .before .before .before .before .before .before .before in
-    let w : Words (a .args .s) =
-    record {
-      fits-a = c .before .look4 .ensures .1;
-      fits-b = c .before .before .before .before .before .before .before .look .ensures .1;
-      fits-c = c .before .before .before .before .before .look2 .ensures .1;
-      fits-d = c .before .before .before .look3 .ensures .1;
-    } in
-    let b = bytesOf-block (a .args .s) w in (
-      columns-added _ (unmix-block _ (unsub-block _ (unshift-block _ b))) (a .args .k) _ _ _ _
-          (unmixed-columns (a .args .s) w _ _ _ _ _ (a .pre)
-          (c .before .before .before .before .before .before .before .look .ensures .0)
-          (c .before .before .before .before .before .look2 .ensures .0)
-          (c .before .before .before .look3 .ensures .0)
-          (c .before .look4 .ensures .0)),
-      b,
-    )
+    let four = c .before in
+    let three = four .before .before in
+    let two = three .before .before in
+    let one = two .before .before in
+    let a = one .before in
+    unmixed-round (a .args .s) (a .args .k) _ _ _ _ _ (a .pre)
+    (record { one = one .look .ensures; two = four .look4 .ensures; three = three .look3 .ensures; four = two .look2 .ensures })
 
 pub inv-round-spec : {M : Type 1} → statement M
 inv-round-spec =

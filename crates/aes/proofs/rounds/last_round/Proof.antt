@@ -1,8 +1,6 @@
 -- The bytes looked up are the columns of the round.
 use Rattle.field.specs.Xor.{xor}
-use Rattle.aes.proofs.Steps.{shift-block, sub-block}
-use Rattle.aes.proofs.Words.{Words, bytesOf-block, columns-added}
-use Rattle.aes.proofs.Lookups.{shifted-columns}
+use Rattle.aes.proofs.TableRounds.{shifted-round}
 use borrow.Author.Needs.{needs}
 use Rattle.aes.proofs.rounds.last_round.Statement.{statement}
 use Rattle.aes.proofs.rounds.last_round.Tie as tie
@@ -10,23 +8,14 @@ use Rattle.aes.proofs.rounds.last_round.Tie as tie
 returns : tie.Need-returns
 unfolding xor
 returns c =
-    let a = c .before .before .before .before .before .before .before .before in
-    let w : Words (a .args .s) =
-    record {
-      fits-a = c .before .before .before .before .before .look-bytes2 .ensures .1;
-      fits-b = c .before .before .before .look-bytes3 .ensures .1;
-      fits-c = c .before .look-bytes4 .ensures .1;
-      fits-d = c .before .before .before .before .before .before .before .look-bytes .ensures .1;
-    } in
-    let b = bytesOf-block (a .args .s) w in
-    columns-added _ (shift-block _ (sub-block _ b)) (a .args .k) _ _ _ _
-    (shifted-columns (a .args .s) w _ _ _ _ _ (a .pre)
-    (c .before .before .before .before .before .before .before .look-bytes .ensures .0)
-    (c .before .before .before .before .before .look-bytes2 .ensures .0)
-    (c .before .before .before .look-bytes3 .ensures .0)
-    (c .before .look-bytes4 .ensures .0))
+    let four = c .before in
+    let three = four .before .before in
+    let two = three .before .before in
+    let one = two .before .before in
+    let a = one .before in
+    shifted-round (a .args .s) (a .args .k) _ _ _ _ _ (a .pre)
+    (record { one = one .look-bytes .ensures; two = two .look-bytes2 .ensures; three = three .look-bytes3 .ensures; four = four .look-bytes4 .ensures })
 
 pub last-round-spec : {M : Type 1} → statement M
 last-round-spec =
-    tie.close (tie.spec
-    (λ c κs. search needs) (λ c κs. search needs) (λ c κs. search needs) (λ c κs. search needs) returns)
+    tie.close (tie.spec (λ c κs. search needs) (λ c κs. search needs) (λ c κs. search needs) (λ c κs. search needs) returns)

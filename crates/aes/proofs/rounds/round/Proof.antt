@@ -1,8 +1,6 @@
 -- The words looked up are the columns of the round.
 use Rattle.field.specs.Xor.{xor}
-use Rattle.aes.proofs.Steps.{mix-block, shift-block, sub-block}
-use Rattle.aes.proofs.Words.{Words, bytesOf-block, columns-added}
-use Rattle.aes.proofs.Lookups.{mixed-columns}
+use Rattle.aes.proofs.TableRounds.{mixed-round}
 use borrow.Author.Needs.{needs}
 use Rattle.aes.proofs.rounds.round.Statement.{statement}
 use Rattle.aes.proofs.rounds.round.Tie as tie
@@ -10,21 +8,13 @@ use Rattle.aes.proofs.rounds.round.Tie as tie
 returns : tie.Need-returns
 unfolding xor
 returns c =
-    let a = c .before .before .before .before .before .before .before .before in
-    let w : Words (a .args .s) =
-    record {
-      fits-a = c .before .before .before .before .before .look2 .ensures .1;
-      fits-b = c .before .before .before .look3 .ensures .1;
-      fits-c = c .before .look4 .ensures .1;
-      fits-d = c .before .before .before .before .before .before .before .look .ensures .1;
-    } in
-    let b = bytesOf-block (a .args .s) w in
-    columns-added _ (mix-block _ (shift-block _ (sub-block _ b))) (a .args .k) _ _ _ _
-    (mixed-columns (a .args .s) w _ _ _ _ _ (a .pre)
-    (c .before .before .before .before .before .before .before .look .ensures .0)
-    (c .before .before .before .before .before .look2 .ensures .0)
-    (c .before .before .before .look3 .ensures .0)
-    (c .before .look4 .ensures .0))
+    let four = c .before in
+    let three = four .before .before in
+    let two = three .before .before in
+    let one = two .before .before in
+    let a = one .before in
+    mixed-round (a .args .s) (a .args .k) _ _ _ _ _ (a .pre)
+    (record { one = one .look .ensures; two = two .look2 .ensures; three = three .look3 .ensures; four = four .look4 .ensures })
 
 pub round-spec : {M : Type 1} → statement M
 round-spec =

@@ -3,21 +3,22 @@ use mathlib.Core.Path.{_∙_, ap, subst}
 use Rattle.aes.specs.State.{Block, invMixColumns}
 use Rattle.aes.specs.Words.{bytesOf}
 use Rattle.aes.proofs.Steps.{unmix-block}
-use Rattle.aes.proofs.Words.{bytesOf-block, columns-bytes}
-use Rattle.aes.proofs.Lookups.{key-columns}
+use Rattle.aes.proofs.StateWords.{bytesOf-block, columns-bytes}
+use Rattle.aes.proofs.TableRounds.{key-columns}
 use borrow.Author.Needs.{needs}
 use Rattle.aes.proofs.rounds.unmix_key.Statement.{statement}
 use Rattle.aes.proofs.rounds.unmix_key.Tie as tie
 
 returns : tie.Need-returns
 returns c =
-    let s = c .before .before .before .before .before .words .result in
-    let e = c .before .before .before .before .before .words .ensures in
+    let at-words = c .before .before .before .before .before in
+    let s = at-words .words .result in
+    let e = at-words .words .ensures in
     let p = c .before .before .before .before .unmix-word .ensures in
     let q = c .before .before .before .unmix-word2 .ensures in
     let r = c .before .before .unmix-word3 .ensures in
     let u = c .before .unmix-word4 .ensures in
-    let b = bytesOf-block s (record { fits-a = p .1; fits-b = q .1; fits-c = r .1; fits-d = u .1 }) in (
+    let b = bytesOf-block s (p .1) (q .1) (r .1) (u .1) in (
       c .bytes-of .ensures
           ∙ columns-bytes (invMixColumns (bytesOf s)) (unmix-block (bytesOf s) b) _ (key-columns s _ _ _ _ (p .0) (q .0) (r .0) (u .0))
           ∙ ap invMixColumns e,

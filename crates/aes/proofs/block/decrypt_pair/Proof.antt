@@ -5,8 +5,8 @@ use Rattle.aes.specs.Words.{bytesOf}
 use Rattle.aes.specs.Cipher.{unrounds}
 use Rattle.aes.proofs.Undo.{unrounds-less, invCipher-whole}
 use borrow.Author.Needs.{needs}
-use Rattle.aes.proofs.rounds.decrypt_pair.Statement.{statement}
-use Rattle.aes.proofs.rounds.decrypt_pair.Tie as tie
+use Rattle.aes.proofs.block.decrypt_pair.Statement.{statement}
+use Rattle.aes.proofs.block.decrypt_pair.Tie as tie
 
 abbrev Inv-loop : tie.InvT-loop
 Inv-loop keys inverse sb t x₀ y₀ n₀ x y n = (n ≤ 9) × (unrounds keys n (bytesOf x) ≡ unrounds keys 9 (bytesOf x₀))

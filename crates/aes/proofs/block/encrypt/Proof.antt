@@ -6,8 +6,8 @@ use Rattle.aes.specs.Words.{bytesOf}
 use Rattle.aes.specs.Cipher.{rounds}
 use Rattle.aes.proofs.Undo.{rounds-more, cipher-whole}
 use borrow.Author.Needs.{needs}
-use Rattle.aes.proofs.rounds.encrypt.Statement.{statement}
-use Rattle.aes.proofs.rounds.encrypt.Tie as tie
+use Rattle.aes.proofs.block.encrypt.Statement.{statement}
+use Rattle.aes.proofs.block.encrypt.Tie as tie
 
 abbrev Inv-loop : tie.InvT-loop
 Inv-loop keys sb t s₀ n₀ s n = (n ≤ 9) × (bytesOf s ≡ rounds keys (bytesOf s₀) n)

@@ -6,8 +6,8 @@ use lib.ListN.{length, length-set}
 use Rattle.aes.specs.Words.{InverseKeys}
 use Rattle.aes.proofs.Undo.{inverse-more}
 use borrow.Author.Needs.{needs}
-use Rattle.aes.proofs.rounds.inverse_keys.Statement.{statement}
-use Rattle.aes.proofs.rounds.inverse_keys.Tie as tie
+use Rattle.aes.proofs.block.inverse_keys.Statement.{statement}
+use Rattle.aes.proofs.block.inverse_keys.Tie as tie
 
 abbrev Inv-loop : tie.InvT-loop
 Inv-loop keys sb t inverse₀ n₀ inverse n = (n ≤ 10) × (length inverse ≡ 11) × InverseKeys keys inverse n

@@ -1,0 +1,84 @@
+-- What the public calls of chaining answer, and what they leave in their target.
+use mathlib.Core.Path.{_≡_, refl, sym, ap, ap₂, _∙_}
+use mathlib.Core.List.{List, [], _∷_, _++_, append-nil}
+use Prim.Native.Nat.{ℕ, _+_, _/_, _%_, _≤_, _<_}
+use native.Mathlib.Omega.{arith}
+use mathlib.Core.Bool.{Bool, true, false, cond, not}
+use borrow.Author.Tests.{eq-eqb, ne-eqb, eqb-true, leb-true, not-true, not-false}
+use lib.Dec.{eqb, leb}
+use lib.ListN.{getD, length, take, drop}
+use lib.Seq.{paste, length-paste, take-all, take-at, drop-at, drop-length}
+use Rattle.laws.proofs.Bools.{and-true}
+use Rattle.field.proofs.Below.{agree}
+use Rattle.aes.specs.declared.columns.State.{State}
+use Rattle.aes.specs.State.{addRoundKey}
+use Rattle.aes.specs.Words.{bytesOf}
+use Rattle.aes.specs.Cipher.{cipher}
+use Rattle.aes.specs.Cbc.{chain, cbcEncryptBlock, cbcEncrypt, fits, written}
+use Rattle.aes.proofs.Steps.{add-zeros}
+
+pub room-after : (x : State) (t t′ o : List ℕ) (a b : ℕ) → a ≤ b → b + 16 ≤ length t → o ≡ bytesOf x → t′ ≡ paste t b o 16 → a + 16 ≤ length t′
+unfolding bytesOf
+room-after x t t′ o a b g h eo et =
+    let n : length o ≡ 16 = ap length eo in
+    let m : length t′ ≡ length t = ap length et ∙ length-paste t b o 16 (omega arith) (omega arith) in
+    omega arith
+
+pub all-written : (x t : List ℕ) → x ++ drop (length t) t ≡ x
+all-written x t = ap (λ (y : List ℕ). x ++ y) (drop-length t) ∙ append-nil x
+
+-- ---- where the source fits, by the answer b of the test
+
+module _ (s t : List ℕ) (b : Bool) (e : b ≡ fits s t) where
+  pub roomy : not b ≡ false → (length s % 16 ≡ 0) × (length s ≤ length t)
+  roomy h =
+      let both = and-true (eqb (length s % 16) 0) (leb (length s) (length t)) (sym e ∙ not-false b h) in
+      (eqb-true (length s % 16) 0 (both .0), leb-true (length s) (length t) (both .1))
+
+  pub no-fit : (out : List ℕ) → not b ≡ true → (false ≡ fits s t) × (t ≡ written s out t)
+  no-fit out h = rw (sym e ∙ not-true b h) (refl, refl)
+
+  pub fit : (out t′ : List ℕ) → not b ≡ false → t′ ≡ out ++ drop (length s) t → (true ≡ fits s t) × (t′ ≡ written s out t)
+  fit out t′ h et = rw (sym e ∙ not-false b h) (refl, et)
+
+-- the source copied to the front of the target, and what of it was lent encrypted in place
+pub encrypted-copy : (ks : List (List ℕ)) (v s t : List ℕ) (b : Bool) → b ≡ fits s t → not b ≡ false → (t₁ p t₂ : List ℕ) (m : ℕ) (r : Bool)
+    → m ≡ length s → t₁ ≡ take (length s) s ++ drop (length s) t → r ≡ eqb (length (take m t₁) % 16) 0
+    → p ≡ cond (eqb (length (take m t₁) % 16) 0) (cbcEncrypt ks v (take m t₁)) (take m t₁) → t₂ ≡ p ++ drop m t₁
+    → (r ≡ fits s t) × (t₂ ≡ written s (cbcEncrypt ks v s) t)
+encrypted-copy ks v s t b e h t₁ p t₂ m r em e₁ er ep e₂ =
+    let n : length (take (length s) s) ≡ length s = ap length (take-all (length s) s (omega arith)) in
+    let front : take m t₁ ≡ s =
+    ap₂ take em e₁ ∙ take-at (take (length s) s) (drop (length s) t) (length s) n ∙ take-all (length s) s (omega arith) in
+    let rest : drop m t₁ ≡ drop (length s) t = ap₂ drop em e₁ ∙ drop-at (take (length s) s) (drop (length s) t) (length s) n in
+    let w = eq-eqb (length s % 16) 0 (roomy s t b e h .0) in
+    let done = fit s t b e (cbcEncrypt ks v s) t₂ h
+    (e₂
+    ∙ ap₂ (λ (x y : List ℕ). x ++ y)
+    (ep ∙ ap (λ (x : List ℕ). cond (eqb (length x % 16) 0) (cbcEncrypt ks v x) x) front ∙ ap (λ (b : Bool). cond b (cbcEncrypt ks v s) s) w) rest) in
+    (er ∙ ap (λ (x : List ℕ). eqb (length x % 16) 0) front ∙ w ∙ done .0, done .1)
+
+-- ---- a buffer in place, whole blocks or not
+
+module _ (b out : List ℕ) where
+  pub odd-buffer : (length b % 16 ≡ 0 → ⊥) → (false ≡ eqb (length b % 16) 0) × (b ≡ cond (eqb (length b % 16) 0) out b)
+  odd-buffer h = let e = ne-eqb (length b % 16) 0 h in rw e (refl, refl)
+
+  pub whole-buffer : (b′ : List ℕ) → length b % 16 ≡ 0 → b′ ≡ out → (true ≡ eqb (length b % 16) 0) × (b′ ≡ cond (eqb (length b % 16) 0) out b)
+  whole-buffer b′ h e = let p = eq-eqb (length b % 16) 0 h in rw p (refl, e)
+
+-- ---- a chain of one block after zeros is the cipher of it
+
+abbrev zeros : List ℕ
+zeros = 0 ∷ 0 ∷ 0 ∷ 0 ∷ 0 ∷ 0 ∷ 0 ∷ 0 ∷ 0 ∷ 0 ∷ 0 ∷ 0 ∷ 0 ∷ 0 ∷ 0 ∷ 0 ∷ []
+
+zero-at : (i : ℕ) → i < 16 → getD zeros i 0 ≡ 0
+zero-at = agree (λ i. getD zeros i 0) (λ i. 0) 16 tt
+
+pub one-encrypted : (ks : List (List ℕ)) (b r : List ℕ) → length b ≡ 16 → r ≡ cond (eqb (length b % 16) 0) (cbcEncrypt ks zeros b) b → r ≡ cipher ks b
+unfolding cbcEncrypt chain cbcEncryptBlock
+one-encrypted ks b r l e =
+    let n : length b / 16 ≡ 1 = omega arith in
+    e ∙ ap (λ (x : Bool). cond x (chain (cbcEncryptBlock ks) (λ b c. c) (length b / 16) zeros b) b) (eq-eqb (length b % 16) 0 (omega arith))
+    ∙ ap (λ (k : ℕ). chain (cbcEncryptBlock ks) (λ b c. c) k zeros b) n ∙ append-nil _
+    ∙ ap (cipher ks) (ap (λ (x : List ℕ). addRoundKey x zeros) (take-all 16 b (omega arith)) ∙ add-zeros b zeros l zero-at)

@@ -1,0 +1,11 @@
+-- A chain of one block after zeros is the cipher.
+use Rattle.aes.proofs.ChainCalls.{one-encrypted}
+use borrow.Author.Needs.{needs}
+use Rattle.aes.proofs.cbc.cbc_encrypt_one.Statement.{statement}
+use Rattle.aes.proofs.cbc.cbc_encrypt_one.Tie as tie
+
+returns : tie.Need-returns
+returns c = one-encrypted _ (c .before .before .before .args .block) _ (search needs) (c .before .cbc-encrypt-in-place .ensures .1)
+
+pub cbc-encrypt-one-spec : {M : Type 1} → statement M
+cbc-encrypt-one-spec = tie.close (tie.spec (λ c. search needs) (λ c κs. search needs) returns)
