@@ -1,104 +1,101 @@
--- Parts laid over a block one after the other are their concatenation laid over it.
-use mathlib.Core.Path.{_≡_, _∙_, sym, ap}
-use mathlib.Core.Logic.{_⊎_, ⊎-elim}
-use mathlib.Core.Bool.{and-false}
-use mathlib.Core.List.{List, _++_}
-use Prim.Native.Nat.{ℕ, suc, _+_, _-_, _<_, _≤_}
+-- A block's bytes: where they stand in one part of the message, and as they are laid out of its parts.
+use mathlib.Core.Path.{_≡_, _∙_, sym, ap, refl}
+use mathlib.Core.Logic.{⊎-elim}
+use mathlib.Core.List.{List, [], _++_}
+use Prim.Native.Nat.{ℕ, zero, suc, _+_, _-_, _<_, _≤_}
 use native.Mathlib.Omega.{arith}
-use lib.ListN.{getD, length, set, replicate, length-append, List·getD-append, List·getD-eq-default, getD-replicate}
-use lib.Seq.{getD-append-add, getD-set-same, getD-set-other}
-use borrow.Author.Tests.{lt-ltb, le-ltb, le-leb, lt-leb}
+use lib.ListN.{getD, length, take, drop, set, replicate, length-append, length-set, length-take, List·getD-append, List·getD-eq-default, getD-replicate}
+use lib.Seq.{ext-getD, getD-at, getD-append-add, getD-set-same, getD-set-other, getD-take}
+use Rattle.laws.specs.Bytes.{bytesAt}
 use Rattle.laws.proofs.Order.{lt-or-ge}
-use Rattle.sha256.specs.Parts.{laid, laidFrom}
+use Rattle.laws.proofs.Parts.{length-bytesAt, bytesAt-part}
 
-module _ (block part : List ℕ) (ahead at lo hi j : ℕ) where
-  laid-inside : lo ≤ at + j → at + j < hi → laidFrom block part ahead at lo hi j ≡ getD part (at + j - ahead) 0
-  unfolding laidFrom
-  laid-inside p q = rw (le-leb lo (at + j) p, lt-ltb (at + j) hi q)
+getD-bytesAt : (m : List ℕ) (at n i : ℕ) → i < n → getD (bytesAt m at n) i 0 ≡ getD m (at + i) 0
+unfolding bytesAt
+getD-bytesAt m at zero i h = absurd (omega arith)
+getD-bytesAt m at (suc n) i h =
+    let l = length-bytesAt m at n in
+    ⊎-elim (λ p. List·getD-append (bytesAt m at n) _ 0 i (omega arith) ∙ getD-bytesAt m at n i p)
+    (λ p.
+    let e : i ≡ n = omega arith in
+    rw e (getD-at (bytesAt m at n) (getD m (at + n) 0) [] 0 n l)) (lt-or-ge i n)
 
-  laid-before : at + j < lo → laidFrom block part ahead at lo hi j ≡ getD block j 0
-  unfolding laidFrom
-  laid-before p = rw (lt-leb lo (at + j) p)
+-- a list that has them byte for byte
+bytesAt-by : (l m : List ℕ) (at n : ℕ) → length l ≡ n → ((i : ℕ) → i < n → getD l i 0 ≡ getD m (at + i) 0) → l ≡ bytesAt m at n
+bytesAt-by l m at n e h =
+    ext-getD 0 l (bytesAt m at n) (e ∙ sym (length-bytesAt m at n))
+    (λ i p.
+    let q : i < n = omega arith in
+    h i q ∙ sym (getD-bytesAt m at n i q))
 
-  laid-behind : hi ≤ at + j → laidFrom block part ahead at lo hi j ≡ getD block j 0
-  unfolding laidFrom
-  laid-behind p = rw (le-ltb (at + j) hi p, and-false)
+pub bytesAt-eq : (a b : List ℕ) (i j n : ℕ) → ((k : ℕ) → k < n → getD a (i + k) 0 ≡ getD b (j + k) 0) → bytesAt a i n ≡ bytesAt b j n
+bytesAt-eq a b i j n h = bytesAt-by (bytesAt a i n) b j n (length-bytesAt a i n) (λ k p. getD-bytesAt a i n k p ∙ h k p)
 
--- a place is before, inside or behind
-place : {P : Type 0} (lo hi i : ℕ) → (i < lo → P) → (lo ≤ i → i < hi → P) → (hi ≤ i → P) → P
-place lo hi i f g h = ⊎-elim f (λ p. ⊎-elim (g p) h (lt-or-ge i hi)) (lt-or-ge i lo)
+-- zeros are the block of no message
+pub no-message : (at : ℕ) → replicate 64 0 ≡ bytesAt [] at 64
+no-message at = bytesAt-by (replicate 64 0) [] at 64 refl (λ i p. getD-replicate 64 i 0 0 p)
 
-module _ (block part : List ℕ) (ahead at : ℕ) where
-  -- nothing laid
-  pub laid-none : (from j : ℕ) → getD block j 0 ≡ laidFrom block part ahead at from from j
-  laid-none from j =
-      sym (⊎-elim (λ p. laid-before block part ahead at from from j p) (λ p. laid-behind block part ahead at from from j p) (lt-or-ge (at + j) from))
+-- a block that lies in one part, where it stands
+pub in-part : (before part after : List ℕ) (ahead at : ℕ) → length before ≡ ahead → ahead ≤ at → at + 64 ≤ ahead + length part
+    → take (at - ahead + 64 - (at - ahead)) (drop (at - ahead) part) ≡ bytesAt (before ++ (part ++ after)) at 64
+in-part before part after ahead at e h l =
+    let n : at - ahead + 64 - (at - ahead) ≡ 64 = omega arith in
+    rw n (sym (bytesAt-part part (at - ahead) 64 (omega arith))) ∙ bytesAt-eq part (before ++ (part ++ after)) (at - ahead) at 64
+    (λ k p.
+    let i : at + k ≡ length before + (at - ahead + k) = omega arith in
+    sym (ap (λ (j : ℕ). getD (before ++ (part ++ after)) j 0) i ∙ getD-append-add before (part ++ after) (at - ahead + k) 0
+    ∙ List·getD-append part after 0 (at - ahead + k) (omega arith)))
+
+-- past its end a front has zeros
+past : (m : List ℕ) (i k : ℕ) → i ≤ k → getD (take i m) k 0 ≡ 0
+past m i k h = List·getD-eq-default (take i m) 0 (rw length-take (omega arith))
+
+-- a part is laid after what stands before it
+module _ (front part : List ℕ) (ahead at : ℕ) (l : length front ≡ ahead) where
+  -- nothing, where block and part have no place in common
+  pub laid-none : ((i : ℕ) → at ≤ i → i < at + 64 → ahead ≤ i → ahead + length part ≤ i) → bytesAt front at 64 ≡ bytesAt (front ++ part) at 64
+  laid-none none = bytesAt-eq front (front ++ part) at at 64
+      (λ k h. ⊎-elim (λ (p : at + k < ahead). sym (List·getD-append front part 0 (at + k) (omega arith)))
+      (λ (p : ahead ≤ at + k). List·getD-eq-default front 0 (omega arith)
+      ∙ sym (List·getD-eq-default (front ++ part) 0 (rw length-append (omega (arith, none (at + k) (omega arith) (omega arith) p)))))
+      (lt-or-ge (at + k) ahead))
+
+  -- before the first place that they have in common
+  pub laid-first : (from : ℕ) → ahead ≤ from → ((i : ℕ) → at ≤ i → ahead ≤ i → from ≤ i)
+      → bytesAt front at 64 ≡ bytesAt (take from (front ++ part)) at 64
+  laid-first from h least = bytesAt-eq front (take from (front ++ part)) at at 64
+      (λ k q. ⊎-elim
+      (λ p. sym (getD-take from (front ++ part) (at + k) 0 (omega arith) ∙ List·getD-append front part 0 (at + k) (omega arith)))
+      (λ p. List·getD-eq-default front 0 (omega arith) ∙ sym (past (front ++ part) from (at + k) (least (at + k) (omega arith) p)))
+      (lt-or-ge (at + k) ahead))
 
   -- one byte more
-  pub laid-more : (b : List ℕ) (from i r : ℕ) → at ≤ i → from ≤ i → i - at < length b
-      → ((j : ℕ) → getD b j 0 ≡ laidFrom block part ahead at from i j) → r ≡ getD part (i - ahead) 0
-      → (j : ℕ) → getD (set b (i - at) r) j 0 ≡ laidFrom block part ahead at from (i + 1) j
-  laid-more b from i r ha hf hb e er j =
-      place i (i + 1) (at + j)
-      (λ p. getD-set-other b (i - at) j r 0 (λ q. omega arith) ∙ e j ∙
-      place from i (at + j)
-      (λ q. laid-before block part ahead at from i j q ∙ sym (laid-before block part ahead at from (i + 1) j q))
-      (λ q s. laid-inside block part ahead at from i j q s ∙ sym (laid-inside block part ahead at from (i + 1) j q (omega arith)))
-      (λ q. absurd (omega arith)))
-      (λ p q.
-      let ej : j ≡ i - at = omega arith in
-      let ei : at + j - ahead ≡ i - ahead = omega arith in
-      ap (λ (k : ℕ). getD (set b (i - at) r) k 0) ej ∙ getD-set-same b (i - at) r 0 hb ∙ er ∙ ap (λ (k : ℕ). getD part k 0) (sym ei)
-      ∙ sym (laid-inside block part ahead at from (i + 1) j (omega arith) q))
-      (λ p. getD-set-other b (i - at) j r 0 (λ q. omega arith) ∙ e j ∙ laid-behind block part ahead at from i j (omega arith)
-      ∙ sym (laid-behind block part ahead at from (i + 1) j p))
+  pub laid-more : (b : List ℕ) (i r : ℕ) → at ≤ i → i < at + 64 → ahead ≤ i → r ≡ getD part (i - ahead) 0
+      → b ≡ bytesAt (take i (front ++ part)) at 64
+      → set b (i - at) r ≡ bytesAt (take (i + 1) (front ++ part)) at 64
+  laid-more b i r ha hb hi er e =
+      let m = front ++ part in
+      let n : length b ≡ 64 = ap length e ∙ length-bytesAt (take i m) at 64 in
+      let had : (k : ℕ) → k < 64 → getD b k 0 ≡ getD (take i m) (at + k) 0 =
+      λ k h. ap (λ (x : List ℕ). getD x k 0) e ∙ getD-bytesAt (take i m) at 64 k h in
+      bytesAt-by (set b (i - at) r) (take (i + 1) m) at 64 (length-set b (i - at) r ∙ n)
+      (λ k h. ⊎-elim
+      (λ p. getD-set-other b (i - at) k r 0 (λ q. omega arith) ∙ had k h ∙ getD-take i m (at + k) 0 p
+      ∙ sym (getD-take (i + 1) m (at + k) 0 (omega arith)))
+      (λ p. ⊎-elim
+      (λ q. getD-set-other b (i - at) k r 0 (λ s. omega arith) ∙ had k h ∙ past m i (at + k) p ∙ sym (past m (i + 1) (at + k) (omega arith)))
+      (λ q.
+      let ek : k ≡ i - at = omega arith in
+      let ei : at + k ≡ length front + (i - ahead) = omega arith in
+      ap (λ (j : ℕ). getD (set b (i - at) r) j 0) ek ∙ getD-set-same b (i - at) r 0 (omega arith) ∙ er
+      ∙ sym (getD-take (i + 1) m (at + k) 0 (omega arith) ∙ ap (λ (j : ℕ). getD m j 0) ei ∙ getD-append-add front part (i - ahead) 0))
+      (lt-or-ge i (at + k))) (lt-or-ge (at + k) i))
 
-  -- what was laid is the whole part, as far as it stands in the block
-  pub laid-whole : (b : List ℕ) (from to : ℕ) → ahead ≤ from → to ≤ ahead + length part
-      → ((i : ℕ) → at ≤ i → ahead ≤ i → from ≤ i) → ((i : ℕ) → i ≤ ahead + length part → i ≤ at + 64 → i ≤ to)
-      → ((j : ℕ) → getD b j 0 ≡ laidFrom block part ahead at from to j) → (j : ℕ) → j < 64 → getD b j 0 ≡ laid block part ahead at j
-  laid-whole b from to hf ht least most e j h =
-      e j ∙
-      place ahead (ahead + length part) (at + j)
-      (λ p. laid-before block part ahead at from to j (omega arith) ∙ sym (laid-before block part ahead at ahead (ahead + length part) j p))
-      (λ p q. laid-inside block part ahead at from to j (least (at + j) (omega arith) p) (most (suc (at + j)) q (omega arith))
-      ∙ sym (laid-inside block part ahead at ahead (ahead + length part) j p q))
-      (λ p. laid-behind block part ahead at from to j (omega arith) ∙ sym (laid-behind block part ahead at ahead (ahead + length part) j p))
-
-  -- a part that lies outside the block
-  pub laid-outside : (j : ℕ) → j < 64 → (ahead + length part ≤ at) ⊎ (at + 64 ≤ ahead) → getD block j 0 ≡ laid block part ahead at j
-  laid-outside j h =
-      ⊎-elim (λ p. sym (laid-behind block part ahead at ahead (ahead + length part) j (omega arith)))
-      (λ p. sym (laid-before block part ahead at ahead (ahead + length part) j (omega arith)))
-
--- two parts, one behind the other, are one
-pub laid-append : (block b c xs ys : List ℕ) (ahead n at : ℕ) → n ≡ ahead + length xs → ((j : ℕ) → j < 64 → getD b j 0 ≡ laid block xs ahead at j)
-    → ((j : ℕ) → j < 64 → getD c j 0 ≡ laid b ys n at j) → (j : ℕ) → j < 64 → getD c j 0 ≡ laid block (xs ++ ys) ahead at j
-laid-append block b c xs ys ahead n at en eb ec j h =
-    let l : length (xs ++ ys) ≡ length xs + length ys = length-append xs ys in
-    ec j h ∙
-    place n (n + length ys) (at + j)
-    (λ p. laid-before b ys n at n (n + length ys) j p ∙ eb j h ∙
-    place ahead (ahead + length xs) (at + j)
-    (λ q. laid-before block xs ahead at ahead (ahead + length xs) j q ∙ sym
-    (laid-before block (xs ++ ys) ahead at ahead (ahead + length (xs ++ ys)) j q))
-    (λ q s. laid-inside block xs ahead at ahead (ahead + length xs) j q s ∙ sym (List·getD-append xs ys 0 (at + j - ahead) (omega arith))
-    ∙ sym (laid-inside block (xs ++ ys) ahead at ahead (ahead + length (xs ++ ys)) j q (omega arith)))
-    (λ q. absurd (omega arith)))
-    (λ p q.
-    let e : at + j - ahead ≡ length xs + (at + j - n) = omega arith in
-    laid-inside b ys n at n (n + length ys) j p q ∙ sym (getD-append-add xs ys (at + j - n) 0) ∙ ap (λ (k : ℕ). getD (xs ++ ys) k 0) (sym e)
-    ∙ sym (laid-inside block (xs ++ ys) ahead at ahead (ahead + length (xs ++ ys)) j (omega arith) (omega arith)))
-    (λ p. laid-behind b ys n at n (n + length ys) j p ∙ eb j h ∙ laid-behind block xs ahead at ahead (ahead + length xs) j (omega arith)
-    ∙ sym (laid-behind block (xs ++ ys) ahead at ahead (ahead + length (xs ++ ys)) j (omega arith)))
-
--- a whole message over a block of zeros
-pub laid-message : (m b : List ℕ) (at : ℕ) → ((j : ℕ) → j < 64 → getD b j 0 ≡ laid (replicate 64 0) m 0 at j)
-    → (j : ℕ) → j < 64 → getD b j 0 ≡ getD m (at + j) 0
-laid-message m b at e j h =
-    e j h ∙
-    place 0 (0 + length m) (at + j) (λ p. absurd (omega arith))
-    (λ p q.
-    let z : at + j - 0 ≡ at + j = omega arith in
-    laid-inside (replicate 64 0) m 0 at 0 (0 + length m) j p q ∙ ap (λ (k : ℕ). getD m k 0) z)
-    (λ p. laid-behind (replicate 64 0) m 0 at 0 (0 + length m) j p ∙ getD-replicate 64 j 0 0 h ∙ sym (List·getD-eq-default m 0 (omega arith)))
+  -- past the last place that they have in common
+  pub laid-last : (i to : ℕ) → to ≤ i → ((j : ℕ) → j < ahead + length part → j < at + 64 → j < to)
+      → bytesAt (take i (front ++ part)) at 64 ≡ bytesAt (front ++ part) at 64
+  laid-last i to h most = bytesAt-eq (take i (front ++ part)) (front ++ part) at at 64
+      (λ k q. ⊎-elim (λ p. getD-take i (front ++ part) (at + k) 0 p)
+      (λ p. past (front ++ part) i (at + k) p ∙ sym (List·getD-eq-default (front ++ part) 0 (rw length-append
+      (⊎-elim (λ s. absurd (omega (arith, most (at + k) s (omega arith)))) (λ s. omega arith) (lt-or-ge (at + k) (ahead + length part))))))
+      (lt-or-ge (at + k) i))

@@ -5,7 +5,7 @@ use mathlib.Core.Bool.{Bool, true, false, cond}
 use mathlib.Core.List.{List}
 use lib.Dec.{ltb}
 use lib.ListN.{length, replicate}
-use Rattle.sha256.specs.declared.rounds.Vars.{Vars}
+use Rattle.compression.specs.declared.Vars.{Vars}
 use Rattle.sha256.specs.Digests.{bytesOf, digest}
 use Rattle.sha256.specs.Macs.{hmac}
 

@@ -1,6 +1,3 @@
-pub mod Bitwise
-pub mod Schedules
-pub mod Turns
 pub mod Stores
 pub mod Laying
 pub mod Hashing

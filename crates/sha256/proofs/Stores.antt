@@ -1,11 +1,10 @@
--- A padding and a digest, made by runs of stores.
+-- A padding, made by stores.
 use mathlib.Core.Path.{_≡_, _∙_, ap, refl}
 use mathlib.Core.List.{List, _∷_, _++_}
 use Prim.Native.Nat.{ℕ, zero, suc, _+_, _<_, _≤_}
 use native.Mathlib.Nat.{le-of-suc-le-suc, not-suc-le-zero}
 use native.Mathlib.Omega.{arith}
 use lib.ListN.{length, take, drop, set, replicate, length-append, length-replicate}
-use Rattle.laws.specs.Bytes.{bytes32}
 use lib.Seq.{sets, sets-eq, take-at}
 
 take-replicate : (n m x : ℕ) → n ≤ m → take n (replicate m x) ≡ replicate n x
@@ -13,7 +12,7 @@ take-replicate zero m x h = refl
 take-replicate (suc n) zero x h = absurd (not-suc-le-zero h)
 take-replicate (suc n) (suc m) x h = ap (λ (l : List ℕ). x ∷ l) (take-replicate n m x (le-of-suc-le-suc h))
 
--- a first byte, zeros, and a run of stores behind them
+-- a first byte, zeros, and a run of stores after them
 pub padding-by : (x z r : ℕ) (bs p : List ℕ) → p ≡ sets (set (replicate 72 0) 0 x) (1 + r) bs → r ≡ z → z < 64 → length bs ≡ 8
     → take (9 + z) p ≡ x ∷ (replicate z 0 ++ bs)
 padding-by x z r bs p e′ er h l =
@@ -24,12 +23,3 @@ padding-by x z r bs p e′ er h l =
     ap (take (9 + z)) (e ∙ sets-eq bs (x ∷ replicate 71 0) (1 + z) (omega arith)
     ∙ ap (λ (l : List ℕ). l ++ bs ++ drop (1 + z + length bs) (x ∷ replicate 71 0)) front)
     ∙ take-at ((x ∷ replicate z 0) ++ bs) (drop (1 + z + length bs) (x ∷ replicate 71 0)) (9 + z) n
-
--- eight words stored
-pub words-by : (a b c d e f g h : ℕ) (s1 s2 s3 s4 s5 s6 s7 s8 : List ℕ) → s1 ≡ sets (replicate 32 0) 0 (bytes32 a) → s2 ≡ sets s1 4 (bytes32 b)
-    → s3 ≡ sets s2 8 (bytes32 c) → s4 ≡ sets s3 12 (bytes32 d) → s5 ≡ sets s4 16 (bytes32 e) → s6 ≡ sets s5 20 (bytes32 f)
-    → s7 ≡ sets s6 24 (bytes32 g)
-    → s8 ≡ sets s7 28 (bytes32 h)
-    → s8 ≡ bytes32 a ++ (bytes32 b ++ (bytes32 c ++ (bytes32 d ++ (bytes32 e ++ (bytes32 f ++ (bytes32 g ++ bytes32 h))))))
-words-by a b c d e f g h s1 s2 s3 s4 s5 s6 s7 s8 p1 p2 p3 p4 p5 p6 p7 p8 =
-    rw (p8, p7, p6, p5, p4, p3, p2, p1)

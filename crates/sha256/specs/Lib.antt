@@ -1,7 +1,3 @@
-pub mod Words
-pub mod Constants
-pub mod Compression
-pub mod Parts
 pub mod Digests
 pub mod Macs
 pub mod Examples

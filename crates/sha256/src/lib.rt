@@ -1,16 +1,15 @@
 // SHA-256 (FIPS 180-4) and HMAC on it (RFC 2104), of bytes wherever they stand: no call copies a message or keeps a state between calls.
-// The three parts of a message are hashed one behind the other, as if they stood so in memory.
+// A message may come in three parts, which are hashed one after the other as if they stood so in memory.
+mod block;
 mod key;
 mod message;
 mod parts;
-mod rounds;
 mod store;
 mod tag;
-mod word;
 
 use key::key_block;
 use key::masked;
-use message::digest_behind;
+use message::digest_after;
 use message::digest_from;
 ghost use mathlib.Core.Path.{_≡_};
 ghost use mathlib.Core.List.{_++_};
@@ -62,7 +61,7 @@ fn inner_digest(block: &[u8; 64], first: &[u8], second: &[u8], third: &[u8]) -> 
         ++ (now (first .entry) ++ (now (second .entry) ++ now (third .entry)))) ⌝ }
 {
     let front = masked(block, IPAD);
-    digest_behind(&front, first, second, third)
+    digest_after(&front, first, second, third)
 }
 
 // H(K ⊕ opad, inner).
@@ -71,7 +70,7 @@ fn outer_digest(block: &[u8; 64], inner: &[u8]) -> [u8; 32]
     ensures { λ r. ⌜ r ≡ fips.digest (rfc.masked rfc.opad (now (block .entry)) ++ now (inner .entry)) ⌝ }
 {
     let front = masked(block, OPAD);
-    digest_behind(&front, &inner[0..0], &inner[0..0], inner)
+    digest_after(&front, &inner[0..0], &inner[0..0], inner)
 }
 
 // Whether a tag is the one computed. It reads every byte, ors the differences and has one exit; nothing is proved of its time. A tag that is not

@@ -1,20 +1,18 @@
-// The digest of a message in three parts, from the start or behind a block.
+// The digest of a message in three parts, from the start or after a block.
+use crate::block::absorb_block;
 use crate::parts::hash;
-use crate::rounds::Vars;
-use crate::rounds::compress;
 use crate::store::bytes_of;
 use crate::store::padding_of;
 use crate::store::zeros_of;
+use compression::Vars;
 ghost use mathlib.Core.Path.{_≡_};
 ghost use mathlib.Core.List.{_++_};
 ghost use Prim.Native.Nat.{_<_, _≤_, _+_, _^_};
 ghost use lib.Dec.{ltb};
 ghost use lib.ListN.{length};
-ghost use Rattle.sha256.specs.Constants.{H0};
-ghost use Rattle.sha256.specs.Compression.{hashed};
-ghost use Rattle.sha256.specs.Digests.{padding, bytesOf, digest};
+ghost use Rattle.sha256.specs.Digests.{padding, H0, hashed, bytesOf, digest};
 
-// A message of so many bytes has 2^64 bits, more than FIPS 180-4 counts.
+// 2^61 bytes are 2^64 bits, the first length that FIPS 180-4 does not count.
 const TOO_MANY: usize = 2305843009213693952;
 
 // FIPS 180-4 §5.3.3.
@@ -33,7 +31,7 @@ fn initial() -> Vars
     }
 }
 
-// Whether the parts, behind so many bytes more, have a digest; no sum of theirs may wrap before that is known.
+// Whether the parts, after `done` bytes before them, have a digest; no sum of lengths may wrap before that is known.
 fn fits(done: usize, first: &[u8], second: &[u8], third: &[u8]) -> bool
     requires { ⌜ done ≤ 64 ⌝ }
     ensures { λ r. ⌜ r ≡ ltb (done + (length (now (first .entry)) + (length (now (second .entry)) + length (now (third .entry))))) (2 ^ 61) ⌝ }
@@ -50,7 +48,7 @@ fn fits(done: usize, first: &[u8], second: &[u8], third: &[u8]) -> bool
     done + (first.len() + (second.len() + third.len())) < TOO_MANY
 }
 
-// The digest of the parts, from the hash value after so many bytes before them.
+// The digest of the parts, from the hash value after the `done` bytes before them.
 fn finish(v: Vars, done: usize, first: &[u8], second: &[u8], third: &[u8]) -> [u8; 32]
     requires { ⌜ done + (length (now first) + (length (now second) + length (now third))) < 2 ^ 61 ⌝ }
     ensures { λ r. ⌜ r ≡ bytesOf (hashed v ((now (first .entry) ++ (now (second .entry) ++ now (third .entry)))
@@ -72,13 +70,13 @@ pub(crate) fn digest_from(first: &[u8], second: &[u8], third: &[u8]) -> [u8; 32]
     [0u8; 32]
 }
 
-// The digest of a block and the parts behind it.
-pub(crate) fn digest_behind(block: &[u8], first: &[u8], second: &[u8], third: &[u8]) -> [u8; 32]
+// The digest of a block and the parts after it.
+pub(crate) fn digest_after(block: &[u8], first: &[u8], second: &[u8], third: &[u8]) -> [u8; 32]
     requires { ⌜ length (now block) ≡ 64 ⌝ }
     ensures { λ r. ⌜ r ≡ digest (now (block .entry) ++ (now (first .entry) ++ (now (second .entry) ++ now (third .entry)))) ⌝ }
 {
     if fits(64, first, second, third) {
-        let v = compress(initial(), block);
+        let v = absorb_block(initial(), block);
         return finish(v, 64, first, second, third);
     }
     [0u8; 32]

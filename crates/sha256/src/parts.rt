@@ -1,17 +1,17 @@
 // A message given as consecutive parts, which are never copied together. A block that lies in the third part or in the tail is hashed where it
-// stands; another, as one that touches a seam, is put together first:
+// stands; any other, as one that touches a seam, is laid out of the parts first:
 //
 //     message     |  first  | second |           third           |   tail  |
 //     blocks      |     |     |     |     |     |     |     |     |     |
 //                 laid  laid  laid  in third ..         laid  laid  in tail
-use crate::rounds::Vars;
-use crate::rounds::compress;
+use crate::block::absorb_block;
+use compression::Vars;
 ghost use mathlib.Core.Path.{_≡_};
 ghost use mathlib.Core.List.{List, _++_};
 ghost use Prim.Native.Nat.{ℕ, _<_, _≤_, _+_, _*_, _^_};
-ghost use lib.ListN.{length, getD};
-ghost use Rattle.sha256.specs.Compression as fips;
-ghost use Rattle.sha256.specs.Parts.{laid, laidFrom};
+ghost use lib.ListN.{length};
+ghost use Rattle.laws.specs.Bytes.{bytesAt};
+ghost use Rattle.sha256.specs.Digests.{afterBlock, hashed};
 
 // The least number that is neither below a nor below b.
 fn larger(a: usize, b: usize) -> usize
@@ -25,7 +25,7 @@ fn larger(a: usize, b: usize) -> usize
 
 // The greatest number that is neither above a nor above b.
 fn smaller(a: usize, b: usize) -> usize
-    ensures { λ r. ⌜ (r ≤ a) × (r ≤ b) × ((i : ℕ) → i ≤ a → i ≤ b → i ≤ r) ⌝ }
+    ensures { λ r. ⌜ (r ≤ a) × (r ≤ b) × ((i : ℕ) → i < a → i < b → i < r) ⌝ }
 {
     if a < b {
         return a;
@@ -33,11 +33,13 @@ fn smaller(a: usize, b: usize) -> usize
     b
 }
 
-// The places from `from` up to `to` of the message are copied out of the part that holds them.
+// The part starts at `ahead` in the message and the block at `at`. The places of the message from `from` up to `to`, which are those that both
+// have, are copied: a block that had the bytes of what stands before the part has those of the part as well. Past their end it has zeros.
 fn lay(block: &mut [u8], part: &[u8], ahead: usize, at: usize, from: usize, to: usize)
-    requires { ⌜ (length (now block) ≡ 64) × (at ≤ from) × (ahead ≤ from) × (from ≤ to) × (to ≤ at + 64) × (to ≤ ahead + length (now part)) ⌝ }
-    ensures { λ _. ⌜ (length (now (block .exit)) ≡ 64) × ((j : ℕ) → getD (now (block .exit)) j 0
-        ≡ laidFrom (now (block .entry)) (now (part .entry)) ahead at from to j) ⌝ }
+    requires { ⌜ (length (now block) ≡ 64) × (at ≤ from) × (ahead ≤ from) × ((i : ℕ) → at ≤ i → ahead ≤ i → from ≤ i)
+        × (to ≤ at + 64) × (to ≤ ahead + length (now part)) × ((i : ℕ) → i < ahead + length (now part) → i < at + 64 → i < to) ⌝ }
+    ensures { λ _. ⌜ (length (now (block .exit)) ≡ 64) × ((front : List ℕ) → length front ≡ ahead → now (block .entry) ≡ bytesAt front at 64
+        → now (block .exit) ≡ bytesAt (front ++ now (part .entry)) at 64) ⌝ }
 {
     let mut i = from;
     while i < to {
@@ -46,11 +48,11 @@ fn lay(block: &mut [u8], part: &[u8], ahead: usize, at: usize, from: usize, to: 
     }
 }
 
-// A part that starts at `ahead` in the message is laid over the block that starts at `at`.
+// The same, of whatever part and block have in common.
 fn gather(block: &mut [u8], part: &[u8], ahead: usize, at: usize)
     requires { ⌜ (length (now block) ≡ 64) × (at + 64 < 2 ^ 64) × (ahead + length (now part) < 2 ^ 64) ⌝ }
-    ensures { λ _. ⌜ (length (now (block .exit)) ≡ 64) × ((j : ℕ) → j < 64
-        → getD (now (block .exit)) j 0 ≡ laid (now (block .entry)) (now (part .entry)) ahead at j) ⌝ }
+    ensures { λ _. ⌜ (length (now (block .exit)) ≡ 64) × ((front : List ℕ) → length front ≡ ahead → now (block .entry) ≡ bytesAt front at 64
+        → now (block .exit) ≡ bytesAt (front ++ now (part .entry)) at 64) ⌝ }
 {
     let end = ahead + part.len();
     if end <= at {
@@ -69,11 +71,10 @@ fn gather(block: &mut [u8], part: &[u8], ahead: usize, at: usize)
     );
 }
 
-// The block at a place of the message; behind the message's end stand zeros.
+// The block at a place of the message, laid out of the parts.
 fn assembled(first: &[u8], second: &[u8], third: &[u8], tail: &[u8], at: usize) -> [u8; 64]
     requires { ⌜ (at + 64 < 2 ^ 64) × (length (now first) + (length (now second) + (length (now third) + length (now tail))) < 2 ^ 64) ⌝ }
-    ensures { λ r. ⌜ (length r ≡ 64) × ((j : ℕ) → j < 64 → getD r j 0 ≡ getD
-        (now (first .entry) ++ (now (second .entry) ++ (now (third .entry) ++ now (tail .entry)))) (at + j) 0) ⌝ }
+    ensures { λ r. ⌜ r ≡ bytesAt (now (first .entry) ++ (now (second .entry) ++ (now (third .entry) ++ now (tail .entry)))) at 64 ⌝ }
 {
     let mut block = [0u8; 64];
     gather(&mut block, first, 0, at);
@@ -88,11 +89,11 @@ fn assembled(first: &[u8], second: &[u8], third: &[u8], tail: &[u8], at: usize) 
     block
 }
 
-// The block at a place of the message where it stands, if it lies in this part, ahead of which so many bytes stand; else nothing.
+// The block at a place of the message where it stands, if it lies in this part, which starts at `ahead` in the message; else nothing.
 fn inside<'a>(part: &'a [u8], ahead: usize, at: usize) -> &'a [u8]
     requires { ⌜ (at + 64 < 2 ^ 64) × (ahead + length (now part) < 2 ^ 64) ⌝ }
-    ensures { λ r. ⌜ (length (now r) ≡ 64 → (front behind : List ℕ) → length front ≡ ahead → (j : ℕ) → j < 64
-        → getD (now r) j 0 ≡ getD (front ++ (now (part .entry) ++ behind)) (at + j) 0) ⌝ }
+    ensures { λ r. ⌜ (length (now r) ≡ 64 → (before after : List ℕ) → length before ≡ ahead
+        → now r ≡ bytesAt (before ++ (now (part .entry) ++ after)) at 64) ⌝ }
 {
     if ahead <= at {
         if at + 64 <= ahead + part.len() {
@@ -106,8 +107,8 @@ fn inside<'a>(part: &'a [u8], ahead: usize, at: usize) -> &'a [u8]
 // The block at a place of the message where it stands, if it lies in the third part or in the tail; else nothing.
 fn standing<'a>(first: &[u8], second: &[u8], third: &'a [u8], tail: &'a [u8], at: usize) -> &'a [u8]
     requires { ⌜ (at + 64 < 2 ^ 64) × (length (now first) + (length (now second) + (length (now third) + length (now tail))) < 2 ^ 64) ⌝ }
-    ensures { λ r. ⌜ (length (now r) ≡ 64 → (j : ℕ) → j < 64 → getD (now r) j 0
-        ≡ getD (now (first .entry) ++ (now (second .entry) ++ (now (third .entry) ++ now (tail .entry)))) (at + j) 0) ⌝ }
+    ensures { λ r. ⌜ (length (now r) ≡ 64
+        → now r ≡ bytesAt (now (first .entry) ++ (now (second .entry) ++ (now (third .entry) ++ now (tail .entry)))) at 64) ⌝ }
 {
     let ahead = first.len() + second.len();
     let block = inside(third, ahead, at);
@@ -127,14 +128,14 @@ fn absorb<'a>(
     at: usize,
 ) -> Vars
     requires { ⌜ (at + 64 < 2 ^ 64) × (length (now first) + (length (now second) + (length (now third) + length (now tail))) < 2 ^ 64) ⌝ }
-    ensures { λ r. ⌜ r ≡ fips.compress v (now (first .entry) ++ (now (second .entry) ++ (now (third .entry) ++ now (tail .entry)))) at ⌝ }
+    ensures { λ r. ⌜ r ≡ afterBlock v (bytesAt (now (first .entry) ++ (now (second .entry) ++ (now (third .entry) ++ now (tail .entry)))) at 64) ⌝ }
 {
     let part = standing(first, second, third, tail, at);
     if part.len() == 64 {
-        return compress(v, part);
+        return absorb_block(v, part);
     }
     let block = assembled(first, second, third, tail, at);
-    compress(v, &block)
+    absorb_block(v, &block)
 }
 
 // The hash value after a message that is whole blocks.
@@ -146,7 +147,7 @@ pub(crate) fn hash<'a>(
     tail: &'a [u8],
 ) -> Vars
     requires { ⌜ length (now first) + (length (now second) + (length (now third) + length (now tail))) < 2 ^ 62 ⌝ }
-    ensures { λ r. ⌜ r ≡ fips.hashed v (now (first .entry) ++ (now (second .entry) ++ (now (third .entry) ++ now (tail .entry)))) ⌝ }
+    ensures { λ r. ⌜ r ≡ hashed v (now (first .entry) ++ (now (second .entry) ++ (now (third .entry) ++ now (tail .entry)))) ⌝ }
 {
     let count = (first.len() + second.len() + third.len() + tail.len()) / 64;
     let mut x = v;

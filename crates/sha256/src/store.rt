@@ -1,5 +1,5 @@
 // Numbers written as bytes, the highest first: a padding's length, a digest's words.
-use crate::rounds::Vars;
+use compression::Vars;
 ghost use mathlib.Core.Path.{_≡_};
 ghost use Prim.Native.Nat.{_<_, _≤_, _+_, _^_};
 ghost use lib.ListN.{length, take};
@@ -36,14 +36,14 @@ fn put64(out: &mut [u8], at: usize, x: u64)
     put32(out, at + 4, (x % 4294967296) as u32);
 }
 
-// How many zeros stand in the padding of a message of so many bytes.
+// How many zeros stand in the padding of a message of `total` bytes.
 pub(crate) fn zeros_of(total: usize) -> usize
     ensures { λ r. ⌜ (r ≡ zeros total) × (r < 64) ⌝ }
 {
     (119 - total % 64) % 64
 }
 
-// The padding of a message of so many bytes, before room: 9 + zeros_of(total) bytes of these.
+// The padding of a message of `total` bytes, with room after it: it is the first 9 + zeros_of(total) bytes.
 pub(crate) fn padding_of(total: usize) -> [u8; 72]
     requires { ⌜ total < 2 ^ 61 ⌝ }
     ensures { λ r. ⌜ take (9 + zeros total) r ≡ padding total ⌝ }

@@ -6,9 +6,11 @@ use Rattle.sha256.proofs.hmac_parts.Tie as tie
 
 returns : tie.Need-returns
 unfolding hmac
-returns c = cc
+returns c =
+    let i = c .before .before .before in
+    rw (c .outer-digest .ensures, i .inner-digest .ensures, i .before .before .key-block .ensures)
 
 pub hmac-parts-spec : {M : Type 1} → statement M
 hmac-parts-spec =
     tie.close (tie.spec
-    (λ c κs. search needs) (λ c κs. search needs) (λ c. search needs) (λ c κs. search needs) returns)
+    _ (λ c κs. search needs) (λ c. search needs) (λ c κs. search needs) returns)

@@ -1,10 +1,10 @@
--- The masked block stands in front of the inner digest, which is the third part behind two empty ones.
+-- The masked block stands in front of the inner digest, which is the third part after two empty ones.
 use borrow.Author.Needs.{needs}
 use Rattle.sha256.proofs.outer_digest.Statement.{statement}
 use Rattle.sha256.proofs.outer_digest.Tie as tie
 
 returns : tie.Need-returns
-returns c = cc
+returns c = rw (c .digest-after .ensures, c .before .before .before .before .masked .ensures)
 
 pub outer-digest-spec : {M : Type 1} → statement M
 outer-digest-spec =

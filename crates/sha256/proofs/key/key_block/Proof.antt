@@ -8,8 +8,9 @@ use Rattle.sha256.proofs.key.key_block.Tie as tie
 
 returns : tie.Need-returns
 unfolding keyBlock
-returns c = rw (lt-ltb _ _ (c .before .before .before .before .before .if1 .taken))
-    (c .filled .ensures ∙ ap filled (c .before .before .digest-from .ensures))
+returns c =
+    let d = c .before .before in
+    rw (lt-ltb _ _ (d .before .before .before .if1 .taken)) (c .filled .ensures ∙ ap filled (d .digest-from .ensures))
 
 returns-2 : tie.Need-returns-2
 unfolding keyBlock
@@ -19,5 +20,5 @@ pub key-block-spec : {M : Type 1} → statement M
 key-block-spec =
     tie.close (tie.spec
     (λ c. search needs) (λ c. search needs) (λ c. search needs) (λ c. search needs) (λ c. search needs)
-    (λ c. search needs) (λ c κs. search needs) (λ c. search needs) (λ c κs. search needs) returns
+    (λ c. search needs) _ (λ c. search needs) (λ c κs. search needs) returns
     (λ c κs. search needs) returns-2)

@@ -21,18 +21,18 @@ unfolding masked
 loop-holds c = search needs
 
 loop-again : tie.Need-loop-again Inv-loop μ-loop
-loop-again c = (
-  search needs,
-  search needs,
-  masked-more _ (c .before .before .loop .i) (c .before .before .before .args .key .now)
-      (c .before .before .loop .block) (omega arith) (omega arith) (c .before .before .loop .inv .2),
-)
+loop-again c =
+    let b = c .before .before in (
+      search needs,
+      search needs,
+      masked-more _ (b .loop .i) (b .before .args .key .now) (b .loop .block) (omega arith) (omega arith) (b .loop .inv .2),
+    )
 
 returns : tie.Need-returns Inv-loop μ-loop
 returns c =
-    let e : c .before .loop .i ≡ 64 = omega arith in
-    sym (take-all 64 (c .before .loop .block) (omega arith)) ∙ rw (e, take-all 64 (c .before .before .args .key .now) (omega arith)) at
-    (c .before .loop .inv .2)
+    let b = c .before in
+    let e : b .loop .i ≡ 64 = omega arith in
+    sym (take-all 64 (b .loop .block) (omega arith)) ∙ rw (e, take-all 64 (b .before .args .key .now) (omega arith)) at (b .loop .inv .2)
 
 pub masked-spec : {M : Type 1} → statement M
 masked-spec =

@@ -1,27 +1,24 @@
 -- A part that is too long by itself makes the sum too large.
 use mathlib.Core.Path.{sym}
-use Prim.Native.Nat.{_+_, _^_}
+use Prim.Native.Nat.{ℕ, _+_, _^_}
 use native.Mathlib.Omega.{arith}
-use lib.ListN.{length}
 use borrow.Author.Tests.{le-ltb}
 use borrow.Author.Needs.{needs}
+use Rattle.sha256.proofs.Digesting.{count}
 use Rattle.sha256.proofs.message.fits.Statement.{statement}
 use Rattle.sha256.proofs.message.fits.Tie as tie
 
+abbrev total : tie.Start → ℕ
+total s = s .args .done + count (s .args .first .now) (s .args .second .now) (s .args .third .now)
+
 returns : tie.Need-returns
-returns c =
-    let a = c .before .args in
-    sym (le-ltb (a .done + (length (a .first .now) + (length (a .second .now) + length (a .third .now)))) (2 ^ 61) (omega arith))
+returns c = sym (le-ltb (total (c .before)) (2 ^ 61) (omega arith))
 
 returns-2 : tie.Need-returns-2
-returns-2 c =
-    let a = c .before .before .args in
-    sym (le-ltb (a .done + (length (a .first .now) + (length (a .second .now) + length (a .third .now)))) (2 ^ 61) (omega arith))
+returns-2 c = sym (le-ltb (total (c .before .before)) (2 ^ 61) (omega arith))
 
 returns-3 : tie.Need-returns-3
-returns-3 c =
-    let a = c .before .before .before .args in
-    sym (le-ltb (a .done + (length (a .first .now) + (length (a .second .now) + length (a .third .now)))) (2 ^ 61) (omega arith))
+returns-3 c = sym (le-ltb (total (c .before .before .before)) (2 ^ 61) (omega arith))
 
 pub fits-spec : {M : Type 1} → statement M
 fits-spec =

@@ -1,6 +1,6 @@
 -- The eight words are the definition's.
 use mathlib.Core.Path.{refl}
-use Rattle.sha256.specs.Constants.{H0}
+use Rattle.sha256.specs.Digests.{H0}
 use Rattle.sha256.proofs.message.initial.Statement.{statement}
 use Rattle.sha256.proofs.message.initial.Tie as tie
 

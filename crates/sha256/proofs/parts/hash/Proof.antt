@@ -5,7 +5,7 @@ use Prim.Native.Nat.{_≤_, _-_, _/_}
 use native.Mathlib.Omega.{arith}
 use lib.ListN.{length, length-append}
 use borrow.Author.Needs.{needs}
-use Rattle.sha256.specs.Compression.{blocks, hashed}
+use Rattle.sha256.specs.Digests.{blocks, hashed}
 use Rattle.sha256.proofs.Hashing.{blocks-more}
 use Rattle.sha256.proofs.parts.hash.Statement.{statement}
 use Rattle.sha256.proofs.parts.hash.Tie as tie
@@ -26,10 +26,11 @@ loop-again c = (search needs, blocks-more _ _ _ _ _ (c .before .before .loop .in
 returns : tie.Need-returns Inv-loop μ-loop
 unfolding hashed
 returns c =
-    let a = c .before .before .before .before .before .before .args in
+    let b = c .before in
+    let a = b .before .before .before .before .before .args in
     let m = a .first .now ++ (a .second .now ++ (a .third .now ++ a .tail .now)) in
-    let e : c .before .loop .n ≡ length m / 64 = simp length-append (omega arith) in
-    c .before .loop .inv .1 ∙ ap (blocks (a .v) m) e
+    let e : b .loop .n ≡ length m / 64 = simp length-append (omega arith) in
+    b .loop .inv .1 ∙ ap (blocks (a .v) m) e
 
 pub hash-spec : {M : Type 1} → statement M
 hash-spec =

@@ -1,16 +1,17 @@
 -- Sixty-four bytes are handed out only where the block lies in the part.
+use native.Mathlib.Omega.{arith}
 use borrow.Author.Needs.{needs}
-use Rattle.sha256.proofs.Hashing.{in-part}
+use Rattle.sha256.proofs.Laying.{in-part}
 use Rattle.sha256.proofs.parts.inside.Statement.{statement}
 use Rattle.sha256.proofs.parts.inside.Tie as tie
 
 returns : tie.Need-returns
 returns c =
     let a = c .before .before .before .args in
-    λ l front behind e j h. in-part front (a .part .now) behind (a .ahead) (a .at) j e (c .before .before .if1 .taken) (c .before .if2 .taken) h
+    λ l before after e. in-part before (a .part .now) after (a .ahead) (a .at) e (c .before .before .if1 .taken) (c .before .if2 .taken)
 
 pub inside-spec : {M : Type 1} → statement M
 inside-spec =
     tie.close (tie.spec
     (λ c. search needs) (λ c. search needs) (λ c. search needs) (λ c. search needs) (λ c. search needs)
-    (λ c. search needs) returns (λ c. search needs) (λ c. search needs) (λ c. search needs) (λ c. search needs))
+    (λ c. search needs) returns (λ c. search needs) (λ c. search needs) (λ c. search needs) (λ c l. absurd (omega arith)))

@@ -1,38 +1,38 @@
--- The invariant: the places passed are laid.
-use mathlib.Core.Path.{refl}
-use mathlib.Core.Path.{_≡_}
+-- The invariant: the block has the bytes of the message so far, up to the place that comes next.
+use mathlib.Core.Path.{_≡_, _∙_, refl}
+use mathlib.Core.List.{List, _++_}
 use Prim.Native.Nat.{ℕ, _≤_, _-_}
 use native.Mathlib.Omega.{arith}
-use lib.ListN.{length, getD}
+use lib.ListN.{length, take}
 use borrow.Author.Needs.{needs}
-use Rattle.sha256.specs.Parts.{laidFrom}
-use Rattle.sha256.proofs.Laying.{laid-none, laid-more}
+use Rattle.laws.specs.Bytes.{bytesAt}
+use Rattle.sha256.proofs.Laying.{laid-first, laid-more, laid-last}
 use Rattle.sha256.proofs.parts.lay.Statement.{statement}
 use Rattle.sha256.proofs.parts.lay.Tie as tie
 
 abbrev Inv-loop : tie.InvT-loop
 Inv-loop block₀ part ahead at from to i₀ block i =
-    (from ≤ i) × (i ≤ to) × (length block ≡ 64) × ((j : ℕ) → getD block j 0 ≡ laidFrom block₀ part ahead at from i j)
+    (from ≤ i) × (length block ≡ 64)
+    × ((front : List ℕ) → length front ≡ ahead → block₀ ≡ bytesAt front at 64 → block ≡ bytesAt (take i (front ++ part)) at 64)
 
 abbrev μ-loop : tie.MeasureT-loop
 μ-loop block₀ part ahead at from to i₀ block i = to - i
 
 loop-holds : tie.Need-loop-holds Inv-loop μ-loop
-loop-holds c = (search needs, search needs, search needs, laid-none _ _ _ _ _)
+loop-holds c = (search needs, search needs, λ front l e. e ∙ laid-first front _ _ _ l _ (omega arith) (c .pre .3))
 
 loop-again : tie.Need-loop-again Inv-loop μ-loop
-loop-again c = (
-  search needs,
-  search needs,
-  search needs,
-  laid-more _ _ _ _ (c .before .before .loop .block)
-      (c .before .before .before .args .from) (c .before .before .loop .i) _ (omega arith) (omega arith) (omega arith)
-      (c .before .before .loop .inv .3) refl,
-)
+loop-again c =
+    let l = c .before .before .loop in (
+      search needs,
+      search needs,
+      λ front n e. laid-more front _ _ _ n (l .block) (l .i) _ (omega arith) (omega arith) (omega arith) refl (l .inv .2 front n e),
+    )
 
 returns : tie.Need-returns Inv-loop μ-loop
-returns c = let e : c .before .loop .i ≡ c .before .before .args .to = omega arith in
-    (search needs, λ j. rw e at (c .before .loop .inv .3 j))
+returns c =
+    let l = c .before .loop in
+    (search needs, λ front n e. l .inv .2 front n e ∙ laid-last front _ _ _ n (l .i) _ (omega arith) (c .before .before .pre .6))
 
 pub lay-spec : {M : Type 1} → statement M
 lay-spec =

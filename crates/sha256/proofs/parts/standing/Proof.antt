@@ -1,4 +1,4 @@
--- Each of the two parts with what stands before and behind it is the message.
+-- Each of the two parts with what stands before and after it is the message.
 use mathlib.Core.List.{[], _++_, append-assoc, append-nil}
 use native.Mathlib.Omega.{arith}
 use lib.ListN.{length-append}
@@ -8,15 +8,16 @@ use Rattle.sha256.proofs.parts.standing.Tie as tie
 
 returns : tie.Need-returns
 returns c =
-    let a = c .before .before .before .before .before .before .args in
-    λ l j h. simp append-assoc at (c .before .inside .ensures l (a .first .now ++ a .second .now) (a .tail .now)
-    (simp length-append (omega arith)) j h)
+    let b = c .before in
+    let a = b .before .before .before .before .before .args in
+    λ l. simp append-assoc at (b .inside .ensures l (a .first .now ++ a .second .now) (a .tail .now)
+    (simp length-append (omega arith)))
 
 returns-2 : tie.Need-returns-2
 returns-2 c =
     let a = c .before .before .before .before .before .before .before .args in
-    λ l j h. simp (append-assoc, append-nil) at (c .inside2 .ensures l (a .first .now ++ (a .second .now ++ a .third .now)) []
-    (simp length-append (omega arith)) j h)
+    λ l. simp (append-assoc, append-nil) at (c .inside2 .ensures l (a .first .now ++ (a .second .now ++ a .third .now)) []
+    (simp length-append (omega arith)))
 
 pub standing-spec : {M : Type 1} → statement M
 standing-spec =

@@ -1,7 +1,6 @@
 -- Eight runs of four fill the thirty-two bytes.
 use borrow.Author.Needs.{needs}
 use Rattle.sha256.specs.Digests.{bytesOf}
-use Rattle.sha256.proofs.Stores.{words-by}
 use Rattle.sha256.proofs.store.bytes_of.Statement.{statement}
 use Rattle.sha256.proofs.store.bytes_of.Tie as tie
 
@@ -15,8 +14,16 @@ returns c =
     let c3 = c4 .before .before .before in
     let c2 = c3 .before .before .before in
     let c1 = c2 .before .before .before in
-    words-by _ _ _ _ _ _ _ _ _ _ _ _ _ _ _ _ (c1 .put32 .ensures) (c2 .put322 .ensures) (c3 .put323 .ensures) (c4 .put324 .ensures)
-    (c5 .put325 .ensures) (c6 .put326 .ensures) (c7 .put327 .ensures) (c .before .put328 .ensures)
+    rw (
+      c .before .put328 .ensures,
+      c7 .put327 .ensures,
+      c6 .put326 .ensures,
+      c5 .put325 .ensures,
+      c4 .put324 .ensures,
+      c3 .put323 .ensures,
+      c2 .put322 .ensures,
+      c1 .put32 .ensures,
+    )
 
 pub bytes-of-spec : {M : Type 1} → statement M
 bytes-of-spec =

@@ -1,4 +1,4 @@
--- The byte 0x80, zeros that were there, and eight bytes stored behind them.
+-- The byte 0x80, zeros that were there, and eight bytes stored after them.
 use mathlib.Core.Path.{refl}
 use native.Mathlib.Omega.{arith}
 use borrow.Author.Needs.{needs}
@@ -14,5 +14,4 @@ returns c = padding-by _ _ _ _ _ (c .before .put64 .ensures) (c .before .before 
 pub padding-of-spec : {M : Type 1} → statement M
 padding-of-spec =
     tie.close (tie.spec
-    (λ c. search needs) (λ c. search needs) (λ c κs. search needs) (λ c. search needs) (λ c. search needs)
-    (λ c κs. search needs) returns)
+    (λ c. search needs) (λ c. search needs) _ (λ c. search needs) (λ c. search needs) (λ c κs. search needs) returns)

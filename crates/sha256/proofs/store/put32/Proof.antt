@@ -9,12 +9,13 @@ use Rattle.sha256.proofs.store.put32.Tie as tie
 
 returns : tie.Need-returns
 returns c =
-    let w = c .before .before .before .before .before .word-bytes in
-    let a = c .before .before .before .before .before .before .before .args in
-    lent-stores (a .out .now) (w .result) (a .at) (omega arith) _ (c .before .before .copy .ensures .1) ∙ ap (sets (a .out .now) (a .at)) (w .ensures)
+    let b = c .before .before in
+    let w = b .before .before .before .word-bytes in
+    let a = b .before .before .before .before .before .args in
+    lent-stores (a .out .now) (w .result) (a .at) (omega arith) _ (b .copy .ensures .1) ∙ ap (sets (a .out .now) (a .at)) (w .ensures)
 
 pub put32-spec : {M : Type 1} → statement M
 put32-spec =
     tie.close (tie.spec
-    (λ c κs. search needs) (λ c. search needs) (λ c. search needs) (λ c. search needs) (λ c. search needs)
+    _ (λ c. search needs) (λ c. search needs) (λ c. search needs) (λ c. search needs)
     (λ c κs. search needs) (λ c. search needs) returns)

@@ -1,4 +1,4 @@
--- Two runs of four, one behind the other, are a run of eight.
+-- Two runs of four, one after the other, are a run of eight.
 use Prim.Native.Nat.{_/_, _%_}
 use native.Mathlib.Omega.{arith}
 use borrow.Author.Needs.{needs}

@@ -19,17 +19,18 @@ abbrev μ-loop : tie.MeasureT-loop
 
 loop-again : tie.Need-loop-again Inv-loop μ-loop
 loop-again c =
-    let a = c .before .before .before .before .args in (
+    let b = c .before .before .before in
+    let a = b .before .args in (
       search needs,
-      differ-more (a .ours .now) (a .theirs .now) (c .before .before .before .loop .bits) (c .before .before .before .loop .i)
-          (omega arith) (omega arith) (c .before .before .before .loop .inv .1),
+      differ-more (a .ours .now) (a .theirs .now) (b .loop .bits) (b .loop .i) (omega arith) (omega arith) (b .loop .inv .1),
     )
 
 returns : tie.Need-returns Inv-loop μ-loop
 returns c =
-    let a = c .before .before .args in
-    let e : c .before .loop .i ≡ 32 = omega arith in
-    rw e at (c .before .loop .inv .1) ∙ ap₂ same (take-all 32 (a .ours .now) (omega arith)) (take-all 32 (a .theirs .now) (omega arith))
+    let b = c .before in
+    let a = b .before .args in
+    let e : b .loop .i ≡ 32 = omega arith in
+    rw e at (b .loop .inv .1) ∙ ap₂ same (take-all 32 (a .ours .now) (omega arith)) (take-all 32 (a .theirs .now) (omega arith))
 
 pub differences-spec : {M : Type 1} → statement M
 differences-spec =

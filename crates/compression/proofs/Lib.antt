@@ -1,0 +1,3 @@
+pub mod Bitwise
+pub mod Schedules
+pub mod Constants

@@ -1,0 +1,16 @@
+-- The word is the next one, and its place the first free one.
+use borrow.Author.Needs.{needs}
+use Rattle.compression.specs.Compression.{nextWord}
+use Rattle.compression.proofs.schedule.put_word.Statement.{statement}
+use Rattle.compression.proofs.schedule.put_word.Tie as tie
+
+returns : tie.Need-returns
+unfolding nextWord
+returns c = rw (c .mixed .ensures)
+
+pub put-word-spec : {M : Type 1} → statement M
+put-word-spec =
+    tie.close (tie.spec
+    (λ c. search needs) (λ c. search needs) (λ c. search needs) (λ c. search needs) (λ c. search needs)
+    (λ c. search needs) (λ c. search needs) (λ c. search needs) (λ c. search needs) (λ c. search needs)
+    (λ c. search needs) (λ c κs. search needs) (λ c. search needs) (λ c. search needs) (λ c. search needs) returns)

@@ -1,0 +1,30 @@
+// FIPS 180-4 §6.2.2 for SHA-256: one block into the hash value.
+mod rounds;
+mod schedule;
+mod word;
+
+use rounds::added;
+use rounds::all_rounds;
+ghost use mathlib.Core.Path.{_≡_};
+ghost use lib.ListN.{take};
+ghost use Rattle.compression.specs.Compression as fips;
+
+// A hash value, and the working variables: eight words.
+pub struct Vars {
+    pub a: u32,
+    pub b: u32,
+    pub c: u32,
+    pub d: u32,
+    pub e: u32,
+    pub f: u32,
+    pub g: u32,
+    pub h: u32,
+}
+
+// The hash value after a block, whose sixteen words are the first of w. The others are room for the schedule, whatever they are.
+pub fn compress(v: Vars, w: [u32; 64]) -> Vars
+    ensures { λ r. ⌜ r ≡ fips.compress v (take 16 w) ⌝ }
+{
+    let mut schedule = w;
+    added(v, all_rounds(v, &mut schedule))
+}

@@ -1,0 +1,12 @@
+-- The words that were loaded are the block's.
+use borrow.Author.Needs.{needs}
+use Rattle.sha256.specs.Digests.{afterBlock}
+use Rattle.sha256.proofs.block.absorb_block.Statement.{statement}
+use Rattle.sha256.proofs.block.absorb_block.Tie as tie
+
+returns : tie.Need-returns
+unfolding afterBlock
+returns c = rw (c .compress .ensures, c .before .load .ensures .1)
+
+pub absorb-block-spec : {M : Type 1} → statement M
+absorb-block-spec = tie.close (tie.spec (λ c κs. search needs) _ returns)

@@ -1,0 +1,35 @@
+-- The invariant: the first n words are loaded.
+use mathlib.Core.Path.{_≡_}
+use Prim.Native.Nat.{_≤_, _-_}
+use native.Mathlib.Omega.{arith}
+use lib.ListN.{length, take}
+use borrow.Author.Needs.{needs}
+use Rattle.sha256.specs.Digests.{words}
+use Rattle.sha256.proofs.Hashing.{words-more}
+use Rattle.sha256.proofs.block.load.Statement.{statement}
+use Rattle.sha256.proofs.block.load.Tie as tie
+
+abbrev Inv-loop : tie.InvT-loop
+Inv-loop block w₀ n₀ w n = (n ≤ 16) × (length w ≡ 64) × (take n w ≡ words block n)
+
+abbrev μ-loop : tie.MeasureT-loop
+μ-loop block w₀ n₀ w n = 16 - n
+
+loop-holds : tie.Need-loop-holds Inv-loop μ-loop
+unfolding words
+loop-holds c = search needs
+
+loop-again : tie.Need-loop-again Inv-loop μ-loop
+loop-again c = (search needs, search needs, words-more _ _ _ _ (omega arith) (c .before .before .loop .inv .2) (c .word-at .ensures))
+
+returns : tie.Need-returns Inv-loop μ-loop
+returns c =
+    let l = c .before .loop in
+    let e : l .n ≡ 16 = omega arith in
+    (search needs, rw e at (l .inv .2))
+
+pub load-spec : {M : Type 1} → statement M
+load-spec =
+    tie.close (tie.spec
+    Inv-loop μ-loop loop-holds (λ c. search needs) (λ c κs. search needs) (λ c. search needs) (λ c. search needs)
+    (λ c. search needs) (λ c. search needs) loop-again returns)
