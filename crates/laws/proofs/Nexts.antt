@@ -22,10 +22,14 @@ down-first above (row ∷ rows) e =
     let k = numbered-both row rows e in
     down-first (after above (row .0) (row .1)) rows (k .1) ∙ one-down above (row .0) (row .1) (first rows) (k .0)
 
--- A table a, which answered n, with a table b after it: where n is not 0, and where the code goes on through b from n.
+-- A table a, which answered n, with a table b after it: where n is not 0; where the code goes on through b from n; and where n is 0 and
+-- another function answered b.
 module _ (a b : List (ℕ × Bool)) (good : numbered a ≡ true) {n : ℕ} (e : n ≡ first a) where
   pub above : (n ≡ 0 → ⊥) → n ≡ first (a ++ b)
   above z = rw (first-append a b good, ← e, ne-eqb n 0 z)
 
   pub below : {r : ℕ} → numbered b ≡ true → r ≡ down n b → r ≡ first (a ++ b)
   below g p = rw (first-append a b good, ← e) (p ∙ down-first n b g)
+
+  pub onward : {r : ℕ} → n ≡ 0 → r ≡ first b → r ≡ first (a ++ b)
+  onward z p = rw (first-append a b good, ← e, z) p
