@@ -1,21 +1,22 @@
 -- What is remembered of the expected message is which indexes were accepted, and each count that is answered is theirs: of any pieces whatever.
 use Prim.Native.Nat.{ℕ, zero, suc, _+_, _-_, _*_, _≤_, _<_}
 use mathlib.Core.Path.{_≡_, refl, sym, ap, _∙_}
-use mathlib.Core.List.{List, [], _∷_, _++_}
+use mathlib.Core.List.{List, [], _∷_}
 use mathlib.Core.Bool.{Bool, true, false, cond, not, _||_, true≢false}
 use native.Mathlib.Omega.{arith}
 use lib.Dec.{eqb}
 use lib.ListN.{length, length-set, length-replicate}
 use borrow.Author.Tests.{eqb-true, ne-eqb, not-false}
 use Rattle.laws.proofs.Bools.{or-false, and-false-right}
-use Rattle.laws.proofs.Firsts.{first-quiet}
+use Rattle.laws.proofs.Firsts.{row-false}
+use Rattle.wire.specs.Refusals.{unlikeFirstPiece}
 use Rattle.joining.specs.declared.Progress.{Progress}
 use Rattle.joining.specs.declared.Piece.{Piece}
 use Rattle.joining.specs.declared.Joined.{Joined}
 use Rattle.joining.specs.declared.Arrival.{Arrival}
 use Rattle.joining.specs.declared.Arrival.the-variants.{Refused, Taken, Repeat, Complete}
 use Rattle.joining.specs.Heard.{most, tally, come, has, mark, none}
-use Rattle.joining.specs.Join.{unlike, turnRows, placeRows, joinRefusal, lastOf, expecting, extended, completes, taken, join}
+use Rattle.joining.specs.Join.{unlike, joinRows, joinRefusal, lastOf, expecting, extended, completes, taken, join}
 use Rattle.joining.proofs.Heards.{has-none}
 use Rattle.joining.proofs.Refusals.{fitting}
 use Rattle.joining.proofs.Arriving.{mark-known}
@@ -67,7 +68,7 @@ module _ (F : ℕ) (h : Progress) (p : Piece) (bytes report : List ℕ) (es : Li
 
     like : unlike h p ≡ false
     unfolding joinRefusal
-    like = first-quiet (turnRows F (h .expected) p ++ placeRows F h p bytes report) refl e .1 .1 .1 .1 .1 .0
+    like = row-false unlikeFirstPiece (joinRows F h p bytes report) refl e
 
     room : p .index < length (h .heard)
     room = omega (arith, under .0, under .1, w .long)

@@ -1,7 +1,7 @@
 -- Cutting: "A report of 0 to 64 × F bytes is cut in order into pieces of F bytes, the last holding the remainder of 1 to F; an empty report
 -- is one empty piece."
 use Prim.Native.Nat.{ℕ, _+_, _-_, _*_, _/_}
-use mathlib.Core.List.{List, [], _∷_}
+use mathlib.Core.List.{List, [], _∷_, _++_}
 use mathlib.Core.Bool.{Bool, cond, _||_}
 use lib.Dec.{eqb, ltb, leb}
 use lib.ListN.{length}
@@ -18,13 +18,17 @@ badSize F = eqb F 0 || ltb 16384 F
 abbrev pub pieceCount : ℕ → ℕ → ℕ
 pieceCount F bytes = cond (eqb bytes 0) 1 ((bytes - 1) / F + 1)
 
--- "it refuses with 24, then with 7 if the report is longer than 64 × F or i is not under the count"; 0 is no refusal.
+-- "it refuses with 24, ..."
+abbrev pub sizeRows : ℕ → List (ℕ × Bool)
+sizeRows F = (wrongFragmentSize, badSize F) ∷ []
+
+-- "... then with 7 if the report is longer than 64 × F or i is not under the count".
+abbrev pub pieceRows : ℕ → ℕ → ℕ → List (ℕ × Bool)
+pieceRows F bytes i = (wrongPiece, ltb (F * most) bytes || leb (pieceCount F bytes) i) ∷ []
+
+-- The first refusal that applies; 0 is none.
 unfoldable pub cutRefusal : ℕ → ℕ → ℕ → ℕ
-cutRefusal F bytes i =
-    first
-    ((wrongFragmentSize, badSize F)
-    ∷ (wrongPiece, ltb (F * most) bytes || leb (pieceCount F bytes) i)
-    ∷ [])
+cutRefusal F bytes i = first (sizeRows F ++ pieceRows F bytes i)
 
 -- "Asked for piece i, the cutter answers the count … A refusal gives count 0".
 abbrev pub cutCount : ℕ → ℕ → ℕ → ℕ

@@ -50,18 +50,26 @@ turnRows F expected piece =
     ∷ (futureSequence, ltb expected (piece .sequence))
     ∷ []
 
--- The refusals of a piece that does not go with what has come, or does not fit: 21, 20, 22, 23.
-abbrev pub placeRows : ℕ → Progress → Piece → List ℕ → List ℕ → List (ℕ × Bool)
-placeRows F held piece bytes report =
+-- The refusals of a piece of so many bytes that does not go with what has come, or does not fit into `room` bytes: 21, 20, 22.
+abbrev pub placeRows : ℕ → Progress → Piece → (size room : ℕ) → List (ℕ × Bool)
+placeRows F held piece size room =
     (unlikeFirstPiece, unlike held piece)
-    ∷ (wrongPieceSize, misfit F piece (length bytes))
-    ∷ (noRoom, ltb (length report) (F * piece .index + length bytes))
-    ∷ (unlikeRepeat, conflict F held piece bytes report)
+    ∷ (wrongPieceSize, misfit F piece size)
+    ∷ (noRoom, ltb room (F * piece .index + size))
     ∷ []
 
--- The first refusal that applies: "then 19, 17, 18, 21, 20, 22, 23"; 0 is none.
+-- The refusal of a piece that was heard with other bytes: 23.
+abbrev pub repeatRows : ℕ → Progress → Piece → List ℕ → List ℕ → List (ℕ × Bool)
+repeatRows F held piece bytes report = (unlikeRepeat, conflict F held piece bytes report) ∷ []
+
+-- The table: "then 19, 17, 18, 21, 20, 22, 23".
+abbrev pub joinRows : ℕ → Progress → Piece → List ℕ → List ℕ → List (ℕ × Bool)
+joinRows F held piece bytes report =
+    turnRows F (held .expected) piece ++ (placeRows F held piece (length bytes) (length report) ++ repeatRows F held piece bytes report)
+
+-- The first refusal that applies; 0 is none.
 unfoldable pub joinRefusal : ℕ → Progress → Piece → List ℕ → List ℕ → ℕ
-joinRefusal F held piece bytes report = first (turnRows F (held .expected) piece ++ placeRows F held piece bytes report)
+joinRefusal F held piece bytes report = first (joinRows F held piece bytes report)
 
 -- What no row refuses, as far as counting looks at it.
 pub record Fitting (F : ℕ) (held : Progress) (piece : Piece) (size : ℕ) : Type 0 where

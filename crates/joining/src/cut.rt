@@ -4,7 +4,9 @@ ghost use Prim.Native.Nat.{_<_, _+_, min};
 ghost use lib.ListN.{length};
 ghost use Rattle.joining.specs.Cut.{badSize, pieceCount, cutRefusal, cutCount, cutPiece};
 use super::heard::PIECES;
-use wire::refusals;
+use rows::next;
+use wire::refusals::WRONG_FRAGMENT_SIZE;
+use wire::refusals::WRONG_PIECE;
 
 // The largest fragment size.
 pub const LARGEST: usize = 16384;
@@ -46,13 +48,12 @@ fn piece_count(size: usize, bytes: usize) -> usize
 fn cut_refusal(size: usize, bytes: usize, i: usize) -> u8
     ensures { λ r. ⌜ r ≡ cutRefusal size bytes i ⌝ }
 {
-    if bad_size(size) {
-        return refusals::WRONG_FRAGMENT_SIZE;
+    let n = next(0, WRONG_FRAGMENT_SIZE, bad_size(size));
+    if n != 0 {
+        return n;
     }
-    if (size * PIECES < bytes) | (piece_count(size, bytes) <= i) {
-        return refusals::WRONG_PIECE;
-    }
-    0
+    let pieces = piece_count(size, bytes);
+    next(n, WRONG_PIECE, (size * PIECES < bytes) | (pieces <= i))
 }
 
 // Asked for piece i of a report: whether it can be cut, and into how many pieces.

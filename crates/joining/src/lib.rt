@@ -10,10 +10,19 @@ ghost use Prim.Native.Nat.{_<_, _≤_, _+_, _*_};
 ghost use lib.ListN.{length};
 ghost use Rattle.laws.specs.Rows.{first};
 ghost use Rattle.joining.specs.Heard.{come, mark, most, tally};
-ghost use Rattle.joining.specs.Join.{badIndex, unlike, misfit, conflict, join, reportAfter, expecting, turnRows, joinRefusal, taken, isLast, Fitting};
+ghost use Rattle.joining.specs.Join.{badIndex, unlike, misfit, conflict, join, reportAfter, expecting, turnRows, placeRows, joinRefusal, taken, isLast, Fitting};
 ghost use Rattle.joining.specs.Report.{put};
 use heard::PIECES;
-use wire::refusals;
+use rows::next;
+use wire::refusals::FUTURE_SEQUENCE;
+use wire::refusals::LAST_SEQUENCE;
+use wire::refusals::NO_ROOM;
+use wire::refusals::PAST_SEQUENCE;
+use wire::refusals::UNLIKE_FIRST_PIECE;
+use wire::refusals::UNLIKE_REPEAT;
+use wire::refusals::WRONG_FRAGMENT_SIZE;
+use wire::refusals::WRONG_PIECE;
+use wire::refusals::WRONG_PIECE_SIZE;
 
 // The SequenceNumber that no report has: 2^32 - 1.
 const UNUSED: u32 = 4294967295;
@@ -124,22 +133,31 @@ fn conflict(
 fn turn(size: usize, expected: u32, piece: Piece) -> u8
     ensures { λ r. ⌜ r ≡ first (turnRows size expected piece) ⌝ }
 {
-    if cut::bad_size(size) {
-        return refusals::WRONG_FRAGMENT_SIZE;
-    }
-    if bad_index(piece.count, piece.index) {
-        return refusals::WRONG_PIECE;
-    }
-    if piece.sequence == UNUSED {
-        return refusals::LAST_SEQUENCE;
-    }
-    if piece.sequence < expected {
-        return refusals::PAST_SEQUENCE;
-    }
-    if expected < piece.sequence {
-        return refusals::FUTURE_SEQUENCE;
-    }
-    0
+    let n = next(0, WRONG_FRAGMENT_SIZE, cut::bad_size(size));
+    let n = next(n, WRONG_PIECE, bad_index(piece.count, piece.index));
+    let n = next(n, LAST_SEQUENCE, piece.sequence == UNUSED);
+    let n = next(n, PAST_SEQUENCE, piece.sequence < expected);
+    next(n, FUTURE_SEQUENCE, expected < piece.sequence)
+}
+
+// The first refusal of a piece of so many bytes that does not go with what has come, or does not fit into a report buffer of `room` bytes,
+// 0 where none applies.
+fn place(
+    size: usize,
+    held: Progress,
+    heard: &[bool; PIECES],
+    piece: Piece,
+    given: usize,
+    room: usize,
+) -> u8
+    requires { ⌜ (now heard ≡ held .heard) × (length (now heard) ≡ most) ⌝ }
+    requires { ⌜ (size ≤ 16384) × (piece .index < piece .count) × (piece .count ≤ most) × (given ≤ 18446744073708503039) ⌝ }
+    ensures { λ r. ⌜ r ≡ first (placeRows size held piece given room) ⌝ }
+{
+    let end = size * piece.index + given;
+    let n = next(0, UNLIKE_FIRST_PIECE, unlike(held, heard, piece));
+    let n = next(n, WRONG_PIECE_SIZE, misfit(size, piece, given));
+    next(n, NO_ROOM, room < end)
 }
 
 // The first refusal that applies, 0 where none does.
@@ -154,23 +172,16 @@ fn refusal(
     requires { ⌜ (now heard ≡ held .heard) × (length (now heard) ≡ most) ⌝ }
     ensures { λ r. ⌜ r ≡ joinRefusal size held piece (now (payload .entry)) (now (report .entry)) ⌝ }
 {
-    let early = turn(size, held.expected, piece);
-    if early != 0 {
-        return early;
+    let n = turn(size, held.expected, piece);
+    if n != 0 {
+        return n;
     }
-    if unlike(held, heard, piece) {
-        return refusals::UNLIKE_FIRST_PIECE;
+    let n = place(size, held, heard, piece, payload.len(), report.len());
+    if n != 0 {
+        return n;
     }
-    if misfit(size, piece, payload.len()) {
-        return refusals::WRONG_PIECE_SIZE;
-    }
-    if report.len() < size * piece.index + payload.len() {
-        return refusals::NO_ROOM;
-    }
-    if conflict(size, held, heard, piece, payload, report) {
-        return refusals::UNLIKE_REPEAT;
-    }
-    0
+    let other = conflict(size, held, heard, piece, payload, report);
+    next(n, UNLIKE_REPEAT, other)
 }
 
 // A piece is written from place `start` on: that part of the report buffer is lent on to the copying leaf.

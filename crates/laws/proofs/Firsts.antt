@@ -1,5 +1,5 @@
 -- What a table's answer says, for every table: a number other than 0 is that of the first row whose test holds, and 0 says that no
--- test holds. Of tables one behind the other the second is asked where no row of the first applies.
+-- test holds. Of two tables one after the other the second is asked where no row of the first applies.
 use Prim.Native.Nat.{ℕ, _≤_}
 use mathlib.Core.Path.{_≡_, refl, sym}
 use mathlib.Core.Logic.{inl, inr}
@@ -7,13 +7,16 @@ use mathlib.Core.List.{List, [], _∷_, _++_}
 use mathlib.Core.Bool.{Bool, true, false, cond, not, _&&_, true≢false}
 use native.Mathlib.Omega.{arith}
 use lib.Dec.{leb, eqb}
-use borrow.Author.Tests.{leb-true, eqb-false}
+use borrow.Author.Tests.{leb-true, eqb-true, eqb-false}
 use Rattle.laws.proofs.Bools.{and-true}
-use Rattle.laws.specs.Rows.{first, orElse, numbered, quiet, leads, upTo}
+use Rattle.laws.specs.Rows.{first, orElse, numbered, quiet, testOf, leads, upTo}
 
 both : (a b : Bool) → (not a && b) ≡ true → (a ≡ false) × (b ≡ true)
 both true b e = absurd (true≢false (sym e))
 both false b e = (refl, e)
+
+pub numbered-both : (row : ℕ × Bool) (rows : List (ℕ × Bool)) → numbered (row ∷ rows) ≡ true → (eqb (row .0) 0 ≡ false) × (numbered rows ≡ true)
+numbered-both row rows e = both (eqb (row .0) 0) (numbered rows) e
 
 one-row : (t : Bool) (n x y z : ℕ) → eqb n 0 ≡ false → x ≡ orElse y z → cond t n x ≡ orElse (cond t n y) z
 one-row true n x y z e p = rw e
@@ -22,8 +25,16 @@ one-row false n x y z e p = p
 pub first-append : (a b : List (ℕ × Bool)) → numbered a ≡ true → first (a ++ b) ≡ orElse (first a) (first b)
 first-append [] b e = refl
 first-append (r ∷ a) b e =
-    let k = both (eqb (r .0) 0) (numbered a) e in
+    let k = numbered-both r a e in
     one-row (r .1) (r .0) (first (a ++ b)) (first a) (first b) (k .0) (first-append a b (k .1))
+
+-- Two tables of which neither refuses.
+neither-by : (n m : ℕ) (t : Bool) → eqb n 0 ≡ t → cond t m n ≡ 0 → (n ≡ 0) × (m ≡ 0)
+neither-by n m true t e = (eqb-true n 0 t, e)
+neither-by n m false t e = absurd (eqb-false n 0 t e)
+
+pub neither : (n m : ℕ) → orElse n m ≡ 0 → (n ≡ 0) × (m ≡ 0)
+neither n m e = neither-by n m (eqb n 0) refl e
 
 module _ (n : ℕ) (applies : n ≡ 0 → ⊥) where
   leads-row : (row : ℕ × Bool) (rows : List (ℕ × Bool)) → (first rows ≡ n → leads n rows) → first (row ∷ rows) ≡ n → leads n (row ∷ rows)
@@ -47,8 +58,20 @@ quiet-row (k, false) rows e next p = (refl, next p)
 pub first-quiet : (rows : List (ℕ × Bool)) → numbered rows ≡ true → first rows ≡ 0 → quiet rows
 first-quiet [] e p = tt
 first-quiet (row ∷ rows) e p =
-    let k = both (eqb (row .0) 0) (numbered rows) e in
+    let k = numbered-both row rows e in
     quiet-row row rows (k .0) (first-quiet rows (k .1)) p
+
+-- Where nothing is refused the test of each row is false; a row is named by its number, not by its place.
+testOf-row : (t b x : Bool) → b ≡ false → x ≡ false → cond t b x ≡ false
+testOf-row true b x p q = p
+testOf-row false b x p q = q
+
+testOf-quiet : (n : ℕ) (rows : List (ℕ × Bool)) → quiet rows → testOf n rows ≡ false
+testOf-quiet n [] w = refl
+testOf-quiet n (row ∷ rows) w = testOf-row (eqb (row .0) n) (row .1) (testOf n rows) (w .0) (testOf-quiet n rows (w .1))
+
+pub row-false : (n : ℕ) (rows : List (ℕ × Bool)) → numbered rows ≡ true → first rows ≡ 0 → testOf n rows ≡ false
+row-false n rows e p = testOf-quiet n rows (first-quiet rows e p)
 
 pub quiet-first : (rows : List (ℕ × Bool)) → quiet rows → first rows ≡ 0
 quiet-first [] w = refl

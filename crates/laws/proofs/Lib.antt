@@ -1,6 +1,7 @@
 pub mod Tests
 pub mod ByteLists
 pub mod Firsts
+pub mod Nexts
 pub mod Lists
 pub mod Xor
 pub mod Sames

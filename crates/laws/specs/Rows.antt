@@ -11,9 +11,19 @@ abbrev pub first : List (ℕ × Bool) → ℕ
 first [] = 0
 first (row ∷ rows) = cond (row .1) (row .0) (first rows)
 
--- A table's answer, and where it is 0 that of the table behind it.
+-- A table's answer, and where it is 0 that of the table after it.
 abbrev pub orElse : ℕ → ℕ → ℕ
 orElse n m = cond (eqb n 0) m n
+
+-- One row more: what the rows above it answered, and where that is 0 its own number if its test holds. It stays shut, since it names
+-- `above` twice: opened, its text would double with each row.
+unfoldable pub after : (above number : ℕ) (test : Bool) → ℕ
+after above number test = orElse above (cond test number 0)
+
+-- The rows one after another from the top, as code makes them with `next` of the crate rows.
+abbrev pub down : ℕ → List (ℕ × Bool) → ℕ
+down above [] = above
+down above (row ∷ rows) = down (after above (row .0) (row .1)) rows
 
 -- No row has the number 0.
 abbrev pub numbered : List (ℕ × Bool) → Bool
@@ -24,6 +34,11 @@ numbered (row ∷ rows) = not (eqb (row .0) 0) && numbered rows
 abbrev pub quiet : List (ℕ × Bool) → Type 0
 quiet [] = Unit
 quiet (row ∷ rows) = (row .1 ≡ false) × quiet rows
+
+-- The test of the first row with this number; false where there is none.
+abbrev pub testOf : ℕ → List (ℕ × Bool) → Bool
+testOf n [] = false
+testOf n (row ∷ rows) = cond (eqb (row .0) n) (row .1) (testOf n rows)
 
 -- The first row whose test holds has the number n: before it no test holds.
 abbrev pub leads : ℕ → List (ℕ × Bool) → Type 0

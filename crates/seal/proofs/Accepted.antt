@@ -2,31 +2,24 @@
 -- at the start of the working buffer.
 use Prim.Native.Nat.{ℕ, _+_, _-_, _%_, _≤_, _<_}
 use mathlib.Core.Path.{_≡_, refl, _∙_}
-use mathlib.Core.List.{List, [], _∷_, _++_}
-use mathlib.Core.Bool.{Bool, true, false, not, cond}
+use mathlib.Core.List.{List, _++_}
+use mathlib.Core.Bool.{true, false, not}
 use native.Mathlib.Omega.{arith}
 use lib.ListN.{length, take, drop, getD, List·getD-append, length-drop, length-append}
 use lib.Seq.{drop-append-le, take-append-le}
-use lib.Dec.{ltb, eqb}
-use borrow.Author.Tests.{eq-eqb, ltb-false, eqb-true, eqb-false, not-false}
+use lib.Dec.{eqb}
+use borrow.Author.Tests.{eq-eqb, ltb-false, eqb-true, not-false}
 use Rattle.laws.specs.Bytes.{be32}
-use Rattle.laws.specs.Rows.{first, orElse}
+use Rattle.laws.specs.Rows.{first, orElse, testOf}
 use Rattle.laws.specs.Same.{same}
 use Rattle.laws.proofs.Bools.{or-false}
-use Rattle.laws.proofs.Firsts.{first-quiet}
+use Rattle.laws.proofs.Firsts.{neither, row-false}
+use Rattle.wire.specs.Refusals.{wrongKeys, wrongTag, shortWorking, wrongPadding}
 use Rattle.aes.proofs.Chain.{cbcDecrypt-length}
 use Rattle.seal.specs.Keys.{tagOf}
 use Rattle.seal.specs.Padding.{sealedSize, badPlain, payloadOf}
-use Rattle.seal.specs.Opening.{bodyOf, tagIn, sealedPart, plainOf, noPart, partRefusal, openRefusal, intoUnless, openedInto}
+use Rattle.seal.specs.Opening.{bodyOf, tagIn, sealedPart, plainOf, noPart, keyRows, tagRows, partRows, partRefusal, openRefusal, intoUnless, openedInto}
 use Rattle.seal.proofs.Opened.{Placed, placed, part-blocks}
-
--- Two tables of which neither refuses.
-or-else-zero : (a b : ℕ) (t : Bool) → eqb a 0 ≡ t → cond t b a ≡ 0 → (a ≡ 0) × (b ≡ 0)
-or-else-zero a b true e z = (eqb-true a 0 e, z)
-or-else-zero a b false e z = absurd (eqb-false a 0 e z)
-
-pub neither : (a b : ℕ) → orElse a b ≡ 0 → (a ≡ 0) × (b ≡ 0)
-neither a b z = or-else-zero a b (eqb a 0) refl z
 
 -- Nothing of 10 to 13 applies.
 pub record Accepted (keys m : List ℕ) (start room : ℕ) : Type 0 where
@@ -37,28 +30,21 @@ pub record Accepted (keys m : List ℕ) (start room : ℕ) : Type 0 where
   pub ruled : badPlain (plainOf keys m (sealedPart m start)) ≡ false
 
 module _ (keys m : List ℕ) (start room : ℕ) (e : openRefusal keys m start room ≡ 0) where
-  tables : (noPart (length m) start ≡ 0) × (orElse (first ((10, not (eqb (length keys) 64))
-      ∷ (11, not (same (tagOf keys (bodyOf m)) (tagIn m))) ∷ []))
-      (partRefusal keys m (sealedPart m start) room) ≡ 0)
-  unfolding openRefusal
-  tables = neither _ _ e
-
-  behind : (first ((10, not (eqb (length keys) 64)) ∷ (11, not (same (tagOf keys (bodyOf m)) (tagIn m))) ∷ []) ≡ 0)
-      × (partRefusal keys m (sealedPart m start) room ≡ 0)
-  behind = neither _ _ (tables .1)
-
   pub accepted : Accepted keys m start room
-  unfolding partRefusal
+  unfolding openRefusal partRefusal
   accepted =
-      let q = first-quiet ((10, not (eqb (length keys) 64)) ∷ (11, not (same (tagOf keys (bodyOf m)) (tagIn m))) ∷ []) refl (behind .0) in
-      let r = first-quiet ((12, ltb room (length (sealedPart m start))) ∷ (13, badPlain (plainOf keys m (sealedPart m start))) ∷ []) refl
-      (behind .1) in
+      let part = partRows keys m (sealedPart m start) room in
+      let sealed = keyRows (length keys) ++ tagRows keys m in
+      let placing = neither (noPart (length m) start) (orElse (first sealed) (first part)) e in
+      let z = neither (first sealed) (first part) (placing .1) in
+      let at : (n : ℕ) → testOf n sealed ≡ false = λ n. row-false n sealed refl (z .0) in
+      let in-part : (n : ℕ) → testOf n part ≡ false = λ n. row-false n part refl (z .1) in
       record {
-        place = placed (length m) start (tables .0);
-        keys64 = eqb-true (length keys) 64 (not-false _ (q .0));
-        tag = not-false _ (q .1 .0);
-        roomy = ltb-false room (length (sealedPart m start)) (r .0);
-        ruled = r .1 .0;
+        place = placed (length m) start (placing .0);
+        keys64 = eqb-true (length keys) 64 (not-false _ (at wrongKeys));
+        tag = not-false _ (at wrongTag);
+        roomy = ltb-false room (length (sealedPart m start)) (in-part shortWorking);
+        ruled = in-part wrongPadding;
       }
 
 -- The plain text of an accepted message, and where its payload lies in the working buffer.

@@ -1,23 +1,24 @@
 -- An opened sealed part, by its first and its last block.
 use Prim.Native.Nat.{ℕ, suc, _+_, _-_, _*_, _/_, _%_, _≤_, _<_}
 use mathlib.Core.Path.{_≡_, refl, sym, ap, _∙_}
-use mathlib.Core.List.{List, [], _∷_, _++_}
-use mathlib.Core.Bool.{Bool, true, false, not, _||_}
+use mathlib.Core.List.{List, _++_}
+use mathlib.Core.Bool.{Bool, true, false}
 use native.Mathlib.Omega.{arith}
 use lib.ListN.{length, take, drop, length-drop}
 use lib.Seq.{take-all, length-take-le}
-use lib.Dec.{ltb, leb, eqb}
+use lib.Dec.{leb, eqb}
 use borrow.Author.Tests.{lt-ltb, le-ltb, le-leb, ltb-false, leb-false, eq-eqb, ne-eqb, eqb-true, not-false}
 use Rattle.laws.proofs.Bools.{or-false}
-use Rattle.laws.proofs.Firsts.{first-quiet}
+use Rattle.laws.specs.Rows.{first, orElse, testOf}
+use Rattle.laws.proofs.Firsts.{first-append, neither, row-false}
+use Rattle.wire.specs.Refusals.{tooShort, wrongLength, wrongSealedSize, wrongKeys}
 use Rattle.aes.specs.Key.{expandKey}
 use Rattle.aes.specs.Cbc.{cbcDecrypt, cbcDecryptBlock, blockBefore, written}
 use Rattle.aes.proofs.Chain.{cbcDecrypt-length}
 use Rattle.aes.proofs.Ends.{cbcDecrypt-first, cbcDecrypt-last}
 use Rattle.seal.specs.Padding.{badPlain, badBlocks}
-use Rattle.seal.specs.Opening.{bodyOf, tagIn, sealedPart, plainOf, noPart, partRefusal, partInto, openRefusal, openedInto, intoUnless}
-use Rattle.seal.specs.Keys.{vector, tagOf}
-use Rattle.laws.specs.Same.{same}
+use Rattle.seal.specs.Opening.{sealedPart, plainOf, noPartRows, noPart, keyRows, earlyRows, tagRows, partRows, partRefusal, partInto, openRefusal, openedInto, intoUnless}
+use Rattle.seal.specs.Keys.{vector}
 use Rattle.seal.proofs.Padded.{badPlain-blocks}
 
 module _ (keys : List (List ℕ)) (v sealed : List ℕ) (blocks : length sealed % 16 ≡ 0) where
@@ -70,13 +71,12 @@ pub record Placed (given start : ℕ) : Type 0 where
 pub placed : (given start : ℕ) → noPart given start ≡ 0 → Placed given start
 unfolding noPart
 placed given start e =
-    let q = first-quiet ((1, ltb given 42) ∷ (3, ltb 65535 given)
-    ∷ (9, leb (given - 32) start || not (eqb ((given - 32 - start) % 16) 0)) ∷ []) refl e in
-    let nine = or-false (leb (given - 32) start) _ (q .1 .1 .0) in
-    let long = ltb-false given 42 (q .0) in
-    let short = ltb-false 65535 given (q .1 .0) in
+    let rows = noPartRows given start in
+    let at : (n : ℕ) → testOf n rows ≡ false = λ n. row-false n rows refl e in
+    let nine = or-false (leb (given - 32) start) _ (at wrongSealedSize) in
+    let short = ltb-false 65535 given (at wrongLength) in
     record {
-      long = long;
+      long = ltb-false given 42 (at tooShort);
       short = omega arith;
       before-tag = leb-false (given - 32) start (nine .0);
       blocks = eqb-true _ 0 (not-false _ (nine .1));
@@ -122,36 +122,42 @@ module _ (keys m sealed working : List ℕ) where
       let t = le-ltb (length working) (length sealed) h in
       (rw (t, b), rw (t, b, cbcDecrypt-length _ _ sealed blocks))
 
--- The way through `open`: each return is the row that led there, and a refusal leaves the working buffer alone.
+-- What the rows before the tag leave.
+pub early-placed : (given start keys : ℕ) → first (earlyRows given start keys) ≡ 0 → Placed given start × (keys ≡ 64)
+unfolding noPart
+early-placed given start keys e =
+    let z = neither _ _ (sym (first-append (noPartRows given start) (keyRows keys) refl) ∙ e) in
+    (placed given start (z .0), eqb-true keys 64 (not-false _ (row-false wrongKeys (keyRows keys) refl (z .1))))
+
+-- The way through `open`: the tables one after the other are one, and a refusal leaves the working buffer alone.
 module _ (keys m : List ℕ) (start : ℕ) (working : List ℕ) where
+  -- The rows after the tag.
+  abbrev pub lateRows : List (ℕ × Bool)
+  lateRows = partRows keys m (sealedPart m start) (length working)
+
+  abbrev openRows : List (ℕ × Bool)
+  openRows = earlyRows (length m) start (length keys) ++ (tagRows keys m ++ lateRows)
+
+  one-table : first openRows ≡ openRefusal keys m start (length working)
+  unfolding openRefusal noPart partRefusal
+  one-table =
+      let rest = keyRows (length keys) ++ tagRows keys m in
+      first-append (noPartRows (length m) start) (rest ++ lateRows) refl
+      ∙ ap (λ (n : ℕ). orElse (first (noPartRows (length m) start)) n) (first-append rest lateRows refl)
+
   abbrev pub Answered : ℕ → List ℕ → Type 0
   Answered n after = (n ≡ openRefusal keys m start (length working)) × (after ≡ openedInto keys m start working)
 
-  refused : (n : ℕ) → (n ≡ 0 → ⊥) → n ≡ openRefusal keys m start (length working) → Answered n working
+  pub refused : {n : ℕ} → (n ≡ 0 → ⊥) → n ≡ first openRows → Answered n working
   unfolding openedInto
-  refused n h e = (e, rw (← e) (sym (into-refused n (plainOf keys m (sealedPart m start)) working h)))
+  refused {n} h e =
+      let r = e ∙ one-table in
+      (r, rw (← r) (sym (into-refused n (plainOf keys m (sealedPart m start)) working h)))
 
-  pub misplaced : (n : ℕ) → (n ≡ 0 → ⊥) → n ≡ noPart (length m) start → Answered n working
-  unfolding openRefusal
-  misplaced n h e = refused n h (rw (← e, ne-eqb n 0 h))
-
-  module _ (there : noPart (length m) start ≡ 0) where
-    pub no-keys : (length keys ≡ 64 → ⊥) → Answered 10 working
-    unfolding openRefusal
-    no-keys h = refused 10 (λ e. omega arith) (rw (there, ne-eqb (length keys) 64 h))
-
-    module _ (whole : length keys ≡ 64) where
-      pub other-tag : not (same (tagOf keys (bodyOf m)) (tagIn m)) ≡ true → Answered 11 working
-      unfolding openRefusal
-      other-tag t = refused 11 (λ e. omega arith) (rw (there, eq-eqb (length keys) 64 whole, t))
-
-      pub right-tag : not (same (tagOf keys (bodyOf m)) (tagIn m)) ≡ false → (n : ℕ) (after : List ℕ)
-          → n ≡ partRefusal keys m (sealedPart m start) (length working) → after ≡ partInto keys m (sealedPart m start) working → Answered n after
-      unfolding openRefusal openedInto partInto
-      right-tag t n after r a =
-          let e : openRefusal keys m start (length working) ≡ partRefusal keys m (sealedPart m start) (length working) =
-          rw (there, eq-eqb (length keys) 64 whole, t) in
-          (r ∙ sym e, a ∙ rw e)
+  pub opened : {n : ℕ} {after : List ℕ} → n ≡ first openRows → n ≡ partRefusal keys m (sealedPart m start) (length working)
+      → after ≡ partInto keys m (sealedPart m start) working → Answered n after
+  unfolding openedInto partInto
+  opened e p a = let r = e ∙ one-table in (r, a ∙ rw (sym p ∙ r))
 
 -- The sealed part of a message that is placed: whole blocks, and not none.
 pub part-blocks : (m : List ℕ) (start : ℕ) → Placed (length m) start

@@ -1,23 +1,25 @@
 -- The way through `seal`: part and tag, one behind the other, make the sealed message.
 use Prim.Native.Nat.{ℕ, _+_, _-_, _%_, _≤_, _<_}
 use mathlib.Core.Path.{_≡_, refl, sym, _∙_}
-use mathlib.Core.List.{List, [], _∷_, _++_, append-assoc}
+use mathlib.Core.List.{List, _++_, append-assoc}
 use native.Mathlib.Omega.{arith}
 use borrow.Rule.Slice.PartMut.{putMid}
 use lib.ListN.{length, take, drop, length-append, length-drop}
 use lib.Seq.{sets, sets-eq, length-take-le, take-at, drop-at, drop-drop}
 use borrow.Author.Tests.{eq-eqb, ne-eqb, ltb-false, eqb-true, not-false}
-use lib.Dec.{ltb, eqb}
-use mathlib.Core.Bool.{not, cond}
+use lib.Dec.{eqb}
+use mathlib.Core.Bool.{false, cond}
 use Rattle.laws.proofs.Parts.{bytesAt-take}
-use Rattle.laws.proofs.Firsts.{first-quiet}
+use Rattle.laws.specs.Rows.{testOf}
+use Rattle.laws.proofs.Firsts.{row-false}
+use Rattle.wire.specs.Refusals.{tooShort, wrongLength, wrongKeys, noRoom}
 use Rattle.sha256.proofs.Lengths.{length-hmac}
 use Rattle.aes.specs.Key.{expandKey}
 use Rattle.aes.specs.Cbc.{cbcEncrypt}
 use Rattle.aes.proofs.Chain.{cbcEncrypt-length}
 use Rattle.seal.specs.Keys.{encryptionKey, tagKey, vectorBlock, vector, tagOf}
 use Rattle.seal.specs.Padding.{sealedSize, plainText}
-use Rattle.seal.specs.Sealed.{sealedBody, sealedMessage, sealRefusal, sealedInto}
+use Rattle.seal.specs.Sealed.{sealedBody, sealedMessage, sealRows, sealRefusal, sealedInto}
 use Rattle.seal.proofs.Padded.{sealedSize-blocks, length-plainText}
 
 -- The vector looks at the header alone.
@@ -60,13 +62,13 @@ pub record Fit (keys start size room : ℕ) : Type 0 where
 pub fit : (keys start size room : ℕ) → sealRefusal keys start size room ≡ 0 → Fit keys start size room
 unfolding sealRefusal
 fit keys start size room e =
-    let q = first-quiet ((1, ltb start 42) ∷ (3, ltb 65503 (start + sealedSize size)) ∷ (10, not (eqb keys 64))
-    ∷ (22, ltb room (start + sealedSize size + 32)) ∷ []) refl e in
+    let rows = sealRows keys start size room in
+    let at : (n : ℕ) → testOf n rows ≡ false = λ n. row-false n rows refl e in
     record {
-      keys64 = eqb-true keys 64 (not-false _ (q .1 .1 .0));
-      behind = ltb-false start 42 (q .0);
-      short = ltb-false 65503 (start + sealedSize size) (q .1 .0);
-      roomy = ltb-false room (start + sealedSize size + 32) (q .1 .1 .1 .0);
+      keys64 = eqb-true keys 64 (not-false _ (at wrongKeys));
+      behind = ltb-false start 42 (at tooShort);
+      short = ltb-false 65503 (start + sealedSize size) (at wrongLength);
+      roomy = ltb-false room (start + sealedSize size + 32) (at noRoom);
     }
 
 pub small : (size start : ℕ) → start + sealedSize size ≤ 65503 → size < 4294967296

@@ -1,7 +1,7 @@
 -- Opening: the refusals 10 to 13 of a sealed message whose sealed part starts at a place, and what the working buffer then holds.
 use Prim.Native.Nat.{ℕ, _-_, _%_}
 use mathlib.Core.List.{List, [], _∷_, _++_}
-use mathlib.Core.Bool.{not, cond, _||_}
+use mathlib.Core.Bool.{Bool, not, cond, _||_}
 use lib.ListN.{length, take, drop}
 use lib.Dec.{ltb, leb, eqb}
 use Rattle.laws.specs.Rows.{first, orElse}
@@ -28,29 +28,51 @@ sealedPart m start = take (length m - 32 - start) (drop start m)
 unfoldable pub plainOf : List ℕ → List ℕ → List ℕ → List ℕ
 plainOf keys m sealed = cbcDecrypt (expandKey (encryptionKey keys)) (vector keys m) sealed
 
+-- 9: "sealed part empty or no multiple of 16", of a sealed part from a place to the tag.
+abbrev pub noBlocks : (given start : ℕ) → Bool
+noBlocks given start = leb (given - 32) start || not (eqb ((given - 32 - start) % 16) 0)
+
 -- The rows of 1 to 9 without which a sealed part that starts at a place, or the tag, would not be there: they never apply to what the
 -- reader of headers has passed.
-unfoldable pub noPart : ℕ → ℕ → ℕ
-noPart given start = first
-    ((tooShort, ltb given 42)
+abbrev pub noPartRows : (given start : ℕ) → List (ℕ × Bool)
+noPartRows given start =
+    (tooShort, ltb given 42)
     ∷ (wrongLength, ltb 65535 given)
-    ∷ (wrongSealedSize, leb (given - 32) start || not (eqb ((given - 32 - start) % 16) 0))
-    ∷ [])
+    ∷ (wrongSealedSize, noBlocks given start)
+    ∷ []
 
--- The table's rows 12 and 13, of a sealed part and a working buffer of `room` bytes.
-unfoldable pub partRefusal : List ℕ → List ℕ → List ℕ → ℕ → ℕ
-partRefusal keys m sealed room = first
-    ((shortWorking, ltb room (length sealed))
+-- The first of them that applies; 0 is none.
+unfoldable pub noPart : (given start : ℕ) → ℕ
+noPart given start = first (noPartRows given start)
+
+-- The table's row 10, "keys not 64 bytes".
+abbrev pub keyRows : (keys : ℕ) → List (ℕ × Bool)
+keyRows keys = (wrongKeys, not (eqb keys 64)) ∷ []
+
+-- The rows before the tag is judged.
+abbrev pub earlyRows : (given start keys : ℕ) → List (ℕ × Bool)
+earlyRows given start keys = noPartRows given start ++ keyRows keys
+
+-- Its row 11, "tag differs".
+abbrev pub tagRows : (keys m : List ℕ) → List (ℕ × Bool)
+tagRows keys m = (wrongTag, not (same (tagOf keys (bodyOf m)) (tagIn m))) ∷ []
+
+-- Its rows 12 and 13, of a sealed part and a working buffer of `room` bytes.
+abbrev pub partRows : (keys m sealed : List ℕ) (room : ℕ) → List (ℕ × Bool)
+partRows keys m sealed room =
+    (shortWorking, ltb room (length sealed))
     ∷ (wrongPadding, badPlain (plainOf keys m sealed))
-    ∷ [])
+    ∷ []
+
+-- The first of 12 and 13 that applies; 0 is none.
+unfoldable pub partRefusal : List ℕ → List ℕ → List ℕ → ℕ → ℕ
+partRefusal keys m sealed room = first (partRows keys m sealed room)
 
 -- The table's rows 10 to 13, the first that applies.
 unfoldable pub openRefusal : List ℕ → List ℕ → ℕ → ℕ → ℕ
-openRefusal keys m start room = orElse (noPart (length m) start) (orElse (first
-    ((wrongKeys, not (eqb (length keys) 64))
-    ∷ (wrongTag, not (same (tagOf keys (bodyOf m)) (tagIn m)))
-    ∷ []))
-    (partRefusal keys m (sealedPart m start) room))
+openRefusal keys m start room =
+    orElse (noPart (length m) start)
+    (orElse (first (keyRows (length keys) ++ tagRows keys m)) (partRefusal keys m (sealedPart m start) room))
 
 -- "untouched by refusals 1 to 13 … After a sealed message got past 13 its first bytes hold the opened sealed part, the rest is unchanged".
 unfoldable pub intoUnless : ℕ → List ℕ → List ℕ → List ℕ

@@ -9,6 +9,7 @@ use crate::key::block_at;
 use crate::key::tag_of;
 use crate::key::vector;
 use crate::padding::bad_blocks;
+use rows::next;
 use wire::header::SHORTEST;
 use wire::header::TAG;
 use wire::refusals::SHORT_WORKING;
@@ -22,29 +23,36 @@ ghost use mathlib.Core.Path.{_≡_};
 ghost use mathlib.Core.Bool.{not};
 ghost use Prim.Native.Nat.{_-_, _≤_, _<_, _/_, _%_};
 ghost use lib.ListN.{length};
+ghost use Rattle.laws.specs.Rows.{first};
 ghost use Rattle.laws.specs.Same.{same};
 ghost use Rattle.aes.specs.Cbc.{cbcDecrypt, blockBefore};
 ghost use Rattle.seal.specs.Keys.{tagOf};
 ghost use Rattle.seal.specs.Padding.{badPlain};
-ghost use Rattle.seal.specs.Opening.{bodyOf, tagIn, noPart, partRefusal, partInto, openRefusal, openedInto};
+ghost use Rattle.seal.specs.Opening.{bodyOf, tagIn, noBlocks, earlyRows, partRefusal, partInto, openRefusal, openedInto};
 
-// The number of the first of 1, 3 and 9 that applies to a message of `given` bytes whose sealed part starts at `start`, or 0.
-fn no_part(given: usize, start: usize) -> u8
-    ensures { λ r. ⌜ r ≡ noPart given start ⌝ }
+// Refusal 9: whether what stands from `start` to the tag of a message of `given` bytes is empty or no multiple of 16.
+fn no_blocks(given: usize, start: usize) -> bool
+    ensures { λ r. ⌜ r ≡ noBlocks given start ⌝ }
 {
-    if given < SHORTEST {
-        return TOO_SHORT;
+    if given < TAG {
+        return true;
     }
-    if 65535 < given {
-        return WRONG_LENGTH;
+    let end = given - TAG;
+    if end <= start {
+        return true;
     }
-    if given - TAG <= start {
-        return WRONG_SEALED_SIZE;
-    }
-    if (given - TAG - start) % 16 != 0 {
-        return WRONG_SEALED_SIZE;
-    }
-    0
+    (end - start) % 16 != 0
+}
+
+// The number of the first of 1, 3, 9 and 10 that applies to a message of `given` bytes whose sealed part starts at `start`, given `keys` key
+// bytes, or 0.
+fn unopenable(given: usize, start: usize, keys: usize) -> u8
+    ensures { λ r. ⌜ r ≡ first (earlyRows given start keys) ⌝ }
+{
+    let n = next(0, TOO_SHORT, given < SHORTEST);
+    let n = next(n, WRONG_LENGTH, 65535 < given);
+    let n = next(n, WRONG_SEALED_SIZE, no_blocks(given, start));
+    next(n, WRONG_KEYS, keys != KEYS)
 }
 
 // Refusal 11: whether the message's last 32 bytes are other than the tag of what stands before them.
@@ -109,15 +117,13 @@ pub fn open(keys: &[u8], message: &[u8], start: usize, working: &mut [u8]) -> u8
     ensures { λ r. ⌜ r ≡ openRefusal (now (keys .entry)) (now (message .entry)) start (length (now (working .entry))) ⌝ }
     ensures { λ _. ⌜ now (working .exit) ≡ openedInto (now (keys .entry)) (now (message .entry)) start (now (working .entry)) ⌝ }
 {
-    let misplaced = no_part(message.len(), start);
-    if misplaced != 0 {
-        return misplaced;
+    let n = unopenable(message.len(), start, keys.len());
+    if n != 0 {
+        return n;
     }
-    if keys.len() != KEYS {
-        return WRONG_KEYS;
-    }
-    if wrong_tag(keys, message) {
-        return WRONG_TAG;
+    let n = next(n, WRONG_TAG, wrong_tag(keys, message));
+    if n != 0 {
+        return n;
     }
     let end = message.len() - TAG;
     open_part(keys, message, &message[start..end], working)

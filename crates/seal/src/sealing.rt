@@ -9,6 +9,7 @@ use crate::key::tag_of;
 use crate::key::vector;
 use crate::padding::padding;
 use crate::padding::sealed_size;
+use rows::next;
 use wire::header::SHORTEST;
 use wire::header::TAG;
 use wire::refusals::NO_ROOM;
@@ -18,6 +19,8 @@ use wire::refusals::WRONG_LENGTH;
 use writer::stores::store_bytes;
 use writer::stores::store32;
 ghost use mathlib.Core.Path.{_≡_};
+ghost use lib.Dec.{ltb};
+ghost use Rattle.laws.specs.Rows.{first};
 ghost use Prim.Native.Nat.{_+_, _≤_, _<_, _^_};
 ghost use lib.Seq.{sets};
 ghost use lib.ListN.{length, take};
@@ -25,7 +28,7 @@ ghost use Rattle.seal.specs.Padding.{sealedSize, plainText};
 ghost use Rattle.aes.specs.Key.{expandKey};
 ghost use Rattle.aes.specs.Cbc.{cbcEncrypt};
 ghost use Rattle.seal.specs.Keys.{encryptionKey, tagOf};
-ghost use Rattle.seal.specs.Sealed.{sealRefusal, sealedInto};
+ghost use Rattle.seal.specs.Sealed.{lengthRows, sealRefusal, sealedInto};
 
 // The plain text of a payload, over the whole of its room: of sixteen padding bytes those stay that have room.
 fn put_plain(payload: &[u8], room: &mut [u8])
@@ -59,31 +62,40 @@ fn encrypt_part(keys: &[u8], first: [u8; 16], payload: &[u8], room: &mut [u8])
     aes::cbc::cbc_encrypt_in_place(&round_keys, first, room);
 }
 
-// The number of the first of 1, 3, 10 and 22 that applies to sealing a payload of `size` bytes behind the first `start` bytes of an output of
-// `room` bytes, or 0.
+// Refusal 3: whether a payload of `size` bytes, sealed after the first `start` bytes, leaves no room for the tag in 65,535 bytes. The sum is not
+// formed before it is known to fit.
+fn too_long(start: usize, size: usize) -> bool
+    ensures { λ r. ⌜ r ≡ ltb 65503 (start + sealedSize size) ⌝ }
+{
+    if 65535 < start {
+        return true;
+    }
+    if 65535 < size {
+        return true;
+    }
+    let end = start + sealed_size(size as u32);
+    65503 < end
+}
+
+// The number of the first of 1, 3 and 10 that applies to sealing a payload of `size` bytes after the first `start` bytes, or 0.
+fn unsealable(keys: usize, start: usize, size: usize) -> u8
+    ensures { λ r. ⌜ r ≡ first (lengthRows keys start size) ⌝ }
+{
+    let n = next(0, TOO_SHORT, start < SHORTEST);
+    let n = next(n, WRONG_LENGTH, too_long(start, size));
+    next(n, WRONG_KEYS, keys != KEYS)
+}
+
+// The same, and 22 for an output of `room` bytes.
 fn refused(keys: usize, start: usize, size: usize, room: usize) -> u8
     ensures { λ r. ⌜ r ≡ sealRefusal keys start size room ⌝ }
 {
-    if start < SHORTEST {
-        return TOO_SHORT;
-    }
-    if 65535 < start {
-        return WRONG_LENGTH;
-    }
-    if 65535 < size {
-        return WRONG_LENGTH;
+    let n = unsealable(keys, start, size);
+    if n != 0 {
+        return n;
     }
     let end = start + sealed_size(size as u32);
-    if 65503 < end {
-        return WRONG_LENGTH;
-    }
-    if keys != KEYS {
-        return WRONG_KEYS;
-    }
-    if room < end + TAG {
-        return NO_ROOM;
-    }
-    0
+    next(n, NO_ROOM, room < end + TAG)
 }
 
 // Seals a payload behind the first `start` bytes of the output, which hold the message's header and chain: the number of the first refusal that

@@ -10,8 +10,10 @@ use borrow.Author.Tests.{ltb-false, leb-false, eqb-true, eqb-false, not-false, e
 use lib.ListN.{length}
 use lib.Dec.{ltb, leb, eqb}
 use Rattle.laws.specs.Bytes.{be8, be16}
-use Rattle.laws.proofs.Firsts.{first-quiet}
+use Rattle.laws.specs.Rows.{testOf}
+use Rattle.laws.proofs.Firsts.{row-false}
 use Rattle.laws.proofs.Bools.{or-false, or4-false, and-true, and-false-right}
+use Rattle.wire.specs.Refusals.{tooShort, wrongSignature, wrongLength, wrongVersion, wrongType, wrongFlags, wrongPiece, wrongChain, wrongSealedSize}
 use Rattle.wire.specs.Chain.{readChain, leaves, isBroken}
 use Rattle.wire.specs.Fields.{badKind, badFlags, badPiece, mostPieces, isSealed, hmacFlag, encryptedFlag, tagSize}
 use Rattle.wire.specs.Reader.{headerOf, roomOf, chainOf, headerRows, rowsOf, refusalWith, refusalOf, readHeader}
@@ -98,18 +100,19 @@ sixteens n e =
 pub good : (m : List ℕ) → refusalOf m ≡ 0 → Good m
 unfolding refusalOf refusalWith rowsOf headerRows
 good m e =
-    let q = first-quiet (rowsOf m (headerOf m) (chainOf m)) refl e in
-    let size = or-false (ltb (be16 m 2) 42) _ (q .1 .1 .0) in
+    let rows = rowsOf m (headerOf m) (chainOf m) in
+    let at : (n : ℕ) → testOf n rows ≡ false = λ n. row-false n rows refl e in
+    let size = or-false (ltb (be16 m 2) 42) _ (at wrongLength) in
     record {
-      long = ltb-false (length m) 42 (q .0);
-      signature = eqb-true (be16 m 0) 0x3030 (not-false _ (q .1 .0));
+      long = ltb-false (length m) 42 (at tooShort);
+      signature = eqb-true (be16 m 0) 0x3030 (not-false _ (at wrongSignature));
       size = eqb-true (be16 m 2) (length m) (not-false _ (size .1));
-      version = eqb-true (be8 m 4) 3 (not-false _ (q .1 .1 .1 .0));
-      kind = q .1 .1 .1 .1 .0;
-      flags = q .1 .1 .1 .1 .1 .0;
-      piece = q .1 .1 .1 .1 .1 .1 .0;
-      chained = q .1 .1 .1 .1 .1 .1 .1 .0;
-      blocks = λ s. sixteens (leaves (chainOf m)) (and-false-right _ _ (q .1 .1 .1 .1 .1 .1 .1 .1 .0) s);
+      version = eqb-true (be8 m 4) 3 (not-false _ (at wrongVersion));
+      kind = at wrongType;
+      flags = at wrongFlags;
+      piece = at wrongPiece;
+      chained = at wrongChain;
+      blocks = λ s. sixteens (leaves (chainOf m)) (and-false-right _ _ (at wrongSealedSize) s);
     }
 
 -- What holds of what `read_header` answers for a message that it accepts.

@@ -20,6 +20,7 @@ use super::refusals::WRONG_SEALED_SIZE;
 use super::refusals::WRONG_SIGNATURE;
 use super::refusals::WRONG_TYPE;
 use super::refusals::WRONG_VERSION;
+use rows::next;
 ghost use mathlib.Core.Path.{_≡_};
 ghost use Prim.Native.Nat.{_≤_};
 ghost use Rattle.laws.specs.Rows.{first};
@@ -184,34 +185,17 @@ fn judge(
 ) -> u8
     ensures { λ r. ⌜ r ≡ first (headerRows given signature size version h broken rest) ⌝ }
 {
-    if given < SHORTEST {
-        return TOO_SHORT;
-    }
-    if signature != Header::SIGNATURE {
-        return WRONG_SIGNATURE;
-    }
-    if ((size as usize) < SHORTEST) | ((size as usize) != given) {
-        return WRONG_LENGTH;
-    }
-    if version != Header::VERSION {
-        return WRONG_VERSION;
-    }
-    if bad_kind(h.kind) {
-        return WRONG_TYPE;
-    }
-    if bad_flags(h.kind, h.flags) {
-        return WRONG_FLAGS;
-    }
-    if bad_piece(h.kind, h.index, h.count) {
-        return WRONG_PIECE;
-    }
-    if broken {
-        return WRONG_CHAIN;
-    }
-    if is_sealed(h.flags) & ((rest == 0) | (rest % 16 != 0)) {
-        return WRONG_SEALED_SIZE;
-    }
-    0
+    let length = size as usize;
+    let unsealed = (rest == 0) | (rest % 16 != 0);
+    let n = next(0, TOO_SHORT, given < SHORTEST);
+    let n = next(n, WRONG_SIGNATURE, signature != Header::SIGNATURE);
+    let n = next(n, WRONG_LENGTH, (length < SHORTEST) | (length != given));
+    let n = next(n, WRONG_VERSION, version != Header::VERSION);
+    let n = next(n, WRONG_TYPE, bad_kind(h.kind));
+    let n = next(n, WRONG_FLAGS, bad_flags(h.kind, h.flags));
+    let n = next(n, WRONG_PIECE, bad_piece(h.kind, h.index, h.count));
+    let n = next(n, WRONG_CHAIN, broken);
+    next(n, WRONG_SEALED_SIZE, is_sealed(h.flags) & unsealed)
 }
 
 // The first refusal of 1 to 9 that applies, given the header and the chain as they were read.

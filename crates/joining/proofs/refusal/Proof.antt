@@ -1,113 +1,70 @@
--- The first table has no row that applies, so the answer is the second's; its rows in their order.
-use Prim.Native.Nat.{_*_, _≤_}
-use mathlib.Core.Path.{_≡_, sym, _∙_}
-use native.Mathlib.Omega.{arith}
+-- Three tables one after the other. What the first leaves is required by the second, and what the two leave by the third.
+use Prim.Native.Nat.{ℕ}
+use mathlib.Core.Bool.{Bool}
+use mathlib.Core.List.{List, _++_}
+use mathlib.Core.Path.{_≡_, refl, sym, _∙_}
+use lib.ListN.{length}
 use borrow.Author.Needs.{needs}
-use borrow.Author.Tests.{lt-ltb, le-ltb}
+use borrow.Author.Tests.{ltb-false}
 use Rattle.laws.specs.Rows.{first}
-use Rattle.joining.specs.Heard.{most}
-use Rattle.joining.specs.Join.{placeRows, joinRefusal}
-use Rattle.wire.specs.Fields.{mostPieces}
-use Rattle.joining.proofs.Cuts.{place-bound}
-use Rattle.joining.proofs.Refusals.{InTurn, in-turn, refusal-turn, refusal-place}
+use Rattle.laws.proofs.Firsts.{row-false}
+use Rattle.laws.proofs.Nexts.{above, onward, below}
+use Rattle.wire.specs.Refusals.{noRoom}
+use Rattle.joining.specs.Join.{turnRows, placeRows, repeatRows, joinRefusal}
+use Rattle.joining.proofs.Refusals.{InTurn, in-turn}
 use Rattle.joining.proofs.refusal.Statement.{statement}
 use Rattle.joining.proofs.refusal.Tie as tie
 
-abbrev entry : tie.Else1 → tie.Start
-entry c = c .before .before .before .before
+abbrev turns : tie.Start → List (ℕ × Bool)
+turns s = let a = s .args in turnRows (a .size) (a .held .expected) (a .piece)
+
+abbrev places : tie.Start → List (ℕ × Bool)
+places s = let a = s .args in placeRows (a .size) (a .held) (a .piece) (length (a .payload .now)) (length (a .report .now))
+
+abbrev repeats : tie.Start → List (ℕ × Bool)
+repeats s = let a = s .args in repeatRows (a .size) (a .held) (a .piece) (a .payload .now) (a .report .now)
 
 -- The piece is one of the expected message.
-known : (c : tie.Else1) → let s = entry c .args in InTurn (s .size) (s .held .expected) (s .piece)
-known c = let s = entry c .args in in-turn (s .size) (s .held .expected) (s .piece) (sym (c .before .turn .ensures) ∙ c .if1 .left)
+known : (c : tie.Else1) → let s = c .before .before .before .before .args in InTurn (s .size) (s .held .expected) (s .piece)
+known c = in-turn _ _ _ (sym (c .before .turn .ensures) ∙ c .if1 .left)
 
--- Its refusal is the second table's.
-second : (c : tie.Else1) → let s = entry c .args in
-    first (placeRows (s .size) (s .held) (s .piece) (s .payload .now) (s .report .now))
-    ≡ joinRefusal (s .size) (s .held) (s .piece) (s .payload .now) (s .report .now)
-second c =
-    let s = entry c .args in
-    refusal-place (s .size) (s .held) (s .piece) (s .payload .now) (s .report .now) _ (c .before .turn .ensures) (c .if1 .left)
-
--- F × i: a bound that omega takes.
-bound : (c : tie.Else1) → let s = entry c .args in s .size * s .piece .index ≤ 16384 * most
-bound c = let s = entry c .args in let k = known c in place-bound (s .size) (s .piece .index) most (k .small) (omega arith)
+-- What the first two tables answered.
+two : (c : tie.After-place) → let s = c .before .before .before .before .before in c .place .result ≡ first (turns s ++ places s)
+two c =
+    let s = c .before .before .before .before .before in
+    onward (turns s) (places s) refl (c .before .before .turn .ensures) (c .before .if1 .left) (c .place .ensures)
 
 returns : tie.Need-returns
+unfolding joinRefusal
 returns c =
-    let s = c .before .before .before .before .args in
-    refusal-turn (s .size) (s .held) (s .piece) (s .payload .now) (s .report .now) _ (c .before .turn .ensures) (c .if1 .taken)
+    let s = c .before .before .before .before in
+    above (turns s) (places s ++ repeats s) refl (c .before .turn .ensures) (c .if1 .taken)
+
+place-requires : tie.Need-place-requires
+place-requires c κs =
+    let k = known c in
+    (c .before .before .before .before .pre, (k .small, k .under, k .few, search needs))
 
 returns-2 : tie.Need-returns-2
-returns-2 c = rw (← (second (c .before .before)), ← (c .before .unlike .ensures), c .if2 .taken)
-
-misfit-requires : tie.Need-misfit-requires
-misfit-requires c κs = known (c .before .before) .under
-
-returns-3 : tie.Need-returns-3
-returns-3 c =
-    let u = c .before .before in
-    rw (← (second (u .before .before)), ← (u .before .unlike .ensures), u .if2 .left, ← (c .before .misfit .ensures), c .if3 .taken)
-
-mul-if4 : tie.Need-mul-if4
-unfolding mostPieces
-mul-if4 c = omega (arith, bound (c .before .before .before .before .before))
-
-add-if4 : tie.Need-add-if4
-unfolding mostPieces
-add-if4 c = omega (arith, bound (c .before .before .before .before .before))
-
-returns-4 : tie.Need-returns-4
-returns-4 c =
-    let m = c .before .before in
-    let u = m .before .before in
-    rw (
-      ← (second (u .before .before)),
-      ← (u .before .unlike .ensures),
-      u .if2 .left,
-      ← (m .before .misfit .ensures),
-      m .if3 .left,
-      lt-ltb _ _ (c .if4 .taken),
-    )
+unfolding joinRefusal
+returns-2 c =
+    let s = c .before .before .before .before .before .before in
+    above (turns s ++ places s) (repeats s) refl (two (c .before)) (c .if2 .taken)
 
 conflict-requires : tie.Need-conflict-requires
 conflict-requires c κs =
-    let k = known (c .before .before .before .before .before .before) in
-    (entry (c .before .before .before .before .before .before) .pre .0, k .under, k .few, c .if4 .left)
+    let at-if1 = c .before .before in
+    let s = at-if1 .before .before .before .before in
+    let k = known at-if1 in
+    let z : first (turns s ++ places s) ≡ 0 = sym (two (c .before)) ∙ c .if2 .left in
+    (s .pre .0, k .under, k .few, ltb-false _ _ (row-false noRoom (turns s ++ places s) refl z))
 
-returns-5 : tie.Need-returns-5
-returns-5 c =
-    let r = c .before .before in
-    let m = r .before .before in
-    let u = m .before .before in
-    rw (
-      ← (second (u .before .before)),
-      ← (u .before .unlike .ensures),
-      u .if2 .left,
-      ← (m .before .misfit .ensures),
-      m .if3 .left,
-      le-ltb _ _ (r .if4 .left),
-      ← (c .before .conflict .ensures),
-      c .if5 .taken,
-    )
-
-returns-6 : tie.Need-returns-6
-returns-6 c =
-    let r = c .before .before in
-    let m = r .before .before in
-    let u = m .before .before in
-    rw (
-      ← (second (u .before .before)),
-      ← (u .before .unlike .ensures),
-      u .if2 .left,
-      ← (m .before .misfit .ensures),
-      m .if3 .left,
-      le-ltb _ _ (r .if4 .left),
-      ← (c .before .conflict .ensures),
-      c .if5 .left,
-    )
+returns-3 : tie.Need-returns-3
+unfolding joinRefusal
+returns-3 c =
+    let at-if2 = c .before .before in
+    let s = at-if2 .before .before .before .before .before .before in
+    below (turns s ++ places s) (repeats s) refl (two (at-if2 .before)) refl (cc)
 
 pub refusal-spec : {M : Type 1} → statement M
-refusal-spec =
-    tie.close (tie.spec
-    (λ c κs. search needs) returns (λ c κs. search needs) returns-2 misfit-requires returns-3 mul-if4 add-if4
-    returns-4 conflict-requires returns-5 returns-6)
+refusal-spec = tie.close (tie.spec _ returns place-requires returns-2 conflict-requires _ returns-3)

@@ -1,36 +1,47 @@
--- The two rows in their order.
-use mathlib.Core.Path.{sym, _∙_}
+-- The row of the fragment size, then the one that divides by it.
+use Prim.Native.Nat.{ℕ, _≤_, _<_}
+use mathlib.Core.Bool.{Bool}
+use mathlib.Core.List.{List}
+use mathlib.Core.Path.{_≡_, refl, sym, _∙_}
 use native.Mathlib.Omega.{arith}
-use borrow.Author.Needs.{needs}
-use Rattle.joining.specs.Cut.{cutRefusal}
+use Rattle.laws.specs.Rows.{first}
+use Rattle.laws.proofs.Firsts.{row-false}
+use Rattle.laws.proofs.Nexts.{down-first, above, below}
+use Rattle.wire.specs.Refusals.{wrongFragmentSize}
 use Rattle.wire.specs.Fields.{mostPieces}
+use Rattle.joining.specs.Cut.{sizeRows, pieceRows, cutRefusal}
 use Rattle.joining.proofs.Cuts.{good-size}
 use Rattle.joining.proofs.cut.cut_refusal.Statement.{statement}
 use Rattle.joining.proofs.cut.cut_refusal.Tie as tie
 
+abbrev pieces : tie.Start → List (ℕ × Bool)
+pieces s = pieceRows (s .args .size) (s .args .bytes) (s .args .i)
+
+-- What the first row answers, and what it leaves.
+sized : (c : tie.After-next) → c .next .result ≡ first (sizeRows (c .before .before .args .size))
+sized c = rw (← down-first 0 (sizeRows (c .before .before .args .size)) refl) (cc)
+
+good : (c : tie.Else1) → let F = c .before .before .before .args .size in (0 < F) × (F ≤ 16384)
+good c =
+    let F = c .before .before .before .args .size in
+    good-size F (row-false wrongFragmentSize (sizeRows F) refl (sym (sized (c .before)) ∙ c .if1 .left))
+
 returns : tie.Need-returns
 unfolding cutRefusal
-returns c = rw (← (c .before .bad-size .ensures), c .if1 .taken)
-
-mul-if2 : tie.Need-mul-if2
-mul-if2 c = let f = good-size (c .before .before .args .size) (sym (c .before .bad-size .ensures) ∙ c .if1 .left) in omega (arith, f .0, f .1)
+returns c = let s = c .before .before .before in above (sizeRows (s .args .size)) (pieces s) refl (sized (c .before)) (c .if1 .taken)
 
 piece-count-requires : tie.Need-piece-count-requires
-piece-count-requires c κs = let f = good-size (c .before .before .args .size) (sym (c .before .bad-size .ensures) ∙ c .if1 .left) in omega
-    (arith, f .0, f .1)
+piece-count-requires c κs = good c .0
+
+mul-next : tie.Need-mul-next
+mul-next c = omega (arith, good (c .before) .1)
 
 returns-2 : tie.Need-returns-2
 unfolding cutRefusal mostPieces
 returns-2 c =
-    let s = c .before .before in
-    rw (← (s .before .bad-size .ensures), s .if1 .left, ← (c .before .piece-count .ensures), c .if2 .taken)
-
-returns-3 : tie.Need-returns-3
-unfolding cutRefusal mostPieces
-returns-3 c =
-    let s = c .before .before in
-    rw (← (s .before .bad-size .ensures), s .if1 .left, ← (c .before .piece-count .ensures), c .if2 .left)
+    let at-if1 = c .before .before in
+    let s = at-if1 .before .before .before in
+    below (sizeRows (s .args .size)) (pieces s) refl (sized (at-if1 .before)) refl (cc)
 
 pub cut-refusal-spec : {M : Type 1} → statement M
-cut-refusal-spec =
-    tie.close (tie.spec (λ c κs. search needs) returns mul-if2 piece-count-requires returns-2 returns-3)
+cut-refusal-spec = tie.close (tie.spec _ _ returns piece-count-requires mul-next _ returns-2)

@@ -9,6 +9,4 @@ unfolding vector
 returns c = cc
 
 pub vector-spec : {M : Type 1} → statement M
-vector-spec =
-    tie.close (tie.spec
-    (λ c κs. search needs) (λ c κs. search needs) (λ c κs. search needs) (λ c κs. search needs) returns)
+vector-spec = tie.close (tie.spec (λ c κs. search needs) _ (λ c κs. search needs) _ returns)

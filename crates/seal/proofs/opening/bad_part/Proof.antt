@@ -16,7 +16,4 @@ returns c =
     (at-ends .cbc-decrypt-ends .ensures .0) (at-ends .cbc-decrypt-ends .ensures .1) (c .bad-blocks .ensures)
 
 pub bad-part-spec : {M : Type 1} → statement M
-bad-part-spec =
-    tie.close (tie.spec
-    (λ c κs. search needs) (λ c κs. search needs) (λ c. search needs) (λ c κs. search needs) (λ c κs. search needs)
-    (λ c κs. search needs) returns)
+bad-part-spec = tie.close (tie.spec (λ c κs. search needs) (λ c κs. search needs) (λ c. search needs) (λ c κs. search needs) _ _ returns)

@@ -1,83 +1,86 @@
--- Each return is the row of the table that led there.
-use mathlib.Core.Path.{_≡_, _∙_, sym}
+-- The tables one after the other: the tag is judged where the part and the keys are there, the part is opened where the tag is right.
 use Prim.Native.Nat.{ℕ}
+use mathlib.Core.Bool.{Bool}
+use mathlib.Core.List.{List, _++_}
+use mathlib.Core.Path.{_≡_, refl, sym, _∙_}
 use native.Mathlib.Omega.{arith}
-use Rattle.seal.specs.Opening.{sealedPart}
-use Rattle.seal.proofs.Opened.{placed, part-blocks, misplaced, no-keys, other-tag, right-tag}
+use lib.ListN.{length}
 use borrow.Author.Needs.{needs}
+use Rattle.laws.specs.Rows.{first}
+use Rattle.laws.proofs.Nexts.{above, below, onward}
+use Rattle.seal.specs.Opening.{earlyRows, tagRows, partRefusal, sealedPart}
+use Rattle.seal.proofs.Opened.{Placed, early-placed, part-blocks, lateRows, refused, opened}
 use Rattle.seal.proofs.opening.open.Statement.{statement}
 use Rattle.seal.proofs.opening.open.Tie as tie
 
--- the number that a call gave, where it is 0
-found : {n m : ℕ} → n ≡ m → n ≡ 0 → m ≡ 0
-found e z = sym e ∙ z
+abbrev early : tie.Start → List (ℕ × Bool)
+early s = let a = s .args in earlyRows (length (a .message .now)) (a .start) (length (a .keys .now))
+
+abbrev tags : tie.Start → List (ℕ × Bool)
+tags s = let a = s .args in tagRows (a .keys .now) (a .message .now)
+
+abbrev late : tie.Start → List (ℕ × Bool)
+late s = let a = s .args in lateRows (a .keys .now) (a .message .now) (a .start) (a .working .now)
+
+abbrev start : tie.Else1 → tie.Start
+start c = c .before .before .before .before .before
+
+known : (c : tie.Else1) → let a = start c .args in Placed (length (a .message .now)) (a .start) × (length (a .keys .now) ≡ 64)
+known c = early-placed _ _ _ (sym (c .before .unopenable .ensures) ∙ c .if1 .left)
+
+-- What the rows up to the tag answered.
+tagged : (c : tie.After-next) → let s = start (c .before .before) in c .next .result ≡ first (early s ++ tags s)
+tagged c =
+    let at-if1 = c .before .before in
+    let s = start at-if1 in
+    below (early s) (tags s) refl (at-if1 .before .unopenable .ensures) refl (cc)
 
 returns : tie.Need-returns
-returns c = misplaced _ _ _ _ _ (c .if1 .taken) (c .before .no-part .ensures)
-
-returns-2 : tie.Need-returns-2
-returns-2 c = no-keys _ _ _ _ (found (c .before .before .no-part .ensures) (c .before .if1 .left)) (c .if2 .taken)
+returns c =
+    let s = c .before .before .before .before .before in
+    let a = s .args in
+    refused (a .keys .now) (a .message .now) (a .start) (a .working .now) (c .if1 .taken)
+    (above (early s) (tags s ++ late s) refl (c .before .unopenable .ensures) (c .if1 .taken))
 
 wrong-tag-requires : tie.Need-wrong-tag-requires
-wrong-tag-requires c κs =
-    let p = placed _ _ (found (c .before .before .no-part .ensures) (c .before .if1 .left)) in
-    (c .if2 .left, p .long, p .short)
+wrong-tag-requires c κs = let k = known c in (k .1, k .0 .long, k .0 .short)
 
-returns-3 : tie.Need-returns-3
-returns-3 c =
-    let at-wrong-tag = c .before in
-    let at-if2 = at-wrong-tag .before in
-    let at-if1 = at-if2 .before in
-    let at-no-part = at-if1 .before in
-    let e = found (at-no-part .no-part .ensures) (at-if1 .if1 .left) in
-    other-tag _ _ _ _ e (at-if2 .if2 .left) (sym (at-wrong-tag .wrong-tag .ensures) ∙ c .if3 .taken)
+returns-2 : tie.Need-returns-2
+returns-2 c =
+    let s = start (c .before .before .before) in
+    let a = s .args in
+    refused (a .keys .now) (a .message .now) (a .start) (a .working .now) (c .if2 .taken)
+    (above (early s ++ tags s) (late s) refl (tagged (c .before)) (c .if2 .taken))
 
 sub-end : tie.Need-sub-end
-sub-end c =
-    let at-if1 = c .before .before .before in
-    let at-no-part = at-if1 .before in
-    let p = placed _ _ (found (at-no-part .no-part .ensures) (at-if1 .if1 .left)) in
-    omega arith
+sub-end c = let p = known (c .before .before .before) .0 in omega arith
 
 sub-open-part : tie.Need-sub-open-part
-sub-open-part c =
-    let at-if1 = c .before .before .before in
-    let at-no-part = at-if1 .before in
-    let p = placed _ _ (found (at-no-part .no-part .ensures) (at-if1 .if1 .left)) in
-    omega arith
+sub-open-part c = let p = known (c .before .before .before) .0 in omega arith
 
 part-open-part-start : tie.Need-part-open-part-start
-part-open-part-start c =
-    let at-if1 = c .before .before .before in
-    let at-no-part = at-if1 .before in
-    let p = placed _ _ (found (at-no-part .no-part .ensures) (at-if1 .if1 .left)) in
-    omega arith
+part-open-part-start c = let p = known (c .before .before .before) .0 in omega arith
 
 open-part-requires : tie.Need-open-part-requires
 open-part-requires c κs =
-    let at-if2 = c .before .before .before .before in
-    let at-if1 = at-if2 .before in
-    let at-no-part = at-if1 .before in
-    let at-before = at-no-part .before .before .before in
-    let start = at-before .before in
-    let p = placed _ _ (found (at-no-part .no-part .ensures) (at-if1 .if1 .left)) in
-    ((at-if2 .if2 .left, p .long), part-blocks (start .args .message .now) (start .args .start) p)
+    let at-if1 = c .before .before .before .before .before in
+    let a = start at-if1 .args in
+    let k = known at-if1 in
+    ((k .1, k .0 .long), part-blocks (a .message .now) (a .start) (k .0))
 
-returns-4 : tie.Need-returns-4
-unfolding sealedPart
-returns-4 c =
+returns-3 : tie.Need-returns-3
+unfolding sealedPart partRefusal
+returns-3 c =
     let at-open-part = c .before .before in
-    let at-if3 = at-open-part .before .before .before in
-    let at-wrong-tag = at-if3 .before in
-    let at-if2 = at-wrong-tag .before in
-    let at-if1 = at-if2 .before in
-    let at-no-part = at-if1 .before in
-    let e = found (at-no-part .no-part .ensures) (at-if1 .if1 .left) in
-    right-tag _ _ _ _ e (at-if2 .if2 .left) (sym (at-wrong-tag .wrong-tag .ensures) ∙ at-if3 .if3 .left) _ _
-    (at-open-part .open-part .ensures .0) (at-open-part .open-part .ensures .1)
+    let at-if2 = at-open-part .before .before .before in
+    let s = start (at-if2 .before .before .before) in
+    let a = s .args in
+    let e = at-open-part .open-part .ensures in
+    opened (a .keys .now) (a .message .now) (a .start) (a .working .now)
+    (onward (early s ++ tags s) (late s) refl (tagged (at-if2 .before)) (at-if2 .if2 .left) (e .0)) (e .0) (e .1)
 
 pub open-spec : {M : Type 1} → statement M
 open-spec =
     tie.close (tie.spec
-    (λ c κs. search needs) returns returns-2 wrong-tag-requires returns-3 sub-end sub-open-part part-open-part-start
-    (λ c. search needs) open-part-requires (λ c. search needs) returns-4)
+    _ returns wrong-tag-requires _ returns-2 sub-end sub-open-part part-open-part-start (λ c. search needs) open-part-requires
+    (λ c. search needs) returns-3)

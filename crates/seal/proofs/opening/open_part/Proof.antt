@@ -45,5 +45,5 @@ returns-3 c =
 pub open-part-spec : {M : Type 1} → statement M
 open-part-spec =
     tie.close (tie.spec
-    returns (λ c κs. search needs) (λ c κs. search needs) (λ c κs. search needs) (λ c κs. search needs) returns-2
-    (λ c κs. search needs) (λ c. search needs) returns-3)
+    returns (λ c κs. search needs) _ (λ c κs. search needs) (λ c κs. search needs) returns-2 _ (λ c. search needs)
+    returns-3)

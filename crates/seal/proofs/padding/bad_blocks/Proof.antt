@@ -10,7 +10,4 @@ returns c =
     (c .before .sealed-size .ensures) (c .differs .ensures)
 
 pub bad-blocks-spec : {M : Type 1} → statement M
-bad-blocks-spec =
-    tie.close (tie.spec
-    (λ c κs. search needs) (λ c κs. search needs) (λ c κs. search needs) (λ c. search needs) (λ c. search needs)
-    (λ c κs. search needs) returns)
+bad-blocks-spec = tie.close (tie.spec _ _ _ (λ c. search needs) (λ c. search needs) (λ c κs. search needs) returns)

@@ -9,4 +9,4 @@ unfolding sealedSize
 returns c = rw (c .padding .ensures .0)
 
 pub sealed-size-spec : {M : Type 1} → statement M
-sealed-size-spec = tie.close (tie.spec (λ c. search needs) (λ c κs. search needs) (λ c. search needs) returns)
+sealed-size-spec = tie.close (tie.spec (λ c. search needs) _ (λ c. search needs) returns)

@@ -17,7 +17,4 @@ returns c =
     (at-cbc-encrypt-in-place .cbc-encrypt-in-place .ensures .1)
 
 pub encrypt-part-spec : {M : Type 1} → statement M
-encrypt-part-spec =
-    tie.close (tie.spec
-    (λ c κs. search needs) (λ c κs. search needs) (λ c κs. search needs) (λ c κs. search needs) (λ c. search needs)
-    returns)
+encrypt-part-spec = tie.close (tie.spec (λ c κs. search needs) (λ c κs. search needs) _ _ (λ c. search needs) returns)

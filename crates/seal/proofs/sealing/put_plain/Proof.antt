@@ -20,5 +20,4 @@ returns c =
 pub put-plain-spec : {M : Type 1} → statement M
 put-plain-spec =
     tie.close (tie.spec
-    (λ c. search needs) (λ c κs. search needs) (λ c. search needs) (λ c κs. search needs) (λ c κs. search needs)
-    (λ c. search needs) (λ c. search needs) (λ c κs. search needs) (λ c. search needs) returns)
+    (λ c. search needs) _ (λ c. search needs) _ _ (λ c. search needs) (λ c. search needs) _ (λ c. search needs) returns)

@@ -13,5 +13,5 @@ returns c =
 pub put-tag-spec : {M : Type 1} → statement M
 put-tag-spec =
     tie.close (tie.spec
-    (λ c. search needs) (λ c. search needs) (λ c. search needs) (λ c κs. search needs) (λ c. search needs)
-    (λ c κs. search needs) (λ c. search needs) returns)
+    (λ c. search needs) (λ c. search needs) (λ c. search needs) (λ c κs. search needs) (λ c. search needs) _
+    (λ c. search needs) returns)

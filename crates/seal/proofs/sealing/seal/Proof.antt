@@ -83,5 +83,5 @@ returns-2 c =
 pub seal-spec : {M : Type 1} → statement M
 seal-spec =
     tie.close (tie.spec
-    (λ c κs. search needs) returns cast-sealed-size (λ c κs. search needs) add-end vector-requires (λ c. search needs)
-    (λ c. search needs) part-encrypt-part-end encrypt-part-requires put-tag-requires (λ c. search needs) returns-2)
+    _ returns cast-sealed-size _ add-end vector-requires (λ c. search needs) (λ c. search needs) part-encrypt-part-end
+    encrypt-part-requires put-tag-requires (λ c. search needs) returns-2)

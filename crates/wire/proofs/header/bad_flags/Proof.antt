@@ -1,6 +1,5 @@
 -- The code is the definition, with what `is_sealed` answers.
 use Rattle.wire.specs.Fields.{badFlags}
-use borrow.Author.Needs.{needs}
 use Rattle.wire.proofs.header.bad_flags.Statement.{statement}
 use Rattle.wire.proofs.header.bad_flags.Tie as tie
 
@@ -9,4 +8,4 @@ unfolding badFlags
 returns c = rw (c .is-sealed .ensures)
 
 pub bad-flags-spec : {M : Type 1} → statement M
-bad-flags-spec = tie.close (tie.spec (λ c κs. search needs) returns)
+bad-flags-spec = tie.close (tie.spec _ returns)

@@ -16,5 +16,5 @@ returns-2 c = c .read-chain .ensures
 pub chain-of-spec : {M : Type 1} → statement M
 chain-of-spec =
     tie.close (tie.spec
-    (λ c. search needs) returns (λ c. search needs) (λ c. search needs) (λ c. search needs) (λ c. search needs)
-    (λ c κs. search needs) returns-2)
+    (λ c. search needs) returns (λ c. search needs) (λ c. search needs) (λ c. search needs) (λ c. search needs) _
+    returns-2)

@@ -1,5 +1,4 @@
 -- Each field is what its load answers.
-use borrow.Author.Needs.{needs}
 use Rattle.wire.proofs.header.fields.Statement.{statement}
 use Rattle.wire.proofs.header.fields.Tie as tie
 
@@ -19,7 +18,4 @@ returns c =
     )
 
 pub fields-spec : {M : Type 1} → statement M
-fields-spec =
-    tie.close (tie.spec
-    (λ c κs. search needs) (λ c κs. search needs) (λ c κs. search needs) (λ c κs. search needs) (λ c κs. search needs)
-    (λ c κs. search needs) (λ c κs. search needs) (λ c κs. search needs) returns)
+fields-spec = tie.close (tie.spec _ _ _ _ _ _ _ _ returns)

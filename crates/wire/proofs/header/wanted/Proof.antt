@@ -14,4 +14,4 @@ unfolding wanted
 returns-2 c = rw (← c .before .number16 .ensures) (search tests)
 
 pub wanted-spec : {M : Type 1} → statement M
-wanted-spec = tie.close (tie.spec (λ c κs. search needs) (λ c. search needs) returns returns-2)
+wanted-spec = tie.close (tie.spec _ (λ c. search needs) returns returns-2)
