@@ -1,6 +1,6 @@
-//! Holds two programs against this implementation on their input cut at every byte:
-//! `cuts listing STREAM PROGRAM`, `cuts replay SEED F PROGRAM` on a short capture made from a seed.
-//! PROGRAM may be several words, the last the program's path: an emulator may stand in front.
+//! Holds two programs against this implementation on their input cut at every byte, or every N:
+//! `cuts N listing STREAM PROGRAM`, `cuts N replay SEED F PROGRAM` on a short capture made from a
+//! seed. PROGRAM may be several words: an emulator may stand in front.
 //!
 //! Each cut is a run of the program; it must end well, say what is said here, and leave exactly the
 //! reports that were complete before the cut.
@@ -21,12 +21,14 @@ struct Wanted {
     reports: Vec<(u32, Vec<u8>)>,
 }
 
-/// A program (or what emulates it), the words that it is run with, its input, and what to expect of each cut.
+/// A program (or what emulates it), the words that it is run with, its input, what to expect of each
+/// cut, and how many bytes there are from one cut to the next.
 struct Trial {
     program: String,
     words: Vec<String>,
     input: Vec<u8>,
     player: Option<Player>,
+    every: usize,
 }
 
 impl Trial {
@@ -67,23 +69,25 @@ impl Trial {
         if right { Ok(()) } else { Err(format!("cut at byte {cut}: another answer")) }
     }
 
-    /// The cuts from one byte to another, each a byte longer than the one before.
-    fn cuts(&self, from: usize, to: usize) -> Result<(), String> {
+    /// The cuts from one byte to another, each longer than the one before; how many there were.
+    fn cuts(&self, from: usize, to: usize) -> Result<usize, String> {
         let folder = env::temp_dir().join(format!("cuts-{}-{from}", id()));
         let file = folder.with_extension("bin");
         fs::create_dir(&folder).map_err(|error| error.to_string())?;
         fs::write(&file, &self.input[..from]).map_err(|error| error.to_string())?;
-        let outcome = (from..to).try_for_each(|cut| {
+        let outcome = (from..to).step_by(self.every).try_fold(0, |count, cut| {
             self.run(&folder, &file, cut)?;
+            let more = &self.input[cut..self.input.len().min(cut + self.every)];
             let mut longer = OpenOptions::new().append(true).open(&file).expect("the file is ours");
-            longer.write_all(&self.input[cut..=cut]).map_err(|error| error.to_string())
+            longer.write_all(more).map_err(|error| error.to_string())?;
+            Ok(count + 1)
         });
         let _ = fs::remove_file(&file);
         let _ = fs::remove_dir_all(&folder);
         outcome
     }
 
-    /// All cuts, shared out among the processors.
+    /// All cuts, shared out among the processors; how many there were.
     fn all(&self) -> Result<usize, String> {
         let whole = self.input.len();
         let shares = thread::available_parallelism().map_or(1, usize::from);
@@ -92,9 +96,8 @@ impl Trial {
             let runs: Vec<_> = (0..shares)
                 .map(|share| scope.spawn(move || self.cuts(place(share), place(share + 1))))
                 .collect();
-            runs.into_iter().try_for_each(|run| run.join().expect("no panic"))
-        })?;
-        Ok(whole)
+            runs.into_iter().map(|run| run.join().expect("no panic")).sum()
+        })
     }
 }
 
@@ -106,24 +109,26 @@ fn keys_file() -> PathBuf {
 /// The trial that the command line asks for.
 fn trial(arguments: &[String]) -> Result<Trial, String> {
     let read = |name: &String| fs::read(name).map_err(|error| format!("{name}: {error}"));
+    let number = |text: &String| text.parse::<u32>().map_err(|_| format!("{text}: no number"));
+    let step = |text: &String| number(text).map(|every| every.max(1) as usize);
     match arguments {
-        [kind, stream, program, words @ ..] if kind == "listing" => Ok(Trial {
+        [every, kind, stream, program, words @ ..] if kind == "listing" => Ok(Trial {
             program: program.clone(),
             words: words.to_vec(),
             input: read(stream)?,
             player: None,
+            every: step(every)?,
         }),
-        [kind, seed, size, program, words @ ..] if kind == "replay" => {
-            let number = |text: &String| text.parse().map_err(|_| format!("{text}: no number"));
-            let (seed, size): (u32, u32) = (number(seed)?, number(size)?);
+        [every, kind, seed, size, program, words @ ..] if kind == "replay" => {
+            let (every, seed, size) = (step(every)?, number(seed)?, number(size)?);
             let (keys, input) = short(seed.into(), size);
             let player = Player::new(keys, size, 1).map_err(|_| "F is out of range")?;
             let file = keys_file();
             fs::write(&file, keys).map_err(|error| error.to_string())?;
             let words = [words, &[file.display().to_string(), size.to_string()]].concat();
-            Ok(Trial { program: program.clone(), words, input, player: Some(player) })
+            Ok(Trial { program: program.clone(), words, input, player: Some(player), every })
         }
-        _ => Err("usage: cuts listing STREAM PROGRAM | cuts replay SEED F PROGRAM".into()),
+        _ => Err("usage: cuts N listing STREAM PROGRAM | cuts N replay SEED F PROGRAM".into()),
     }
 }
 
