@@ -1,8 +1,8 @@
 //! boundary test              what ./test runs: a fixed seed, each count on a line
-//! boundary sweeps            the boundary cases of CASES.md alone
 //! boundary slice             a small part of it, for valgrind
 //! boundary fuzz SECONDS SEED rounds from this seed on, for so long
 //! boundary round SEED ROUND  one round again, to look at a difference
+//! boundary sweeps            the boundary cases of CASES.md alone
 //! boundary seeds FOLDER      writes what libFuzzer starts from
 //! boundary touch             reads one byte behind a buffer: that must end it
 
@@ -212,7 +212,6 @@ fn main() {
     let number = |at: usize| words.get(at).and_then(|word| word.parse::<u64>().ok());
     match (words.first().map(String::as_str), number(1), number(2)) {
         (Some("test"), None, None) => test(10_000),
-        (Some("sweeps"), None, None) => every_sweep(),
         (Some("slice"), None, None) => slice(),
         (Some("seeds"), None, None) if words.len() == 2 => {
             for (number, seed) in boundary::fuzz::seeds().iter().enumerate() {
@@ -225,6 +224,7 @@ fn main() {
             room.lend(b"ten bytes.");
             println!("{}", room.touch());
         }
+        (Some("sweeps"), None, None) => every_sweep(),
         (Some("fuzz"), Some(seconds), Some(seed)) => fuzz(seconds, seed),
         (Some("round"), Some(seed), Some(number)) => {
             let mut comparison = Comparison::new(Hub::default());
