@@ -1,9 +1,9 @@
 //! boundary test [ROUNDS]     what ./test runs: a fixed seed, each count on a line
-//! boundary sweeps            the boundary cases of CASES.md alone
 //! boundary replay FOLDER     what libFuzzer kept, again
 //! boundary slice             a small part of it, for valgrind
 //! boundary fuzz SECONDS SEED rounds from this seed on, for so long
 //! boundary round SEED ROUND  one round again, to look at a difference
+//! boundary sweeps            the boundary cases of CASES.md alone
 //! boundary seeds FOLDER      writes what libFuzzer starts from
 //! boundary touch             reads one byte behind a buffer: that must end it
 
@@ -226,7 +226,6 @@ fn main() {
     let number = |at: usize| words.get(at).and_then(|word| word.parse::<u64>().ok());
     match (words.first().map(String::as_str), number(1), number(2)) {
         (Some("test"), rounds, None) => test(rounds.unwrap_or(10_000)),
-        (Some("sweeps"), None, None) => every_sweep(),
         (Some("replay"), None, None) if words.len() == 2 => replay(&words[1]),
         (Some("slice"), None, None) => slice(),
         (Some("seeds"), None, None) if words.len() == 2 => {
@@ -240,6 +239,7 @@ fn main() {
             room.lend(b"ten bytes.");
             println!("{}", room.touch());
         }
+        (Some("sweeps"), None, None) => every_sweep(),
         (Some("fuzz"), Some(seconds), Some(seed)) => fuzz(seconds, seed),
         (Some("round"), Some(seed), Some(number)) => {
             let mut comparison = Comparison::new(Hub::default());

@@ -3,7 +3,7 @@
 
 use second::compare::{Comparison, Difference, Implementation};
 use second::connection::State;
-use second::header::{Framed, Header, Kind};
+use second::header::{Framed, Header, Kind, read_header};
 use second::refusal::Refusal;
 use second::writer::header_bytes;
 
@@ -143,26 +143,20 @@ impl Described {
         }
     }
 
-    /// The header's reader answers as expected, and every reader and the step as the second
-    /// implementation does.
-    pub fn judge<I: Implementation>(
+    /// The header's reader answers as expected and as the second implementation does.
+    fn read_header<I: Implementation>(
         &self,
         comparison: &mut Comparison<I>,
     ) -> Result<(), Difference> {
-        let case = step_of(self.bytes(), State::Ready);
-        let found = comparison.other.read_header(&case.message);
+        let message = self.bytes();
+        let found = comparison.other.read_header(&message);
         as_expected(self, &self.read(), &found)?;
-        comparison.read(&case)?;
-        comparison.step(&case).map(|_| ())
+        as_expected(self, &read_header(&message), &found)
     }
 
-    /// The same, and the writer is given these fields, this chain and a Presence Request's payload,
-    /// which Session takes too and Connect does not.
-    pub fn judge_both<I: Implementation>(
-        &self,
-        comparison: &mut Comparison<I>,
-    ) -> Result<(), Difference> {
-        self.judge(comparison)?;
+    /// The writer does, given these fields, this chain and a Presence Request's payload, which
+    /// Session takes too and Connect does not.
+    fn write<I: Implementation>(&self, comparison: &mut Comparison<I>) -> Result<(), Difference> {
         let chain = self.chain();
         let [_, _, _, _, row_5, row_6, row_7, ..] = self.rows();
         let number = first(5, &[row_5, row_6, row_7, self.chain_fault()]);
@@ -174,6 +168,35 @@ impl Described {
             (number, _) => writing.expected = Err(number),
         }
         writing.judge(comparison).map(|_| ())
+    }
+
+    /// The header's reader and the writer.
+    pub fn judge_fields<I: Implementation>(
+        &self,
+        comparison: &mut Comparison<I>,
+    ) -> Result<(), Difference> {
+        self.read_header(comparison)?;
+        self.write(comparison)
+    }
+
+    /// Every reader, and the step.
+    pub fn judge<I: Implementation>(
+        &self,
+        comparison: &mut Comparison<I>,
+    ) -> Result<(), Difference> {
+        self.read_header(comparison)?;
+        let case = step_of(self.bytes(), State::Ready);
+        comparison.read(&case)?;
+        comparison.step(&case).map(|_| ())
+    }
+
+    /// Every reader, the step, and the writer.
+    pub fn judge_all<I: Implementation>(
+        &self,
+        comparison: &mut Comparison<I>,
+    ) -> Result<(), Difference> {
+        self.judge(comparison)?;
+        self.write(comparison)
     }
 }
 

@@ -29,7 +29,7 @@ pub fn types<I: Implementation>(comparison: &mut Comparison<I>) -> Tried {
         case.header.message_type = message_type;
         case
     });
-    each(comparison, cases, Described::judge_both)
+    each(comparison, cases, Described::judge_all)
 }
 
 /// Every Version.
@@ -40,12 +40,19 @@ pub fn versions<I: Implementation>(comparison: &mut Comparison<I>) -> Tried {
 
 const KINDS: [Kind; 3] = [Kind::Discovery, Kind::Connect, Kind::Session];
 
-/// Every MessageFlags for each type, in 122 bytes, which serve a plain message and a sealed one.
+/// Every MessageFlags for each type, in 122 bytes, which serve a plain message and a sealed one. Of
+/// those with a high bit, which are one row of the header's reader, no other reader is asked.
 pub fn flags<I: Implementation>(comparison: &mut Comparison<I>) -> Tried {
     let cases = pairs(KINDS, 0..=u16::MAX)
         .into_iter()
         .map(|(kind, flags)| Described { header: fields(kind, flags), ..sealed() });
-    each(comparison, cases, Described::judge_both)
+    each(comparison, cases, |case, comparison| {
+        if case.header.flags < 256 {
+            case.judge_all(comparison)
+        } else {
+            case.judge_fields(comparison)
+        }
+    })
 }
 
 /// FragmentCount and FragmentIndex at their edges, for each type.
@@ -56,7 +63,7 @@ pub fn pieces<I: Implementation>(comparison: &mut Comparison<I>) -> Tried {
         case.header = Header { message_type: kind.number(), index, count, ..case.header };
         case
     });
-    each(comparison, cases, Described::judge_both)
+    each(comparison, cases, Described::judge_all)
 }
 
 /// Chains of 0 to 9 entries of types that there are and that there are not, with sizes at their
@@ -71,7 +78,7 @@ pub fn chains<I: Implementation>(comparison: &mut Comparison<I>) -> Tried {
         let given = 40 + entries * (2 + usize::from(entry_size)) + room;
         [chain(plain()).of(given), chain(sealed()).of(given + 32)]
     });
-    each(comparison, cases, Described::judge_both)
+    each(comparison, cases, Described::judge_all)
 }
 
 /// A message with one fault more, by its number.

@@ -27,7 +27,7 @@ impl Described {
         }
         writing.judge(comparison)?;
         let case = step_of(message, State::AwaitingAuthentication);
-        Reading { case, expected }.judge(comparison)
+        Reading { case, expected }.read(comparison)
     }
 }
 

@@ -60,21 +60,31 @@ impl Reading {
         }
     }
 
-    /// The reader answers as expected, and it and the step as the second implementation does.
-    pub fn judge<I: Implementation>(
+    /// The reader answers as expected and as the second implementation does.
+    pub fn read<I: Implementation>(
         &self,
         comparison: &mut Comparison<I>,
     ) -> Result<(), Difference> {
         let Case { message, keys, working: before, .. } = &self.case;
         let mut working = before.clone();
-        let found = match comparison.other.read_message(message, keys, &mut working) {
+        let read = comparison.other.read_message(message, keys, &mut working);
+        let found = match &read {
             Ok(read) => Ok((read.header, part(Some(&read.payload), message, &working).to_vec())),
             Err(refusal) => Err(refusal.number()),
         };
         as_expected(&self.case, &self.expected, &found)?;
         let opened = self.opened();
         as_expected(&self.case, &&before[opened..], &&working[opened..])?;
-        comparison.read(&self.case)?;
+        let mut second = self.case.clone();
+        as_expected(&self.case, &(second.read(), second.working), &(read, working))
+    }
+
+    /// The same, and the step.
+    pub fn judge<I: Implementation>(
+        &self,
+        comparison: &mut Comparison<I>,
+    ) -> Result<(), Difference> {
+        self.read(comparison)?;
         comparison.step(&self.case).map(|_| ())
     }
 }
@@ -104,14 +114,12 @@ impl Writing {
     ) -> Result<Vec<u8>, Difference> {
         let WriteCase { header, chain, payload, keys, output } = &self.case;
         let mut out = output.clone();
-        let found = comparison
-            .other
-            .write_message(header, chain, payload, keys, &mut out)
-            .map_err(|refusal| refusal.number());
-        as_expected(&self.case, &self.expected, &found)?;
-        let length = found.unwrap_or(0);
+        let written = comparison.other.write_message(header, chain, payload, keys, &mut out);
+        as_expected(&self.case, &self.expected, &written.map_err(|refusal| refusal.number()))?;
+        let length = written.unwrap_or(0);
         as_expected(&self.case, &&output[length..], &&out[length..])?;
-        comparison.write(&self.case)?;
+        let mut second = self.case.clone();
+        as_expected(&self.case, &(second.write(), &second.output), &(written, &out))?;
         out.truncate(length);
         Ok(out)
     }
