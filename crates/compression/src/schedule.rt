@@ -22,7 +22,7 @@ fn put_word(w: &mut [u32; 64], n: usize)
     w[16 + n] = mixed(w[14 + n], w[9 + n], w[1 + n], w[n]);
 }
 
-// Four words more of a schedule of which the first 16 + n stand.
+// W_(16+n) to W_(19+n), after the words before them.
 fn put_four(w: &mut [u32; 64], n: usize)
     requires { ⌜ (length (now w) ≡ 64) × (n + 4 ≤ 48) ⌝ }
     ensures { λ _. ⌜ (length (now (w .exit)) ≡ 64) × ((m : List ℕ) → take (16 + n) (now (w .entry)) ≡ fips.schedule m n
@@ -34,7 +34,7 @@ fn put_four(w: &mut [u32; 64], n: usize)
     put_word(w, n + 3);
 }
 
-// The words that the rounds from t on need besides those that stand: four, where there are any more.
+// Before the rounds from t on: the four words from W_(16+t) on, where there are any.
 pub(crate) fn put_next(w: &mut [u32; 64], t: usize)
     requires { ⌜ (length (now w) ≡ 64) × (t % 4 ≡ 0) × (t + 4 ≤ 64) ⌝ }
     ensures { λ _. ⌜ (length (now (w .exit)) ≡ 64) × ((m : List ℕ) → take (16 + min t 48) (now (w .entry)) ≡ fips.schedule m (min t 48)

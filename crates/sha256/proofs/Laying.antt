@@ -4,7 +4,8 @@ use mathlib.Core.Logic.{⊎-elim}
 use mathlib.Core.List.{List, [], _++_}
 use Prim.Native.Nat.{ℕ, zero, suc, _+_, _-_, _<_, _≤_}
 use native.Mathlib.Omega.{arith}
-use lib.ListN.{getD, length, take, drop, set, replicate, length-append, length-set, length-take, List·getD-append, List·getD-eq-default, getD-replicate}
+use lib.ListN.{getD, length, take, drop, set, replicate, length-append, length-set, length-take}
+use lib.ListN.{List·getD-append, List·getD-eq-default, getD-replicate}
 use lib.Seq.{ext-getD, getD-at, getD-append-add, getD-set-same, getD-set-other, getD-take}
 use Rattle.laws.specs.Bytes.{bytesAt}
 use Rattle.laws.proofs.Order.{lt-or-ge}

@@ -30,7 +30,7 @@ fn word_at(m: &[u8], at: usize) -> u32
 // The block's sixteen words, with room after them for the schedule.
 fn load(block: &[u8]) -> [u32; 64]
     requires { ⌜ length (now block) ≡ 64 ⌝ }
-    ensures { λ r. ⌜ (length r ≡ 64) × (take 16 r ≡ words (now (block .entry)) 16) ⌝ }
+    ensures { λ r. ⌜ take 16 r ≡ words (now (block .entry)) 16 ⌝ }
 {
     let mut w = [0u32; 64];
     let mut n: usize = 0;

@@ -6,7 +6,7 @@ use Rattle.sha256.proofs.block.absorb_block.Tie as tie
 
 returns : tie.Need-returns
 unfolding afterBlock
-returns c = rw (c .compress .ensures, c .before .load .ensures .1)
+returns c = rw (c .compress .ensures, c .before .load .ensures)
 
 pub absorb-block-spec : {M : Type 1} → statement M
 absorb-block-spec = tie.close (tie.spec (λ c κs. search needs) _ returns)

@@ -26,7 +26,7 @@ returns : tie.Need-returns Inv-loop μ-loop
 returns c =
     let l = c .before .loop in
     let e : l .n ≡ 16 = omega arith in
-    (search needs, rw e at (l .inv .2))
+    rw e at (l .inv .2)
 
 pub load-spec : {M : Type 1} → statement M
 load-spec =

@@ -20,9 +20,9 @@ returns c =
     let b = c .before .before .before .before in
     let a = b .before .before .before .before .before .args in
     let block = a .block .now in
+    let v = c .before .absorb-block .ensures ∙ ap (λ (v : Vars). afterBlock v block) (c .before .before .initial .ensures) in
     digest-by block (a .first .now) (a .second .now) (a .third .now) 64 _ (omega arith) (b .fits2 .ensures) _ _
-    (λ (m : List ℕ). hashed-after H0 block m (omega arith)
-    ∙ ap (λ (v : Vars). hashed v m) (sym (c .before .absorb-block .ensures ∙ ap (λ (v : Vars). afterBlock v block) (c .before .before .initial .ensures))))
+    (λ (m : List ℕ). hashed-after H0 block m (omega arith) ∙ ap (λ (v : Vars). hashed v m) (sym v))
     (c .before .before .before .if1 .taken) (c .finish .ensures)
 
 returns-2 : tie.Need-returns-2

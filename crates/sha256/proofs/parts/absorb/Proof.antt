@@ -12,4 +12,6 @@ returns-2 : tie.Need-returns-2
 returns-2 c = rw (c .absorb-block2 .ensures, c .before .before .assembled .ensures)
 
 pub absorb-spec : {M : Type 1} → statement M
-absorb-spec = tie.close (tie.spec (λ c κs. search needs) (λ c κs. search needs) returns (λ c κs. search needs) (λ c. search needs) (λ c κs. search needs) returns-2)
+absorb-spec =
+    tie.close (tie.spec
+    (λ c κs. search needs) (λ c κs. search needs) returns (λ c κs. search needs) (λ c. search needs) (λ c κs. search needs) returns-2)
