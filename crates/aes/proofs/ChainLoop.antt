@@ -135,7 +135,7 @@ module _ (ks : List (List ℕ)) (s t₀ u₀ u t : List ℕ) (at : ℕ) (c : Cha
   abbrev here : ℕ → List ℕ
   here k = take 16 (drop k s)
 
-  abbrev pub both : ℕ → List ℕ
+  abbrev both : ℕ → List ℕ
   both k = paste (paste t k (cbcDecryptBlock ks (here at) (here k)) 16) at (cbcDecryptBlock ks u (here at)) 16
 
   pub decrypt-two-more : (next : ℕ) (v t′ : List ℕ) → at ≤ next → next + 16 ≤ length s → (at < next → next ≡ at + 16) → v ≡ here next

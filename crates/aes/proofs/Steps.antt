@@ -19,7 +19,7 @@ use Rattle.aes.specs.State.{unshifted, invShiftRows, invSubBytes, invMix
 
 -- ---- blocks by their bytes
 
-pub block-length : (f : ℕ → ℕ) → length (block f) ≡ 16
+block-length : (f : ℕ → ℕ) → length (block f) ≡ 16
 unfolding block
 block-length f = run-length f 0 16
 
@@ -35,7 +35,7 @@ pub block-is : (f : ℕ → ℕ) (s : List ℕ) → length s ≡ 16 → ((i : �
 unfolding block
 block-is f s e h = sym (run-is 0 f 16 s e (λ i g. sym (h i g)))
 
-pub block-same : (f g : ℕ → ℕ) → ((i : ℕ) → i < 16 → f i ≡ g i) → block f ≡ block g
+block-same : (f g : ℕ → ℕ) → ((i : ℕ) → i < 16 → f i ≡ g i) → block f ≡ block g
 block-same f g h = block-is f (block g) (block-length g) (λ i b. h i b ∙ sym (block-at g i b))
 
 -- ---- AddRoundKey
