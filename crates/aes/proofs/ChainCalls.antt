@@ -57,7 +57,8 @@ encrypted-copy ks v s t b e h t₁ p t₂ m r em e₁ er ep e₂ =
     let done = fit s t b e (λ x. cbcEncrypt ks x s) v v t₂ h
     (e₂
     ∙ ap₂ (λ (x y : List ℕ). x ++ y)
-    (ep ∙ ap (λ (x : List ℕ). cond (eqb (length x % 16) 0) (cbcEncrypt ks v x) x) front ∙ ap (λ (b : Bool). cond b (cbcEncrypt ks v s) s) w) rest) refl in
+    (ep ∙ ap (λ (x : List ℕ). cond (eqb (length x % 16) 0) (cbcEncrypt ks v x) x) front ∙ ap (λ (b : Bool). cond b (cbcEncrypt ks v s) s) w)
+    rest) refl in
     (er ∙ ap (λ (x : List ℕ). eqb (length x % 16) 0) front ∙ w ∙ done .0, done .1)
 
 -- ---- a buffer in place, whole blocks or not

@@ -122,9 +122,10 @@ unmix-block s b = block-of _ (λ i h. on-column s b i h (unmixed-byte _ _ _ _))
 
 -- one column, there and back
 column-back : (a b c d : ℕ) → a < 256 → b < 256 → c < 256 → d < 256
-    → unmixed (mixed a b c d) (mixed b c d a) (mixed c d a b) (mixed d a b c) ∷ unmixed (mixed b c d a) (mixed c d a b) (mixed d a b c) (mixed a b c d)
-    ∷ unmixed (mixed c d a b) (mixed d a b c) (mixed a b c d) (mixed b c d a) ∷ unmixed (mixed d a b c) (mixed a b c d) (mixed b c d a) (mixed c d a b)
-    ∷ [] ≡ a ∷ b ∷ c ∷ d ∷ []
+    → unmixed (mixed a b c d) (mixed b c d a) (mixed c d a b) (mixed d a b c)
+    ∷ unmixed (mixed b c d a) (mixed c d a b) (mixed d a b c) (mixed a b c d)
+    ∷ unmixed (mixed c d a b) (mixed d a b c) (mixed a b c d) (mixed b c d a)
+    ∷ unmixed (mixed d a b c) (mixed a b c d) (mixed b c d a) (mixed c d a b) ∷ [] ≡ a ∷ b ∷ c ∷ d ∷ []
 column-back a b c d ha hb hc hd t =
     unmixed-mixed a b c d ha hb hc hd t ∷ unmixed-mixed b c d a hb hc hd ha t ∷ unmixed-mixed c d a b hc hd ha hb t
     ∷ unmixed-mixed d a b c hd ha hb hc t ∷ []
