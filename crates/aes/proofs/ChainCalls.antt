@@ -38,8 +38,10 @@ module _ (s t : List ℕ) (b : Bool) (e : b ≡ fits s t) where
   pub no-fit : (out : List ℕ) → not b ≡ true → (false ≡ fits s t) × (t ≡ written s out t)
   no-fit out h = rw (sym e ∙ not-true b h) (refl, refl)
 
-  pub fit : (out t′ : List ℕ) → not b ≡ false → t′ ≡ out ++ drop (length s) t → (true ≡ fits s t) × (t′ ≡ written s out t)
-  fit out t′ h et = rw (sym e ∙ not-false b h) (refl, et)
+  -- what was written is f of w, and that is v
+  pub fit : (f : List ℕ → List ℕ) (w v t′ : List ℕ) → not b ≡ false → t′ ≡ f w ++ drop (length s) t → w ≡ v
+      → (true ≡ fits s t) × (t′ ≡ written s (f v) t)
+  fit f w v t′ h et ev = rw (sym e ∙ not-false b h) (refl, et ∙ ap (λ (x : List ℕ). f x ++ drop (length s) t) ev)
 
 -- the source copied to the front of the target, and what of it was lent encrypted in place
 pub encrypted-copy : (ks : List (List ℕ)) (v s t : List ℕ) (b : Bool) → b ≡ fits s t → not b ≡ false → (t₁ p t₂ : List ℕ) (m : ℕ) (r : Bool)
@@ -52,20 +54,22 @@ encrypted-copy ks v s t b e h t₁ p t₂ m r em e₁ er ep e₂ =
     ap₂ take em e₁ ∙ take-at (take (length s) s) (drop (length s) t) (length s) n ∙ take-all (length s) s (omega arith) in
     let rest : drop m t₁ ≡ drop (length s) t = ap₂ drop em e₁ ∙ drop-at (take (length s) s) (drop (length s) t) (length s) n in
     let w = eq-eqb (length s % 16) 0 (roomy s t b e h .0) in
-    let done = fit s t b e (cbcEncrypt ks v s) t₂ h
+    let done = fit s t b e (λ x. cbcEncrypt ks x s) v v t₂ h
     (e₂
     ∙ ap₂ (λ (x y : List ℕ). x ++ y)
-    (ep ∙ ap (λ (x : List ℕ). cond (eqb (length x % 16) 0) (cbcEncrypt ks v x) x) front ∙ ap (λ (b : Bool). cond b (cbcEncrypt ks v s) s) w) rest) in
+    (ep ∙ ap (λ (x : List ℕ). cond (eqb (length x % 16) 0) (cbcEncrypt ks v x) x) front ∙ ap (λ (b : Bool). cond b (cbcEncrypt ks v s) s) w)
+    rest) refl in
     (er ∙ ap (λ (x : List ℕ). eqb (length x % 16) 0) front ∙ w ∙ done .0, done .1)
 
 -- ---- a buffer in place, whole blocks or not
 
-module _ (b out : List ℕ) where
-  pub odd-buffer : (length b % 16 ≡ 0 → ⊥) → (false ≡ eqb (length b % 16) 0) × (b ≡ cond (eqb (length b % 16) 0) out b)
-  odd-buffer h = let e = ne-eqb (length b % 16) 0 h in rw e (refl, refl)
+module _ (b : List ℕ) where
+  pub odd-buffer : (out : List ℕ) → (length b % 16 ≡ 0 → ⊥) → (false ≡ eqb (length b % 16) 0) × (b ≡ cond (eqb (length b % 16) 0) out b)
+  odd-buffer out h = let e = ne-eqb (length b % 16) 0 h in rw e (refl, refl)
 
-  pub whole-buffer : (b′ : List ℕ) → length b % 16 ≡ 0 → b′ ≡ out → (true ≡ eqb (length b % 16) 0) × (b′ ≡ cond (eqb (length b % 16) 0) out b)
-  whole-buffer b′ h e = let p = eq-eqb (length b % 16) 0 h in rw p (refl, e)
+  pub whole-buffer : (f : List ℕ → List ℕ) (w v b′ : List ℕ) → length b % 16 ≡ 0 → b′ ≡ f w → w ≡ v
+      → (true ≡ eqb (length b % 16) 0) × (b′ ≡ cond (eqb (length b % 16) 0) (f v) b)
+  whole-buffer f w v b′ h e ev = let p = eq-eqb (length b % 16) 0 h in rw p (refl, e ∙ ap f ev)
 
 -- ---- a chain of one block after zeros is the cipher of it
 

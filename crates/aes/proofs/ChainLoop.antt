@@ -95,14 +95,19 @@ module _ (out next : List ℕ → List ℕ → List ℕ) where
         sym (append-nil (take at t)) ∙ ap (λ (k : ℕ). take at t ++ chain out next k u (drop at s)) (sym z) ∙ b .front in
         sym (take-append-drop at t) ∙ ap₂ (λ (x y : List ℕ). x ++ y) f (b .rest ∙ ap (λ (k : ℕ). drop k t₀) e)
 
--- one block encrypted, as the code does it: b is the block as words, y the sum, v its cipher, o that as bytes
-pub encrypt-more : (ks : List (List ℕ)) (s t₀ u₀ u t : List ℕ) (at : ℕ) → Chained (cbcEncryptBlock ks) (λ b c. c) s t₀ u₀ u t at
-    → (b y v o t′ : List ℕ) → at < length s → b ≡ take 16 (drop at s) → y ≡ addRoundKey b u → v ≡ cipher ks y → o ≡ v
-    → t′ ≡ paste t at o 16 → Chained (cbcEncryptBlock ks) (λ b c. c) s t₀ u₀ v t′ (at + 16)
-unfolding cbcEncryptBlock
-encrypt-more ks s t₀ u₀ u t at c b y v o t′ h eb ey ev eo et =
-    let e : v ≡ cipher ks (addRoundKey (take 16 (drop at s)) u) = ev ∙ ap (cipher ks) (ey ∙ ap (λ (x : List ℕ). addRoundKey x u) eb) in
-    more (cbcEncryptBlock ks) (λ b c. c) s t₀ u₀ u t at c (encrypt-long ks) h v t′ e (et ∙ ap (λ (x : List ℕ). paste t at x 16) (eo ∙ e))
+-- one block encrypted in place, as the code does it: b is the block as words, y the sum, v its cipher, o that as bytes
+module _ (ks : List (List ℕ)) (s u₀ u t : List ℕ) (at : ℕ) (c : Chained (cbcEncryptBlock ks) (λ b c. c) s s u₀ u t at) (h : at < length t) where
+  pub block-here : at + 16 ≤ length t
+  block-here = block-left (cbcEncryptBlock ks) (λ b c. c) s s u₀ u t at c (omega (arith, c .len)) .1
+
+  pub encrypt-more : (b y v o t′ : List ℕ) → b ≡ loadBlock (take (length t - at) (drop at t)) → y ≡ addRoundKey b u → v ≡ cipher ks y → o ≡ v
+      → t′ ≡ paste t at o 16 → Chained (cbcEncryptBlock ks) (λ b c. c) s s u₀ v t′ (at + 16)
+  unfolding cbcEncryptBlock
+  encrypt-more b y v o t′ eb ey ev eo et =
+      let e : v ≡ cipher ks (addRoundKey (take 16 (drop at s)) u) =
+      ev ∙ ap (cipher ks) (ey ∙ ap (λ (x : List ℕ). addRoundKey x u) (eb ∙ loaded t at block-here ∙ ap (take 16) (c .rest))) in
+      more (cbcEncryptBlock ks) (λ b c. c) s s u₀ u t at c (encrypt-long ks) (omega (arith, c .len)) v t′ e
+      (et ∙ ap (λ (x : List ℕ). paste t at x 16) (eo ∙ e))
 
 -- ---- two blocks a turn
 
@@ -135,7 +140,7 @@ module _ (ks : List (List ℕ)) (s t₀ u₀ u t : List ℕ) (at : ℕ) (c : Cha
   abbrev here : ℕ → List ℕ
   here k = take 16 (drop k s)
 
-  abbrev pub both : ℕ → List ℕ
+  abbrev both : ℕ → List ℕ
   both k = paste (paste t k (cbcDecryptBlock ks (here at) (here k)) 16) at (cbcDecryptBlock ks u (here at)) 16
 
   pub decrypt-two-more : (next : ℕ) (v t′ : List ℕ) → at ≤ next → next + 16 ≤ length s → (at < next → next ≡ at + 16) → v ≡ here next
@@ -160,8 +165,10 @@ module _ (ks : List (List ℕ)) (s t₀ u₀ u t : List ℕ) (at : ℕ) (c : Cha
 
 -- two blocks decrypted, as the code does it: x and y are the blocks as words, p and q their plain text before the cipher blocks u and x are
 -- added, a and b the sums; the later is written first
-pub decrypted-two : (ks : List (List ℕ)) (s u t : List ℕ) (at next : ℕ) → at + 16 ≤ length s → next + 16 ≤ length s → (x y p q a b o o′ t₁ t₂ : List ℕ)
-    → x ≡ loadBlock (take (length s - at) (drop at s)) → y ≡ loadBlock (take (length s - next) (drop next s)) → p ≡ invCipher ks x → q ≡ invCipher ks y
+pub decrypted-two : (ks : List (List ℕ)) (s u t : List ℕ) (at next : ℕ) → at + 16 ≤ length s → next + 16 ≤ length s
+    → (x y p q a b o o′ t₁ t₂ : List ℕ)
+    → x ≡ loadBlock (take (length s - at) (drop at s)) → y ≡ loadBlock (take (length s - next) (drop next s))
+    → p ≡ invCipher ks x → q ≡ invCipher ks y
     → b ≡ addRoundKey q x → o ≡ b → t₁ ≡ paste t next o 16 → a ≡ addRoundKey p u → o′ ≡ a → t₂ ≡ paste t₁ at o′ 16
     → (y ≡ take 16 (drop next s)) × (t₂ ≡ paste (paste t next (cbcDecryptBlock ks (take 16 (drop at s)) (take 16 (drop next s))) 16) at
     (cbcDecryptBlock ks u (take 16 (drop at s))) 16)

@@ -35,18 +35,16 @@ first-key f x xs l e = record { upto = omega arith; len = l; done = here }
     here : (k : ℕ) → k < 1 → getD (x ∷ xs) k [] ≡ f k
     here k h = let z : k ≡ 0 = omega arith in ap (λ (j : ℕ). getD (x ∷ xs) j []) z ∙ e ∙ ap f (sym z)
 
--- the sixteen bytes as the code adds them, where p, q, r, s are added to the first word
+-- byte i of the round key k added to x; and the sixteen bytes as the code adds them, where p, q, r, s are added to the first word
+abbrev sum : List ℕ → ℕ → ℕ → ℕ
+sum k i x = xor (getD k i 0) x
+
 abbrev nextRows : List ℕ → ℕ → ℕ → ℕ → ℕ → List ℕ
 nextRows k p q r s =
-    xor (getD k 0 0) p ∷ xor (getD k 1 0) q ∷ xor (getD k 2 0) r ∷ xor (getD k 3 0) s ∷
-    xor (getD k 4 0) (xor (getD k 0 0) p) ∷ xor (getD k 5 0) (xor (getD k 1 0) q) ∷
-    xor (getD k 6 0) (xor (getD k 2 0) r) ∷ xor (getD k 7 0) (xor (getD k 3 0) s) ∷
-    xor (getD k 8 0) (xor (getD k 4 0) (xor (getD k 0 0) p)) ∷ xor (getD k 9 0) (xor (getD k 5 0) (xor (getD k 1 0) q)) ∷
-    xor (getD k 10 0) (xor (getD k 6 0) (xor (getD k 2 0) r)) ∷ xor (getD k 11 0) (xor (getD k 7 0) (xor (getD k 3 0) s)) ∷
-    xor (getD k 12 0) (xor (getD k 8 0) (xor (getD k 4 0) (xor (getD k 0 0) p))) ∷
-    xor (getD k 13 0) (xor (getD k 9 0) (xor (getD k 5 0) (xor (getD k 1 0) q))) ∷
-    xor (getD k 14 0) (xor (getD k 10 0) (xor (getD k 6 0) (xor (getD k 2 0) r))) ∷
-    xor (getD k 15 0) (xor (getD k 11 0) (xor (getD k 7 0) (xor (getD k 3 0) s))) ∷ []
+    sum k 0 p ∷ sum k 1 q ∷ sum k 2 r ∷ sum k 3 s ∷ sum k 4 (sum k 0 p) ∷ sum k 5 (sum k 1 q) ∷ sum k 6 (sum k 2 r) ∷ sum k 7 (sum k 3 s) ∷
+    sum k 8 (sum k 4 (sum k 0 p)) ∷ sum k 9 (sum k 5 (sum k 1 q)) ∷ sum k 10 (sum k 6 (sum k 2 r)) ∷ sum k 11 (sum k 7 (sum k 3 s)) ∷
+    sum k 12 (sum k 8 (sum k 4 (sum k 0 p))) ∷ sum k 13 (sum k 9 (sum k 5 (sum k 1 q))) ∷
+    sum k 14 (sum k 10 (sum k 6 (sum k 2 r))) ∷ sum k 15 (sum k 11 (sum k 7 (sum k 3 s))) ∷ []
 
 pub next-by : (k : List ℕ) (c p q r s : ℕ) → p ≡ sbox (getD k 13 0) → q ≡ sbox (getD k 14 0) → r ≡ sbox (getD k 15 0) → s ≡ sbox (getD k 12 0)
     → nextRows k (xor p c) q r s ≡ nextKey k c

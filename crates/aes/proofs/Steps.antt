@@ -19,7 +19,7 @@ use Rattle.aes.specs.State.{unshifted, invShiftRows, invSubBytes, invMix
 
 -- ---- blocks by their bytes
 
-pub block-length : (f : ℕ → ℕ) → length (block f) ≡ 16
+block-length : (f : ℕ → ℕ) → length (block f) ≡ 16
 unfolding block
 block-length f = run-length f 0 16
 
@@ -35,7 +35,7 @@ pub block-is : (f : ℕ → ℕ) (s : List ℕ) → length s ≡ 16 → ((i : �
 unfolding block
 block-is f s e h = sym (run-is 0 f 16 s e (λ i g. sym (h i g)))
 
-pub block-same : (f g : ℕ → ℕ) → ((i : ℕ) → i < 16 → f i ≡ g i) → block f ≡ block g
+block-same : (f g : ℕ → ℕ) → ((i : ℕ) → i < 16 → f i ≡ g i) → block f ≡ block g
 block-same f g h = block-is f (block g) (block-length g) (λ i b. h i b ∙ sym (block-at g i b))
 
 -- ---- AddRoundKey
@@ -122,9 +122,10 @@ unmix-block s b = block-of _ (λ i h. on-column s b i h (unmixed-byte _ _ _ _))
 
 -- one column, there and back
 column-back : (a b c d : ℕ) → a < 256 → b < 256 → c < 256 → d < 256
-    → unmixed (mixed a b c d) (mixed b c d a) (mixed c d a b) (mixed d a b c) ∷ unmixed (mixed b c d a) (mixed c d a b) (mixed d a b c) (mixed a b c d)
-    ∷ unmixed (mixed c d a b) (mixed d a b c) (mixed a b c d) (mixed b c d a) ∷ unmixed (mixed d a b c) (mixed a b c d) (mixed b c d a) (mixed c d a b)
-    ∷ [] ≡ a ∷ b ∷ c ∷ d ∷ []
+    → unmixed (mixed a b c d) (mixed b c d a) (mixed c d a b) (mixed d a b c)
+    ∷ unmixed (mixed b c d a) (mixed c d a b) (mixed d a b c) (mixed a b c d)
+    ∷ unmixed (mixed c d a b) (mixed d a b c) (mixed a b c d) (mixed b c d a)
+    ∷ unmixed (mixed d a b c) (mixed a b c d) (mixed b c d a) (mixed c d a b) ∷ [] ≡ a ∷ b ∷ c ∷ d ∷ []
 column-back a b c d ha hb hc hd t =
     unmixed-mixed a b c d ha hb hc hd t ∷ unmixed-mixed b c d a hb hc hd ha t ∷ unmixed-mixed c d a b hc hd ha hb t
     ∷ unmixed-mixed d a b c hd ha hb hc t ∷ []

@@ -61,7 +61,8 @@ module _ (found made : ℕ → ℕ → ℕ → ℕ → ℕ) (h : (w a b c d : �
 
 -- what the tables hold is the columns after a round: forth, with MixColumns and without, and back
 module _ (s : State) {p q r u : ℕ} where
-  mixed-columns : Turn (taken (column 2 3 1 1) sbox) (s .a) (s .b) (s .c) (s .d) p q r u → Columns (mixColumns (shiftRows (subBytes (bytesOf s)))) p q r u
+  mixed-columns : Turn (taken (column 2 3 1 1) sbox) (s .a) (s .b) (s .c) (s .d) p q r u
+      → Columns (mixColumns (shiftRows (subBytes (bytesOf s)))) p q r u
   unfolding mixColumns shiftRows shifted subBytes block run down bytesOf column mixed
   mixed-columns m = record { is-a = m .one .0; is-b = m .two .0; is-c = m .three .0; is-d = m .four .0 }
 

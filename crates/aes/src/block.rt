@@ -1,4 +1,4 @@
-// One block, both ways (FIPS 197, 5.1 and 5.3), by the rounds and over tables that whoever calls has bound once.
+// One block, both ways (FIPS 197, 5.1 and 5.3). What chaining calls block by block goes by references to tables that are bound once a call.
 use super::columns::State;
 use super::columns::add;
 use super::columns::bytes_of;
@@ -164,7 +164,7 @@ pub fn encrypt_block(keys: &[[u8; 16]; 11], block: [u8; 16]) -> [u8; 16]
     bytes_of(encrypt(keys, &sb, &t, words(block)))
 }
 
-// InvCipher(): a pair of the block and itself.
+// InvCipher(), by a pair of the block and itself.
 pub fn decrypt_block(keys: &[[u8; 16]; 11], block: [u8; 16]) -> [u8; 16]
     ensures { λ r. ⌜ r ≡ invCipher (now (keys .entry)) block ⌝ }
 {

@@ -163,8 +163,8 @@ pub fn cbc_encrypt_in_place(keys: &[[u8; 16]; 11], vector: [u8; 16], buffer: &mu
     true
 }
 
-// One block as a chain of its own, after zeros, which add nothing: the cipher of it. A program that chains as well has the rounds and their
-// table only once by it, where `encrypt_block` would be a second copy.
+// Cipher(), as a chain of one block after zeros, which add nothing. It is for a program that chains as well: there `encrypt_block` would be a
+// second copy of the rounds and their table, and with two callers the rounds would not stay within the loop of the chain.
 pub fn cbc_encrypt_one(keys: &[[u8; 16]; 11], block: [u8; 16]) -> [u8; 16]
     ensures { λ r. ⌜ r ≡ cipher (now (keys .entry)) block ⌝ }
 {

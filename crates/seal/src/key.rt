@@ -42,7 +42,7 @@ fn vector_block(message: &[u8]) -> [u8; 16]
     ]
 }
 
-// The vector of a message: one AES block under the vector key.
+// The vector of a message: one AES block under the vector key, by the code that encrypts the sealed part.
 pub(crate) fn vector(keys: &[u8], message: &[u8]) -> [u8; 16]
     requires { ⌜ (length (now keys) ≡ 64) × (40 ≤ length (now message)) ⌝ }
     ensures { λ r. ⌜ r ≡ vector (now (keys .entry)) (now (message .entry)) ⌝ }

@@ -1,8 +1,6 @@
 -- By the contracts of what it calls.
-use mathlib.Core.Path.{_∙_, ap}
-use mathlib.Core.List.{List, _++_}
+use mathlib.Core.List.{List}
 use Prim.Native.Nat.{ℕ}
-use lib.ListN.{length, drop}
 use Rattle.aes.specs.Cbc.{cbcDecrypt}
 use Rattle.aes.proofs.ChainCalls.{roomy, no-fit, fit}
 use borrow.Author.Needs.{needs}
@@ -29,10 +27,8 @@ returns-2 c =
     let at-words = at-blocks .before .before in
     let at-if = at-words .before .before .before .before .before .before .before .before .before .before in
     let a = at-if .before .before .before .before .args in
-    fit (a .source .now) (a .target .now) _ (at-if .before .fit .ensures) (cbcDecrypt (a .keys .now) (a .vector) (a .source .now)) _ (at-if .if1 .left)
-    (at-blocks .decrypt-blocks .ensures
-    ∙ ap (λ (v : List ℕ). cbcDecrypt (a .keys .now) v (a .source .now) ++ drop (length (a .source .now)) (a .target .now))
-    (at-words .words .ensures))
+    fit (a .source .now) (a .target .now) _ (at-if .before .fit .ensures) (λ (v : List ℕ). cbcDecrypt (a .keys .now) v (a .source .now)) _ _ _
+    (at-if .if1 .left) (at-blocks .decrypt-blocks .ensures) (at-words .words .ensures)
 
 pub cbc-decrypt-spec : {M : Type 1} → statement M
 cbc-decrypt-spec =

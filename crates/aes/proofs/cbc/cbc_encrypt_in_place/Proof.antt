@@ -1,5 +1,4 @@
 -- By the contracts of what it calls.
-use mathlib.Core.Path.{_∙_, ap}
 use mathlib.Core.List.{List}
 use Prim.Native.Nat.{ℕ}
 use Rattle.aes.specs.Cbc.{cbcEncrypt}
@@ -21,8 +20,8 @@ returns-2 c =
     let at-words = c .before .before .before .before in
     let at-if = at-words .before .before .before .before .before in
     let a = at-if .before .before .args in
-    whole-buffer (a .buffer .now) (cbcEncrypt (a .keys .now) (a .vector) (a .buffer .now)) _ (at-if .if1 .left)
-    (c .before .before .encrypt-buffer .ensures ∙ ap (λ (v : List ℕ). cbcEncrypt (a .keys .now) v (a .buffer .now)) (at-words .words .ensures))
+    whole-buffer (a .buffer .now) (λ (v : List ℕ). cbcEncrypt (a .keys .now) v (a .buffer .now)) _ _ _ (at-if .if1 .left)
+    (c .before .before .encrypt-buffer .ensures) (at-words .words .ensures)
 
 pub cbc-encrypt-in-place-spec : {M : Type 1} → statement M
 cbc-encrypt-in-place-spec =

@@ -1,12 +1,12 @@
 -- Block by block; what is not done yet is as it was.
 use native.Mathlib.Omega.{arith}
 use native.Mathlib.Nat.{le-refl}
-use mathlib.Core.Path.{_∙_, ap}
+use mathlib.Core.Path.{_∙_}
 use Prim.Native.Nat.{_-_, _<_}
-use lib.ListN.{length, take}
+use lib.ListN.{length}
 use Rattle.aes.specs.Words.{bytesOf}
 use Rattle.aes.specs.Cbc.{cbcEncryptBlock, cbcEncrypt}
-use Rattle.aes.proofs.ChainLoop.{enough, loaded, Chained, begin, block-left, done, encrypt-more}
+use Rattle.aes.proofs.ChainLoop.{enough, Chained, begin, done, block-here, encrypt-more}
 use Rattle.aes.proofs.ChainCalls.{all-written}
 use borrow.Author.Needs.{needs}
 use Rattle.aes.proofs.cbc.encrypt_buffer.Statement.{statement}
@@ -28,32 +28,25 @@ sub-words-from c = omega (arith, c .before .loop .inv .0 .len)
 words-from-requires : tie.Need-words-from-requires Inv-loop μ-loop
 words-from-requires c κs =
     let l = c .before .before .before .loop in
-    enough (l .buffer) (l .at) (block-left _ _ _ _ _ _ _ _ (l .inv .0) (omega (arith, l .inv .0 .len)) .1)
+    enough (l .buffer) (l .at) (block-here _ _ _ _ _ _ (l .inv .0) (omega arith))
 
 put-requires : tie.Need-put-requires Inv-loop μ-loop
-put-requires c κs =
-    let l = c .before .before .before .before .before .before .before .before .loop in
-    block-left _ _ _ _ _ _ _ _ (l .inv .0) (omega (arith, l .inv .0 .len)) .1
+put-requires c κs = block-here _ _ _ _ _ _ (c .before .before .before .before .before .before .before .before .loop .inv .0) (omega arith)
 
 add-at : tie.Need-add-at Inv-loop μ-loop
 add-at c =
     let l = c .before .before .before .before .before .before .before .before .before .before .before .loop in
-    omega (arith, l .inv .1, l .inv .0 .len, block-left _ _ _ _ _ _ _ _ (l .inv .0) (omega (arith, l .inv .0 .len)) .1)
+    omega (arith, l .inv .1, l .inv .0 .len, block-here _ _ _ _ _ _ (l .inv .0) (omega arith))
 
 loop-less : tie.Need-loop-less Inv-loop μ-loop
-loop-less c =
-    let l = c .before .before .before .before .before .before .before .before .before .before .before .loop in
-    omega (arith, l .inv .0 .len)
+loop-less c = omega (arith, c .before .before .before .before .before .before .before .before .before .before .before .loop .inv .0 .len)
 
 loop-again : tie.Need-loop-again Inv-loop μ-loop
 loop-again c =
     let at-add = c .before .before .before .before .before .before in
-    let l = at-add .before .before .before .before .before .loop in
-    let h : l .at < length (at-add .before .before .before .before .before .before .before .args .buffer .now) = omega (arith, l .inv .0 .len) in (
-      encrypt-more _ _ _ _ _ _ _ (l .inv .0) _ _ _ _ _ h
-          (at-add .before .words-from .ensures ∙ loaded _ _ (block-left _ _ _ _ _ _ _ _ (l .inv .0) h .1) ∙ ap (take 16) (l .inv .0 .rest))
-          (at-add .add .ensures) (c .before .before .before .before .before .encrypt .ensures)
-          (c .before .before .before .bytes-of .ensures) (c .before .before .put .ensures),
+    let l = at-add .before .before .before .before .before .loop in (
+      encrypt-more _ _ _ _ _ _ (l .inv .0) (omega arith) _ _ _ _ _ (at-add .before .words-from .ensures) (at-add .add .ensures)
+          (c .before .before .before .before .before .encrypt .ensures) (c .before .before .before .bytes-of .ensures) (c .before .before .put .ensures),
       l .inv .1,
     )
 

@@ -14,7 +14,13 @@ returns c =
     let one = two .before .before in
     let a = one .before in
     unshifted-round (a .args .s) (a .args .k) _ _ _ _ _ (a .pre)
-    (record { one = one .look-bytes .ensures; two = four .look-bytes4 .ensures; three = three .look-bytes3 .ensures; four = two .look-bytes2 .ensures })
+    (record {
+      one = one .look-bytes .ensures;
+      two = four .look-bytes4 .ensures;
+      three =
+          three .look-bytes3 .ensures;
+      four = two .look-bytes2 .ensures;
+    })
 
 pub inv-last-round-spec : {M : Type 1} → statement M
 inv-last-round-spec =

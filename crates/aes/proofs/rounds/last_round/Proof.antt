@@ -14,7 +14,13 @@ returns c =
     let one = two .before .before in
     let a = one .before in
     shifted-round (a .args .s) (a .args .k) _ _ _ _ _ (a .pre)
-    (record { one = one .look-bytes .ensures; two = two .look-bytes2 .ensures; three = three .look-bytes3 .ensures; four = four .look-bytes4 .ensures })
+    (record {
+      one = one .look-bytes .ensures;
+      two = two .look-bytes2 .ensures;
+      three =
+          three .look-bytes3 .ensures;
+      four = four .look-bytes4 .ensures;
+    })
 
 pub last-round-spec : {M : Type 1} → statement M
 last-round-spec =
