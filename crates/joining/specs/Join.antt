@@ -50,7 +50,7 @@ turnRows F expected piece =
     ∷ (futureSequence, ltb expected (piece .sequence))
     ∷ []
 
--- The refusals of a piece of so many bytes that does not go with what has come, or does not fit into `room` bytes: 21, 20, 22.
+-- The refusals of a piece of `size` bytes that does not go with what has come, or does not fit into `room` bytes: 21, 20, 22.
 abbrev pub placeRows : ℕ → Progress → Piece → (size room : ℕ) → List (ℕ × Bool)
 placeRows F held piece size room =
     (unlikeFirstPiece, unlike held piece)

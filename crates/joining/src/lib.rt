@@ -6,7 +6,7 @@ mod heard;
 ghost use mathlib.Core.Path.{_≡_};
 ghost use mathlib.Core.Bool.{cond};
 ghost use lib.Dec.{eqb};
-ghost use Prim.Native.Nat.{_<_, _≤_, _+_, _*_};
+ghost use Prim.Native.Nat.{_<_, _≤_, _+_, _*_, _^_};
 ghost use lib.ListN.{length};
 ghost use Rattle.laws.specs.Rows.{first};
 ghost use Rattle.joining.specs.Heard.{come, mark, most, tally};
@@ -140,7 +140,7 @@ fn turn(size: usize, expected: u32, piece: Piece) -> u8
     next(n, FUTURE_SEQUENCE, expected < piece.sequence)
 }
 
-// The first refusal of a piece of so many bytes that does not go with what has come, or does not fit into a report buffer of `room` bytes,
+// The first refusal of a piece of `given` bytes that does not go with what has come, or does not fit into a report buffer of `room` bytes,
 // 0 where none applies.
 fn place(
     size: usize,
@@ -151,7 +151,7 @@ fn place(
     room: usize,
 ) -> u8
     requires { ⌜ (now heard ≡ held .heard) × (length (now heard) ≡ most) ⌝ }
-    requires { ⌜ (size ≤ 16384) × (piece .index < piece .count) × (piece .count ≤ most) × (given ≤ 18446744073708503039) ⌝ }
+    requires { ⌜ (size ≤ 16384) × (piece .index < piece .count) × (piece .count ≤ most) × (given < 2 ^ 63) ⌝ }
     ensures { λ r. ⌜ r ≡ first (placeRows size held piece given room) ⌝ }
 {
     let end = size * piece.index + given;

@@ -2,13 +2,13 @@
 use Prim.Native.Nat.{ℕ, _+_, _-_, _≤_}
 use mathlib.Core.Path.{_≡_, sym, ap, _∙_}
 use mathlib.Core.List.{List}
-use mathlib.Core.Bool.{Bool, true, false}
+use mathlib.Core.Bool.{true, false}
 use native.Mathlib.Omega.{arith}
 use lib.ListN.{length, take, drop}
 use borrow.Author.Tests.{ne-eqb}
 use Rattle.laws.specs.Bytes.{be32}
+use Rattle.laws.specs.Rows.{first}
 use Rattle.wire.specs.Fields.{isSealed}
-use Rattle.wire.specs.Payload.{badPayload}
 use Rattle.wire.specs.Reader.{readHeader}
 use Rattle.wire.specs.declared.header.Header.{Header}
 use Rattle.wire.specs.declared.header.HeaderRead.the-variants as head
@@ -16,22 +16,24 @@ use Rattle.wire.proofs.Sound.{read-sound}
 use Rattle.seal.specs.Padding.{payloadOf}
 use Rattle.seal.specs.Opening.{openRefusal, openedInto}
 use Rattle.seal.proofs.Accepted.{Accepted, accepted, told-after, fits-after, payload-after}
-use Rattle.message.specs.Reading.{opened, plainRead, sealedRead, readMessage, workingAfter}
+use Rattle.message.specs.Reading.{opened, payloadRows, plainRead, sealedRead, readMessage, workingAfter}
 use Rattle.message.specs.declared.reading.MessageRead.{MessageRead}
 use Rattle.message.specs.declared.reading.MessageRead.the-variants.{Refused, Read}
 
 -- A plain message.
-module _ (m : List ℕ) (h : Header) (start size : ℕ) (r : Bool) (e : r ≡ badPayload (h .kind) false (take (start + size - start) (drop start m))) where
-  shape : badPayload (h .kind) false (take size (drop start m)) ≡ r
-  shape = let k : start + size - start ≡ size = omega arith in sym (e ∙ ap (λ (n : ℕ). badPayload (h .kind) false (take n (drop start m))) k)
+module _ (m : List ℕ) (h : Header) (start size n : ℕ) (e : n ≡ first (payloadRows (h .kind) false (take (start + size - start) (drop start m)))) where
+  shape : first (payloadRows (h .kind) false (take size (drop start m))) ≡ n
+  shape =
+      let k : start + size - start ≡ size = omega arith in
+      sym (e ∙ ap (λ (l : ℕ). first (payloadRows (h .kind) false (take l (drop start m)))) k)
 
-  pub plain-refused : r ≡ true → Refused 14 ≡ plainRead m h start size
+  pub plain-refused : (n ≡ 0 → ⊥) → Refused n ≡ plainRead m h start size
   unfolding plainRead
-  plain-refused t = rw (shape, t)
+  plain-refused z = rw (shape, ne-eqb n 0 z)
 
-  pub plain-accepted : r ≡ false → Read h false start size ≡ plainRead m h start size
+  pub plain-accepted : n ≡ 0 → Read h false start size ≡ plainRead m h start size
   unfolding plainRead
-  plain-accepted t = rw (shape, t)
+  plain-accepted z = rw (shape, z)
 
 -- A sealed message.
 module _ (m keys : List ℕ) (h : Header) (start : ℕ) (working after : List ℕ) (n : ℕ)
@@ -50,15 +52,16 @@ module _ (m keys : List ℕ) (h : Header) (start : ℕ) (working after : List �
     pub payload-fits : 4 + be32 after 0 ≤ length after
     payload-fits = fits-after keys m start working ok after is zero
 
-    module _ (r : Bool) (judged : r ≡ badPayload (h .kind) true (take (4 + be32 after 0 - 4) (drop 4 after))) where
-      sealed-shape : badPayload (h .kind) true (payloadOf (opened m keys start)) ≡ r
-      sealed-shape = sym (judged ∙ ap (badPayload (h .kind) true) (payload-after keys m start working ok after is zero))
+    module _ (k : ℕ) (judged : k ≡ first (payloadRows (h .kind) true (take (4 + be32 after 0 - 4) (drop 4 after)))) where
+      sealed-shape : first (payloadRows (h .kind) true (payloadOf (opened m keys start))) ≡ k
+      sealed-shape =
+          sym (judged ∙ ap (λ (l : List ℕ). first (payloadRows (h .kind) true l)) (payload-after keys m start working ok after is zero))
 
-      pub sealed-refused : r ≡ true → Refused 14 ≡ sealedRead m keys h start (length working)
+      pub sealed-refused : (k ≡ 0 → ⊥) → Refused k ≡ sealedRead m keys h start (length working)
       unfolding sealedRead
-      sealed-refused t = rw (zero, sealed-shape, t)
+      sealed-refused t = rw (zero, sealed-shape, ne-eqb k 0 t)
 
-      pub sealed-accepted : r ≡ false → Read h true 4 (be32 after 0) ≡ sealedRead m keys h start (length working)
+      pub sealed-accepted : k ≡ 0 → Read h true 4 (be32 after 0) ≡ sealedRead m keys h start (length working)
       unfolding sealedRead
       sealed-accepted t = rw (zero, sealed-shape, t, told-after keys m start working ok after is zero)
 

@@ -8,7 +8,9 @@ use borrow.Author.Tests.{le-ltb, ltb-false, eq-eqb, ne-eqb, eqb-true, not-false}
 use lib.ListN.{length, take, drop, length-append, length-drop}
 use lib.Seq.{sets, sets-eq, take-at, drop-at, drop-drop}
 use Rattle.laws.proofs.Bools.{and-false-right}
-use Rattle.laws.proofs.Firsts.{first-quiet}
+use Rattle.laws.specs.Rows.{testOf}
+use Rattle.laws.proofs.Firsts.{row-false}
+use Rattle.wire.specs.Refusals.{wrongType, wrongFlags, wrongPiece, wrongChain, wrongKeys, wrongPayload, wrongPieceSize, noRoom}
 use Rattle.wire.specs.Fields.{badKind, badFlags, badPiece, isSealed}
 use Rattle.wire.specs.Chain.{badChain}
 use Rattle.wire.specs.Payload.{badPayload}
@@ -37,16 +39,17 @@ pub record Allowed (h : Header) (chain payload : List ℕ) (keys room : ℕ) : T
 pub allowed : (h : Header) (chain payload : List ℕ) (keys room : ℕ) → writeRefusal h chain payload keys room ≡ 0 → Allowed h chain payload keys room
 unfolding writeRefusal
 allowed h chain payload keys room e =
-    let q = first-quiet (writeRows h chain payload keys room) refl e in
+    let rows = writeRows h chain payload keys room in
+    let at : (n : ℕ) → testOf n rows ≡ false = λ n. row-false n rows refl e in
     record {
-      kind = q .0;
-      flags = q .1 .0;
-      piece = q .1 .1 .0;
-      chained = q .1 .1 .1 .0;
-      keyed = λ s. eqb-true keys 64 (not-false _ (and-false-right (isSealed (h .flags)) _ (q .1 .1 .1 .1 .0) s));
-      shaped = q .1 .1 .1 .1 .1 .0;
-      sized = payload-short payload (h .kind) (isSealed (h .flags)) (q .0) (q .1 .1 .1 .1 .1 .0) (q .1 .1 .1 .1 .1 .1 .0);
-      roomy = ltb-false room (lengthOf h chain payload) (q .1 .1 .1 .1 .1 .1 .1 .0);
+      kind = at wrongType;
+      flags = at wrongFlags;
+      piece = at wrongPiece;
+      chained = at wrongChain;
+      keyed = λ s. eqb-true keys 64 (not-false _ (and-false-right (isSealed (h .flags)) _ (at wrongKeys) s));
+      shaped = at wrongPayload;
+      sized = payload-short payload (h .kind) (isSealed (h .flags)) (at wrongType) (at wrongPayload) (at wrongPieceSize);
+      roomy = ltb-false room (lengthOf h chain payload) (at noRoom);
     }
 
 -- What stands behind a front of the output,

@@ -2,7 +2,7 @@
 -- holds.
 use Prim.Native.Nat.{ℕ}
 use mathlib.Core.List.{List, [], _∷_}
-use mathlib.Core.Bool.{true, false, cond}
+use mathlib.Core.Bool.{Bool, true, false, cond}
 use lib.ListN.{take, drop}
 use lib.Dec.{eqb}
 use Rattle.laws.specs.Bytes.{be32}
@@ -27,17 +27,18 @@ opened m keys start = plainOf keys m (sealedPart m start)
 abbrev pub unless : ℕ → MessageRead → MessageRead
 unless n read = cond (eqb n 0) read (Refused n)
 
+-- What refuses a payload that was opened or came plain: 14.
+abbrev pub payloadRows : (kind : ℕ) (sealed : Bool) (payload : List ℕ) → List (ℕ × Bool)
+payloadRows kind sealed payload = (wrongPayload, badPayload kind sealed payload) ∷ []
+
 -- A plain message: 14 is left to test, and the payload stands in the message.
 unfoldable pub plainRead : List ℕ → Header → ℕ → ℕ → MessageRead
-plainRead m h start size = unless
-    (first ((wrongPayload, badPayload (h .kind) false (take size (drop start m))) ∷ []))
-    (Read h false start size)
+plainRead m h start size = unless (first (payloadRows (h .kind) false (take size (drop start m)))) (Read h false start size)
 
 -- A sealed message: 10 to 13, then 14; "handed out as a part … of the working buffer if it was sealed", behind the four bytes of its size.
 unfoldable pub sealedRead : List ℕ → List ℕ → Header → ℕ → ℕ → MessageRead
 sealedRead m keys h start room = unless
-    (orElse (openRefusal keys m start room)
-    (first ((wrongPayload, badPayload (h .kind) true (payloadOf (opened m keys start))) ∷ [])))
+    (orElse (openRefusal keys m start room) (first (payloadRows (h .kind) true (payloadOf (opened m keys start)))))
     (Read h true 4 (be32 (opened m keys start) 0))
 
 -- What follows the header, by what reading the header answered.

@@ -26,24 +26,36 @@ finishedLength sealed chain payload = 40 + chain + cond sealed (sealedSize paylo
 abbrev pub mostPayload : ℕ
 mostPayload = 16384
 
+-- "5, 6, 7".
+abbrev pub fieldRows : Header → List (ℕ × Bool)
+fieldRows h =
+    (wrongType, badKind (h .kind))
+    ∷ (wrongFlags, badFlags (h .kind) (h .flags))
+    ∷ (wrongPiece, badPiece (h .kind) (h .index) (h .count))
+    ∷ []
+
 -- What the caller gives to be written: the fields, the chain with its end entry, and the payload.
 module _ (h : Header) (chain payload : List ℕ) where
   -- The length of the finished message.
   abbrev pub lengthOf : ℕ
   lengthOf = finishedLength (isSealed (h .flags)) (length chain) (length payload)
 
-  -- The table of the writer, row by row, given so many key bytes and an output of `room` bytes.
-  abbrev pub writeRows : (keys room : ℕ) → List (ℕ × Bool)
-  writeRows keys room =
-      (wrongType, badKind (h .kind))
-      ∷ (wrongFlags, badFlags (h .kind) (h .flags))
-      ∷ (wrongPiece, badPiece (h .kind) (h .index) (h .count))
-      ∷ (wrongChain, badChain chain)
+  -- "8 (a chain given with bytes after its end too), 10 if sealed, 14, 20 (Session payload over 16,384)", given `keys` key bytes.
+  abbrev pub partRows : (keys : ℕ) → List (ℕ × Bool)
+  partRows keys =
+      (wrongChain, badChain chain)
       ∷ (wrongKeys, isSealed (h .flags) && not (eqb keys 64))
       ∷ (wrongPayload, badPayload (h .kind) (isSealed (h .flags)) payload)
       ∷ (wrongPieceSize, eqb (h .kind) 4 && ltb mostPayload (length payload))
-      ∷ (noRoom, ltb room lengthOf)
       ∷ []
+
+  -- "22", of an output of `room` bytes.
+  abbrev pub roomRows : (room : ℕ) → List (ℕ × Bool)
+  roomRows room = (noRoom, ltb room lengthOf) ∷ []
+
+  -- The table of the writer.
+  abbrev pub writeRows : (keys room : ℕ) → List (ℕ × Bool)
+  writeRows keys room = fieldRows h ++ (partRows keys ++ roomRows room)
 
   -- The number of the first refusal that applies, 0 where none does.
   unfoldable pub writeRefusal : (keys room : ℕ) → ℕ

@@ -1,4 +1,5 @@
 // Reading a message: the header and its chain (1 to 9), a sealed part opened into the working buffer (10 to 13), the payload's shape (14).
+use rows::next;
 use wire::header::Header;
 use wire::header::HeaderRead;
 use wire::header::is_sealed;
@@ -9,7 +10,8 @@ use wire::refusals::WRONG_PAYLOAD;
 ghost use mathlib.Core.Path.{_≡_};
 ghost use Prim.Native.Nat.{_+_, _≤_};
 ghost use lib.ListN.{length};
-ghost use Rattle.message.specs.Reading.{plainRead, sealedRead, readMessage, workingAfter};
+ghost use Rattle.laws.specs.Rows.{first};
+ghost use Rattle.message.specs.Reading.{payloadRows, plainRead, sealedRead, readMessage, workingAfter};
 ghost use Rattle.seal.specs.Opening.{openedInto};
 
 // What reading answers: a refusal by its number; or the header and where the payload lies, in the message or, if it was sealed, in the
@@ -24,14 +26,22 @@ pub enum MessageRead {
     },
 }
 
+// The number of the first refusal that applies to a payload, 14, or 0.
+fn bad_shape(kind: u8, sealed: bool, payload: &[u8]) -> u8
+    ensures { λ r. ⌜ r ≡ first (payloadRows kind sealed (now (payload .entry))) ⌝ }
+{
+    next(0, WRONG_PAYLOAD, bad_payload(kind, sealed, payload))
+}
+
 // A plain payload, where it stands in the message.
 fn read_plain(message: &[u8], header: Header, start: usize, size: usize) -> MessageRead
     requires { ⌜ start + size ≤ length (now message) ⌝ }
     ensures { λ r. ⌜ r ≡ plainRead (now (message .entry)) header start size ⌝ }
 {
     let end = start + size;
-    if bad_payload(header.kind, false, &message[start..end]) {
-        return MessageRead::Refused(WRONG_PAYLOAD);
+    let n = bad_shape(header.kind, false, &message[start..end]);
+    if n != 0 {
+        return MessageRead::Refused(n);
     }
     MessageRead::Read {
         header,
@@ -52,14 +62,15 @@ fn read_sealed(
     ensures { λ r. ⌜ r ≡ sealedRead (now (message .entry)) (now (keys .entry)) header start (length (now (working .entry))) ⌝ }
     ensures { λ _. ⌜ now (working .exit) ≡ openedInto (now (keys .entry)) (now (message .entry)) start (now (working .entry)) ⌝ }
 {
-    let refusal = seal::opening::open(keys, message, start, working);
-    if refusal != 0 {
-        return MessageRead::Refused(refusal);
+    let n = seal::opening::open(keys, message, start, working);
+    if n != 0 {
+        return MessageRead::Refused(n);
     }
     let size = number32(working, 0) as usize;
     let end = 4 + size;
-    if bad_payload(header.kind, true, &working[4..end]) {
-        return MessageRead::Refused(WRONG_PAYLOAD);
+    let n = bad_shape(header.kind, true, &working[4..end]);
+    if n != 0 {
+        return MessageRead::Refused(n);
     }
     MessageRead::Read {
         header,

@@ -3,6 +3,7 @@
 //     | header | chain | payload, or sealed part and tag |
 //     0        40    start                          length
 //
+use rows::next;
 use seal::padding::sealed_size;
 use wire::chain::bad_chain;
 use wire::header::Header;
@@ -28,8 +29,9 @@ ghost use mathlib.Core.Path.{_≡_};
 ghost use mathlib.Core.List.{_++_};
 ghost use Prim.Native.Nat.{_+_, _≤_};
 ghost use lib.ListN.{length, drop};
+ghost use Rattle.laws.specs.Rows.{first};
 ghost use Rattle.writer.specs.Header.{headerBytes};
-ghost use Rattle.message.specs.Writing.{finishedLength, writeRefusal, writeAnswer, writtenInto};
+ghost use Rattle.message.specs.Writing.{finishedLength, fieldRows, partRows, writeRefusal, writeAnswer, writtenInto};
 
 // The most bytes of a Session payload.
 pub const MOST_PAYLOAD: usize = 16384;
@@ -48,36 +50,42 @@ fn finished_length(sealed: bool, chain: usize, payload: usize) -> usize
     Header::LENGTH + chain + payload
 }
 
-// The number of the first refusal that applies to writing a message, given so many key bytes, into an output of `room` bytes, or 0.
+// The number of the first of 5, 6 and 7 that applies to the fields of a message, or 0.
+fn bad_fields(h: Header) -> u8
+    ensures { λ r. ⌜ r ≡ first (fieldRows h) ⌝ }
+{
+    let n = next(0, WRONG_TYPE, bad_kind(h.kind));
+    let n = next(n, WRONG_FLAGS, bad_flags(h.kind, h.flags));
+    next(n, WRONG_PIECE, bad_piece(h.kind, h.index, h.count))
+}
+
+// The number of the first of 8, 10, 14 and 20 that applies to its chain, the number of key bytes and its payload, or 0.
+fn bad_parts(h: Header, chain: &[u8], payload: &[u8], keys: usize) -> u8
+    ensures { λ r. ⌜ r ≡ first (partRows h (now (chain .entry)) (now (payload .entry)) keys) ⌝ }
+{
+    let sealed = is_sealed(h.flags);
+    let long = MOST_PAYLOAD < payload.len();
+    let n = next(0, WRONG_CHAIN, bad_chain(chain));
+    let n = next(n, WRONG_KEYS, sealed & (keys != KEYS));
+    let n = next(n, WRONG_PAYLOAD, bad_payload(h.kind, sealed, payload));
+    next(n, WRONG_PIECE_SIZE, (h.kind == SESSION) & long)
+}
+
+// The number of the first refusal that applies to writing a message, given `keys` key bytes, into an output of `room` bytes, or 0.
 fn refused(header: Header, chain: &[u8], payload: &[u8], keys: usize, room: usize) -> u8
     ensures { λ r. ⌜ r ≡ writeRefusal header (now (chain .entry)) (now (payload .entry)) keys room ⌝ }
 {
-    if bad_kind(header.kind) {
-        return WRONG_TYPE;
+    let n = bad_fields(header);
+    if n != 0 {
+        return n;
     }
-    if bad_flags(header.kind, header.flags) {
-        return WRONG_FLAGS;
-    }
-    if bad_piece(header.kind, header.index, header.count) {
-        return WRONG_PIECE;
-    }
-    if bad_chain(chain) {
-        return WRONG_CHAIN;
+    let n = bad_parts(header, chain, payload, keys);
+    if n != 0 {
+        return n;
     }
     let sealed = is_sealed(header.flags);
-    if sealed & (keys != KEYS) {
-        return WRONG_KEYS;
-    }
-    if bad_payload(header.kind, sealed, payload) {
-        return WRONG_PAYLOAD;
-    }
-    if (header.kind == SESSION) & (MOST_PAYLOAD < payload.len()) {
-        return WRONG_PIECE_SIZE;
-    }
-    if room < finished_length(sealed, chain.len(), payload.len()) {
-        return NO_ROOM;
-    }
-    0
+    let size = finished_length(sealed, chain.len(), payload.len());
+    next(n, NO_ROOM, room < size)
 }
 
 // The header of a message of `size` bytes, and its chain.

@@ -42,4 +42,4 @@ pub advance-spec : {M : Type 1} → statement M
 advance-spec =
     tie.close (tie.spec
     (λ c κs. search needs) completes-requires (λ c. search needs) mul-length (λ c. search needs) add-length
-    (λ c. search needs) (λ c κs. search needs) returns returns-2)
+    (λ c. search needs) _ returns returns-2)

@@ -41,4 +41,4 @@ pub conflict-spec : {M : Type 1} → statement M
 conflict-spec =
     tie.close (tie.spec
     element-copy-out-if1 returns (λ c κs. search needs) returns-2 (λ c. search needs) (λ c. search needs)
-    (λ c. search needs) (λ c. search needs) (λ c. search needs) (λ c κs. search needs) returns-3)
+    (λ c. search needs) (λ c. search needs) (λ c. search needs) _ returns-3)

@@ -1,7 +1,6 @@
 -- The count stands beside no refusal.
 use mathlib.Core.Path.{sym, _∙_}
 use borrow.Author.Tests.{eq-eqb, ne-eqb}
-use borrow.Author.Needs.{needs}
 use Rattle.joining.proofs.Cuts.{cuttable}
 use Rattle.joining.proofs.cut.cut.Statement.{statement}
 use Rattle.joining.proofs.cut.cut.Tie as tie
@@ -18,4 +17,4 @@ returns-2 c =
     (r, rw (← r, eq-eqb _ _ (c .before .if1 .left)) (c .piece-count .ensures))
 
 pub cut-spec : {M : Type 1} → statement M
-cut-spec = tie.close (tie.spec (λ c κs. search needs) returns piece-count-requires returns-2)
+cut-spec = tie.close (tie.spec _ returns piece-count-requires returns-2)

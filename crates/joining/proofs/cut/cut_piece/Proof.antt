@@ -40,5 +40,5 @@ returns-2 c =
 pub cut-piece-spec : {M : Type 1} → statement M
 cut-piece-spec =
     tie.close (tie.spec
-    (λ c κs. search needs) (λ c. search needs) (λ c. search needs) (λ c. search needs) returns mul-start sub-lesser
-    (λ c κs. search needs) add-end (λ c. search needs) (λ c. search needs) part-result-end-2 returns-2)
+    _ (λ c. search needs) (λ c. search needs) (λ c. search needs) returns mul-start sub-lesser _ add-end
+    (λ c. search needs) (λ c. search needs) part-result-end-2 returns-2)

@@ -48,7 +48,6 @@ returns-4 c = of-message _ _ _ _ _ _ (c .before .before .before .if1 .left)
 pub payload-spec : {M : Type 1} → statement M
 payload-spec =
     tie.close (tie.spec
-    (λ c κs. search needs) (λ c. search needs) (λ c. search needs) (λ c. search needs) returns add-end
-    (λ c. search needs) (λ c. search needs) part-result-end-2 returns-2 (λ c κs. search needs) (λ c. search needs)
-    (λ c. search needs) (λ c. search needs) returns-3 add-end-2 (λ c. search needs) (λ c. search needs)
-    part-result-end-4 returns-4)
+    _ (λ c. search needs) (λ c. search needs) (λ c. search needs) returns add-end (λ c. search needs)
+    (λ c. search needs) part-result-end-2 returns-2 _ (λ c. search needs) (λ c. search needs) (λ c. search needs)
+    returns-3 add-end-2 (λ c. search needs) (λ c. search needs) part-result-end-4 returns-4)

@@ -38,7 +38,4 @@ returns-3 c =
     read-plainly _ _ _ _ _ _ e (sym (at-is-sealed .is-sealed .ensures) ∙ at-if1 .if1 .left) _ (c .read-plain .ensures)
 
 pub read-spec : {M : Type 1} → statement M
-read-spec =
-    tie.close (tie.spec
-    (λ c κs. search needs) (λ c. search needs) (λ c. search needs) (λ c κs. search needs) (λ c κs. search needs)
-    (λ c. search needs) returns read-plain-requires returns-2 returns-3)
+read-spec = tie.close (tie.spec _ (λ c. search needs) (λ c. search needs) _ _ (λ c. search needs) returns read-plain-requires returns-2 returns-3)

@@ -9,8 +9,8 @@ returns c =
     let o = c .before .before .before .«open» .ensures in
     (not-opened _ _ _ _ _ _ _ (o .0) (o .1) (c .if1 .taken), o .1)
 
-part-bad-payload-end : tie.Need-part-bad-payload-end
-part-bad-payload-end c =
+part-bad-shape-end : tie.Need-part-bad-shape-end
+part-bad-shape-end c =
     let at-number32 = c .before in
     let at-if1 = at-number32 .before .before in
     let at-open = at-if1 .before .before .before in
@@ -21,23 +21,23 @@ part-bad-payload-end c =
 
 returns-2 : tie.Need-returns-2
 returns-2 c =
-    let at-bad-payload = c .before in
-    let at-number32 = at-bad-payload .before .before .before in
+    let at-bad-shape = c .before in
+    let at-number32 = at-bad-shape .before .before .before in
     let at-if1 = at-number32 .before .before in
     let at-open = at-if1 .before .before .before in
     let o = at-open .«open» .ensures in
     let told = at-number32 .number32 .ensures in
-    (sealed-refused _ _ _ _ _ _ _ (o .0) (o .1) (at-if1 .if1 .left) _ (rw told at (at-bad-payload .bad-payload .ensures)) (c .if2 .taken), o .1)
+    (sealed-refused _ _ _ _ _ _ _ (o .0) (o .1) (at-if1 .if1 .left) _ (rw told at (at-bad-shape .bad-shape .ensures)) (c .if2 .taken), o .1)
 
 returns-3 : tie.Need-returns-3
 returns-3 c =
-    let at-bad-payload = c .before in
-    let at-number32 = at-bad-payload .before .before .before in
+    let at-bad-shape = c .before in
+    let at-number32 = at-bad-shape .before .before .before in
     let at-if1 = at-number32 .before .before in
     let at-open = at-if1 .before .before .before in
     let o = at-open .«open» .ensures in
     let told = at-number32 .number32 .ensures in (
-      rw told (sealed-accepted _ _ _ _ _ _ _ (o .0) (o .1) (at-if1 .if1 .left) _ (rw told at (at-bad-payload .bad-payload .ensures))
+      rw told (sealed-accepted _ _ _ _ _ _ _ (o .0) (o .1) (at-if1 .if1 .left) _ (rw told at (at-bad-shape .bad-shape .ensures))
           (c .if2 .left)),
       o .1,
     )
@@ -45,6 +45,5 @@ returns-3 c =
 pub read-sealed-spec : {M : Type 1} → statement M
 read-sealed-spec =
     tie.close (tie.spec
-    (λ c κs. search needs) (λ c. search needs) returns (λ c κs. search needs) (λ c. search needs) (λ c. search needs)
-    (λ c. search needs) (λ c. search needs) part-bad-payload-end (λ c κs. search needs) (λ c. search needs) returns-2
-    (λ c. search needs) returns-3)
+    _ (λ c. search needs) returns (λ c κs. search needs) (λ c. search needs) (λ c. search needs) (λ c. search needs)
+    (λ c. search needs) part-bad-shape-end _ (λ c. search needs) returns-2 (λ c. search needs) returns-3)

@@ -26,5 +26,5 @@ returns-2 c = rw (c .if1 .left)
 pub finished-length-spec : {M : Type 1} → statement M
 finished-length-spec =
     tie.close (tie.spec
-    (λ c. search needs) (λ c. search needs) (λ c κs. search needs) add-result-2 add-result-3 returns
-    (λ c. search needs) (λ c. search needs) returns-2)
+    (λ c. search needs) (λ c. search needs) _ add-result-2 add-result-3 returns (λ c. search needs) (λ c. search needs)
+    returns-2)

@@ -12,4 +12,4 @@ returns c =
     (c .before .before .before .before .before .before .write-header .ensures .1) (c .before .before .store-bytes .ensures)
 
 pub put-front-spec : {M : Type 1} → statement M
-put-front-spec = tie.close (tie.spec (λ c κs. search needs) (λ c κs. search needs) (λ c. search needs) returns)
+put-front-spec = tie.close (tie.spec _ _ (λ c. search needs) returns)

@@ -71,6 +71,5 @@ returns-3 c =
 pub write-spec : {M : Type 1} → statement M
 write-spec =
     tie.close (tie.spec
-    (λ c κs. search needs) returns (λ c κs. search needs) finished-length-requires (λ c. search needs) cast-put-front
-    put-front-requires (λ c κs. search needs) (λ c. search needs) returns-2 (λ c κs. search needs) (λ c. search needs)
-    returns-3)
+    _ returns _ finished-length-requires (λ c. search needs) cast-put-front put-front-requires _ (λ c. search needs)
+    returns-2 _ (λ c. search needs) returns-3)
