@@ -1,5 +1,5 @@
 pub mod Certificates
 pub mod Hearing
-pub mod Quiet
+pub mod QuietKeeps
 pub mod Stepping
-pub mod Layer
+pub mod StepMachine

@@ -12,8 +12,8 @@ use Rattle.joining.specs.declared.Progress.{Progress}
 use Rattle.joining.specs.declared.Arrival.{Arrival}
 use Rattle.joining.specs.declared.Arrival.the-variants as arrival
 use Rattle.joining.specs.Join.{join}
-use Rattle.joining.proofs.Accepting as joining
-use Rattle.joining.proofs.Accepting.{Holds, nothing-holds, join-counts}
+use Rattle.joining.proofs.AcceptedCount as joining
+use Rattle.joining.proofs.AcceptedCount.{Holds, nothing-holds, join-counts}
 use Rattle.hub.specs.declared.Connection.{Connection}
 use Rattle.hub.specs.declared.Stepped.{Stepped}
 use Rattle.hub.specs.declared.Answer.the-variants.{Refused, Taken, Repeat, Complete}

@@ -18,14 +18,14 @@ use Rattle.hub.specs.declared.Stepped.{Stepped}
 use Rattle.hub.specs.declared.Answer.the-variants.{Refused, Reply, Again}
 use Rattle.hub.specs.Answers.{isQuiet}
 use Rattle.hub.specs.Step.{step}
-use Rattle.hub.proofs.Layer.{step-still}
+use Rattle.hub.proofs.StepMachine.{step-still}
 use Rattle.promises.specs.Written.{ReadAs}
 use Rattle.promises.specs.Reports.{after, answer, afterAll}
 use Rattle.promises.specs.Enrolment.{NoFailure, RepeatedStep}
 use Rattle.promises.proofs.ReadBack.{step-hears}
 use Rattle.promises.proofs.ReadAgain.{read-again}
-use Rattle.promises.proofs.Keeping.{step-kept}
-use Rattle.promises.proofs.Known.{Known, still-known, again, heard-replied}
+use Rattle.promises.proofs.StateKept.{step-kept}
+use Rattle.promises.proofs.RepeatKnown.{Known, still-known, again, heard-replied}
 use Rattle.hub.specs.Calls.{Call, Standing}
 
 -- A step that answered with a reply had a fragment size, a verdict and a message that was read.

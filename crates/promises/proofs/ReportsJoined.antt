@@ -11,13 +11,13 @@ use Rattle.laws.proofs.Bools.{or-false}
 use Rattle.joining.specs.Heard.{most}
 use Rattle.joining.specs.Cut.{badSize, pieceCount, cutRefusal, cutCount}
 use Rattle.joining.proofs.Cuts.{passed, cuttable}
-use Rattle.joining.proofs.Coming as coming
-use Rattle.joining.proofs.Courses as joining
-use Rattle.joining.proofs.Counting.{all-told, told-again, told-taken}
-use Rattle.joining.proofs.Courses.{Machine, final, only-the-set, handed-out, as-sent, at-no-other, late-copy}
+use Rattle.joining.proofs.Snapshot as coming
+use Rattle.joining.proofs.DemandThree as joining
+use Rattle.joining.proofs.HeardCount.{all-told, told-again, told-taken}
+use Rattle.joining.proofs.DemandThree.{Machine, final, only-the-set, handed-out, as-sent, at-no-other, late-copy}
 use Rattle.hub.specs.declared.Answer.the-variants.{Refused, Reply, Again, Failure, Taken, Repeat, Complete}
 use Rattle.hub.specs.Answers.{isComplete}
-use Rattle.hub.proofs.Layer.{Brings, hub}
+use Rattle.hub.proofs.StepMachine.{Brings, hub}
 use Rattle.promises.specs.Reports.{after, answer, afterAll, Sending, began, fragments, Fair, fragment, headerFor, Sent, Course, done, brings, rests, OnlyWhatCame, HandedOut, Brought, DemandThree, NotBetween}
 use Rattle.promises.proofs.ReadBack.{reads-back}
 use Rattle.joining.specs.Events.{Event, piece, LastMissing}

@@ -26,11 +26,11 @@ use Rattle.hub.specs.declared.Stepped.{Stepped}
 use Rattle.hub.specs.declared.Answer.{Answer}
 use Rattle.hub.specs.declared.Answer.the-variants.{Refused, Reply, Again, Failure, Taken, Repeat, Complete}
 use Rattle.hub.specs.Answers.{valuesOf, answerOf, isQuiet}
-use Rattle.hub.proofs.Quiet.{connect-apart}
+use Rattle.hub.proofs.QuietKeeps.{connect-apart}
 use Rattle.hub.specs.Host.{hostRows, firstRow, host, refuse}
 use Rattle.hub.specs.Hear.{certificate, connect, pieceIn, joined, isForeign, joins, heard}
 use Rattle.hub.specs.Step.{afterRead, step}
-use Rattle.hub.proofs.Layer.{step-still}
+use Rattle.hub.proofs.StepMachine.{step-still}
 use Rattle.promises.specs.Refusals.{AreBytes, readerTable, openingTable, anyOf, hostTable, handed, stepTable, StepExact, LeavesAlone}
 use Rattle.promises.proofs.RefusalTables.{reader-first, whatIsRead, read-by-table}
 

@@ -16,11 +16,11 @@ use Rattle.joining.specs.declared.Arrival.{Arrival}
 use Rattle.joining.specs.declared.Arrival.the-variants.{Refused, Taken, Repeat, Complete}
 use Rattle.joining.specs.Heard.{most, tally, come, has, mark, none}
 use Rattle.joining.specs.Join.{unlike, turnRows, placeRows, joinRefusal, lastOf, expecting, extended, completes, taken, join}
-use Rattle.joining.proofs.Heards.{has-none}
+use Rattle.joining.proofs.HeardLaws.{has-none}
 use Rattle.joining.proofs.Refusals.{fitting}
-use Rattle.joining.proofs.Arriving.{mark-known}
-use Rattle.joining.proofs.Come.{mark-has}
-use Rattle.joining.proofs.Counting.{come-came, tally-come, or-swap}
+use Rattle.joining.proofs.PieceArrives.{mark-known}
+use Rattle.joining.proofs.EventSet.{mark-has}
+use Rattle.joining.proofs.HeardCount.{come-came, tally-come, or-swap}
 use Rattle.joining.specs.Events.{Event, piece, came, howMany}
 
 -- The indexes accepted of the expected message, once a piece of index i got this answer: a piece that is Taken adds its own; after Complete

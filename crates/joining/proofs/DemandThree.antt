@@ -17,11 +17,11 @@ use Rattle.joining.specs.declared.Arrival.{Arrival}
 use Rattle.joining.specs.declared.Arrival.the-variants.{Refused, Taken, Repeat, Complete}
 use Rattle.joining.specs.Heard.{most, tally, come, has, mark, none}
 use Rattle.joining.specs.Join.{expecting, join, reportAfter}
-use Rattle.joining.proofs.Heards.{come-mark, come-full, full-come}
-use Rattle.joining.proofs.Coming.{Start, Fair, Lawful, pieceOf, bytesOf, heldAt, byteAt, bufferAt, listed-length, none-lawful, held-none, buffer-none, whole}
-use Rattle.joining.proofs.Arriving.{mark-lawful, answerAt, arrives}
+use Rattle.joining.proofs.HeardLaws.{come-mark, come-full, full-come}
+use Rattle.joining.proofs.Snapshot.{Start, Fair, Lawful, pieceOf, bytesOf, heldAt, byteAt, bufferAt, listed-length, none-lawful, held-none, buffer-none, whole}
+use Rattle.joining.proofs.PieceArrives.{mark-lawful, answerAt, arrives}
 use Rattle.joining.specs.Events.{Event, piece, between, came, LastMissing}
-use Rattle.joining.proofs.Come.{marks, Under, setOf, set-lawful, set-has, set-only}
+use Rattle.joining.proofs.EventSet.{marks, Under, setOf, set-lawful, set-has, set-only}
 
 -- The machine, as far as demand 3 looks at it: states C, inputs X, answers A.
 pub record Machine (F : ℕ) : Type 1 where

@@ -10,11 +10,11 @@ use lib.Seq.{getD-set-other}
 use borrow.Author.Tests.{eq-eqb, ne-eqb}
 use Rattle.joining.specs.declared.Arrival.the-variants.{Taken, Repeat}
 use Rattle.joining.specs.Heard.{most, bit, tally, come, has, mark}
-use Rattle.joining.proofs.Heards.{come-next, come-mark, come-full, full-come, tally-mark}
-use Rattle.joining.proofs.Coming.{Start, Fair, Lawful, pieceOf, bytesOf}
-use Rattle.joining.proofs.Arriving.{mark-known, mark-lawful}
-use Rattle.joining.proofs.Come.{setOf, set-has, set-lawful, mark-has}
-use Rattle.joining.proofs.Courses.{Machine, final, Course, under, began, says-here}
+use Rattle.joining.proofs.HeardLaws.{come-next, come-mark, come-full, full-come, tally-mark}
+use Rattle.joining.proofs.Snapshot.{Start, Fair, Lawful, pieceOf, bytesOf}
+use Rattle.joining.proofs.PieceArrives.{mark-known, mark-lawful}
+use Rattle.joining.proofs.EventSet.{setOf, set-has, set-lawful, mark-has}
+use Rattle.joining.proofs.DemandThree.{Machine, final, Course, under, began, says-here}
 use Rattle.joining.specs.Events.{Event, piece, came, LastMissing, howMany}
 
 -- A set that has what has come has as many.

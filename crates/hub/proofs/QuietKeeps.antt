@@ -14,7 +14,7 @@ use Rattle.sha256.specs.Digests.{digest}
 use Rattle.joining.specs.declared.Arrival.{Arrival}
 use Rattle.joining.specs.declared.Arrival.the-variants.{Refused as refusedPiece, Taken as takenPiece, Repeat as repeatedPiece, Complete as completePiece}
 use Rattle.joining.specs.Join.{join, reportAfter}
-use Rattle.joining.proofs.Still.{isRefused, join-still}
+use Rattle.joining.proofs.JoinStill.{isRefused, join-still}
 use Rattle.hub.specs.declared.Connection.{Connection}
 use Rattle.hub.specs.declared.Stepped.{Stepped}
 use Rattle.hub.specs.Answers.{isQuiet, answerOf}

@@ -12,8 +12,8 @@ use Rattle.joining.specs.Heard.{most, tally, has}
 use Rattle.joining.specs.Cut.{badSize}
 use Rattle.joining.specs.Join.{badIndex, unlike, isLast, misfit, conflict, joinRefusal, expecting}
 use Rattle.joining.proofs.Cuts.{not-over, filled, remainder, not-empty}
-use Rattle.joining.proofs.Coming.{Start, Fair, Lawful, pieceOf, bytesOf, partHeld, bufferAt}
-use Rattle.joining.proofs.Buffers.{room, there}
+use Rattle.joining.proofs.Snapshot.{Start, Fair, Lawful, pieceOf, bytesOf, partHeld, bufferAt}
+use Rattle.joining.proofs.SnapshotBuffer.{room, there}
 
 module _ (s : Start) (f : Fair s) (S : List Bool) (w : Lawful s S) (i : ℕ) (l : i < s .count) where
   abbrev bytes : List ℕ

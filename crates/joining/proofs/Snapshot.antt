@@ -15,7 +15,7 @@ use Rattle.joining.specs.declared.Piece.{Piece}
 use Rattle.joining.specs.Heard.{most, tally, come, has, none}
 use Rattle.joining.specs.Report.{part}
 use Rattle.joining.specs.Join.{expecting}
-use Rattle.joining.proofs.Heards.{tally-none, come-none, has-none, come-full}
+use Rattle.joining.proofs.HeardLaws.{tally-none, come-none, has-none, come-full}
 use Rattle.joining.proofs.Cuts.{Cut}
 
 -- A report, how it was cut, and how what is remembered and the report buffer began.

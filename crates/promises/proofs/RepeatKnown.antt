@@ -23,7 +23,7 @@ use Rattle.hub.specs.Answers.{answerOf}
 use Rattle.hub.specs.Host.{hostRows, host, refuse, stepped, requested, judged, knows}
 use Rattle.hub.specs.Hear.{certificate, connect, pieceIn, isForeign, heard}
 use Rattle.promises.proofs.Ways.{first-has, heard-has}
-use Rattle.promises.proofs.Keeping.{Keeps}
+use Rattle.promises.proofs.StateKept.{Keeps}
 
 -- An answer that is no reply and no Failure.
 other-reply : (a : Arrival) (t : ℕ) → answerOf a ≡ Reply t → ⊥

@@ -10,9 +10,9 @@ use lib.ListN.{length, length-set, length-replicate}
 use lib.Seq.{getD-set-same, getD-set-other, ext-getD}
 use borrow.Author.Tests.{eq-eqb, ne-eqb}
 use Rattle.joining.specs.Heard.{most, has, mark, none}
-use Rattle.joining.proofs.Heards.{has-none}
-use Rattle.joining.proofs.Coming.{Start, Fair, Lawful, none-lawful}
-use Rattle.joining.proofs.Arriving.{mark-lawful}
+use Rattle.joining.proofs.HeardLaws.{has-none}
+use Rattle.joining.proofs.Snapshot.{Start, Fair, Lawful, none-lawful}
+use Rattle.joining.proofs.PieceArrives.{mark-lawful}
 use Rattle.joining.specs.Events.{Event, piece, between, came}
 use Rattle.laws.proofs.Bools.{or-true, or-none, or-assoc}
 

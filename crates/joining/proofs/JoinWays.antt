@@ -13,7 +13,7 @@ use Rattle.joining.specs.declared.Arrival.the-variants.{Refused, Taken, 
 use Rattle.joining.specs.Heard.{tally, come, has, mark}
 use Rattle.joining.specs.Report.{put}
 use Rattle.joining.specs.Join.{lastOf, expecting, taken, joinRefusal, join, reportAfter}
-use Rattle.joining.proofs.Heards.{mark-known}
+use Rattle.joining.proofs.HeardLaws.{mark-known}
 
 -- A new piece: m is the set with its index, t the test that all are in it, l the last length.
 module _ (F : ℕ) (h : Progress) (p : Piece) (size : ℕ) (m : List Bool) (t : Bool) (l : ℕ) (marked : m ≡ mark (h .heard) (p .index))

@@ -15,14 +15,14 @@ use Rattle.joining.specs.declared.Progress.{Progress}
 use Rattle.joining.specs.declared.Piece.{Piece}
 use Rattle.joining.specs.Cut.{badSize}
 use Rattle.joining.specs.Join.{join, reportAfter}
-use Rattle.joining.proofs.Courses.{Machine}
+use Rattle.joining.proofs.DemandThree.{Machine}
 use Rattle.hub.specs.declared.Connection.{Connection}
 use Rattle.hub.specs.declared.Stepped.{Stepped}
 use Rattle.hub.specs.declared.Answer.{Answer}
 use Rattle.hub.specs.Answers.{answerOf, isQuiet, isComplete}
 use Rattle.hub.specs.Hear.{pieceIn, withProgress, joined, joins, heard, reportHeard}
 use Rattle.hub.specs.Step.{afterRead, reportRead, step, reportStepped}
-use Rattle.hub.proofs.Quiet.{Still, heard-still}
+use Rattle.hub.proofs.QuietKeeps.{Still, heard-still}
 use Rattle.hub.specs.Calls.{Call, Standing}
 
 -- The call's verdict is 0 or 1, and its message is read as a Session message of this connection's session that brings the piece.

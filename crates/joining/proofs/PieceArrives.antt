@@ -12,13 +12,13 @@ use Rattle.joining.specs.declared.Arrival.{Arrival}
 use Rattle.joining.specs.declared.Arrival.the-variants.{Refused, Taken, Repeat, Complete}
 use Rattle.joining.specs.Heard.{tally, come, has, mark}
 use Rattle.joining.specs.Join.{lastOf, taken, join, reportAfter}
-use Rattle.joining.proofs.Heards.{tally-mark, come-mark, come-full}
-pub use Rattle.joining.proofs.Heards.{mark-known}
+use Rattle.joining.proofs.HeardLaws.{tally-mark, come-mark, come-full}
+pub use Rattle.joining.proofs.HeardLaws.{mark-known}
 use Rattle.joining.proofs.Cuts.{begins, remainder}
-use Rattle.joining.proofs.Coming.{Start, Fair, Lawful, pieceOf, bytesOf, lastSize, partHeld, heldAt, bufferAt}
-use Rattle.joining.proofs.Buffers.{in-set, put-buffer}
-pub use Rattle.joining.proofs.Buffers.{mark-lawful}
-use Rattle.joining.proofs.Passing.{unrefused, late}
+use Rattle.joining.proofs.Snapshot.{Start, Fair, Lawful, pieceOf, bytesOf, lastSize, partHeld, heldAt, bufferAt}
+use Rattle.joining.proofs.SnapshotBuffer.{in-set, put-buffer}
+pub use Rattle.joining.proofs.SnapshotBuffer.{mark-lawful}
+use Rattle.joining.proofs.PieceAllowed.{unrefused, late}
 
 -- What is answered to piece i where S has come.
 abbrev pub answerAt : Start → List Bool → ℕ → Arrival
