@@ -1,5 +1,7 @@
 pub mod Certificates
 pub mod Hearing
-pub mod QuietKeeps
 pub mod Stepping
+pub mod HostWays
+pub mod StepCases
+pub mod QuietKeeps
 pub mod StepMachine

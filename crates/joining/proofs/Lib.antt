@@ -10,6 +10,5 @@ pub mod PieceAllowed
 pub mod PieceArrives
 pub mod EventSet
 pub mod DemandThree
-pub mod JoinStill
 pub mod HeardCount
 pub mod AcceptedCount

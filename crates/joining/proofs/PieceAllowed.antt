@@ -7,17 +7,18 @@ use native.Mathlib.Omega.{arith}
 use lib.Dec.{eqb, ltb}
 use lib.ListN.{length}
 use borrow.Author.Tests.{eq-eqb, ne-eqb, lt-ltb, le-ltb, lt-leb, eqb-true, eqb-false, ltb-true}
+use Rattle.laws.proofs.Cases.{on}
 use Rattle.laws.proofs.Sames.{same-refl}
 use Rattle.joining.specs.Heard.{most, tally, has}
 use Rattle.joining.specs.Cut.{badSize}
 use Rattle.joining.specs.Join.{badIndex, unlike, isLast, misfit, conflict, joinRefusal, expecting}
 use Rattle.joining.proofs.Cuts.{not-over, filled, remainder, not-empty}
-use Rattle.joining.proofs.Snapshot.{Start, Fair, Lawful, pieceOf, bytesOf, partHeld, bufferAt}
+use Rattle.joining.proofs.Snapshot.{Start, Startable, Lawful, pieceOf, pieceBytes, partHeld, bufferAt}
 use Rattle.joining.proofs.SnapshotBuffer.{room, there}
 
-module _ (s : Start) (f : Fair s) (S : List Bool) (w : Lawful s S) (i : ℕ) (l : i < s .count) where
+module _ (s : Start) (f : Startable s) (S : List Bool) (w : Lawful s S) (i : ℕ) (l : i < s .count) where
   abbrev bytes : List ℕ
-  bytes = bytesOf s i
+  bytes = pieceBytes s i
 
   abbrev at : ℕ
   at = s .size * i
@@ -32,48 +33,38 @@ module _ (s : Start) (f : Fair s) (S : List Bool) (w : Lawful s S) (i : ℕ) (l 
   numbered = ne-eqb (s .held .expected) 4294967295 (λ e. omega (arith, f .number))
 
   like : unlike (partHeld s S) (pieceOf s i) ≡ false
-  like = go (eqb (tally S) 0) refl
-    where
-      go : (t : Bool) → eqb (tally S) 0 ≡ t → unlike (partHeld s S) (pieceOf s i) ≡ false
-      go true e = simp e
-      go false e = simp (e, eq-eqb (s .count) (s .count) refl, eq-eqb (s .channel) (s .channel) refl)
+  like =
+      on (eqb (tally S) 0) (λ e. simp e)
+      (λ e. simp (e, eq-eqb (s .count) (s .count) refl, eq-eqb (s .channel) (s .channel) refl))
+
+  -- A piece that is not the last is F long.
+  full : eqb (i + 1) (s .count) ≡ false → length bytes ≡ s .size
+  full e = filled (s .report) (f .cut) i l (omega (arith, eqb-false (i + 1) (s .count) e))
 
   fitting : misfit (s .size) (pieceOf s i) (length bytes) ≡ false
-  fitting = go (eqb (i + 1) (s .count)) refl
-    where
-      ends : (t : Bool) → ltb 1 (s .count) ≡ t → i + 1 ≡ s .count → (eqb (length bytes) 0 && ltb 1 (s .count)) ≡ false
-      ends true e m =
-          let p : 0 < length bytes = not-empty (s .report) (f .cut) i l m (ltb-true 1 (s .count) e) in
-          rw (ne-eqb (length bytes) 0 (λ z. omega arith))
-      ends false e m = rw e (and-false (eqb (length bytes) 0))
-
-      go : (t : Bool) → eqb (i + 1) (s .count) ≡ t → misfit (s .size) (pieceOf s i) (length bytes) ≡ false
-      go true e =
-          rw (e, le-ltb (s .size) (length bytes) (not-over (s .report) (f .cut) i l))
-          (ends (ltb 1 (s .count)) refl (eqb-true (i + 1) (s .count) e))
-      go false e =
-          let m : i + 1 < s .count = omega (arith, eqb-false (i + 1) (s .count) e) in
-          rw (e, eq-eqb (length bytes) (s .size) (filled (s .report) (f .cut) i l m))
+  fitting =
+      on (eqb (i + 1) (s .count))
+      (λ e.
+      rw (e, le-ltb (s .size) (length bytes) (not-over (s .report) (f .cut) i l))
+      (on (ltb 1 (s .count))
+      (λ k.
+      let p = not-empty (s .report) (f .cut) i l (eqb-true (i + 1) (s .count) e) (ltb-true 1 (s .count) k) in
+      rw (ne-eqb (length bytes) 0 (λ z. omega arith)))
+      (λ k. rw k (and-false (eqb (length bytes) 0)))))
+      (λ e. rw (e, eq-eqb (length bytes) (s .size) (full e)))
 
   -- The length that was taken: the remainder for the last piece, else F.
   due : has S i ≡ true → eqb (length bytes) (cond (isLast (pieceOf s i)) (partHeld s S .last) (s .size)) ≡ true
-  due h = go (eqb (i + 1) (s .count)) refl
-    where
-      go : (t : Bool) → eqb (i + 1) (s .count) ≡ t → eqb (length bytes) (cond (isLast (pieceOf s i)) (partHeld s S .last) (s .size)) ≡ true
-      go true e =
-          let m : i + 1 ≡ s .count = eqb-true (i + 1) (s .count) e in
-          let p : s .count - 1 ≡ i = omega arith in
-          rw (e, p, h) (eq-eqb (length bytes) (length (s .report) - s .size * i) (remainder (s .report) (f .cut) i l m))
-      go false e =
-          let m : i + 1 < s .count = omega (arith, eqb-false (i + 1) (s .count) e) in
-          rw e (eq-eqb (length bytes) (s .size) (filled (s .report) (f .cut) i l m))
+  due h =
+      on (eqb (i + 1) (s .count))
+      (λ e.
+      let m : i + 1 ≡ s .count = eqb-true (i + 1) (s .count) e in
+      let p : s .count - 1 ≡ i = omega arith in
+      rw (e, p, h) (eq-eqb (length bytes) (length (s .report) - s .size * i) (remainder (s .report) (f .cut) i l m)))
+      (λ e. rw e (eq-eqb (length bytes) (s .size) (full e)))
 
   agreed : conflict (s .size) (partHeld s S) (pieceOf s i) bytes (bufferAt s S) ≡ false
-  agreed = go (has S i) refl
-    where
-      go : (t : Bool) → has S i ≡ t → conflict (s .size) (partHeld s S) (pieceOf s i) bytes (bufferAt s S) ≡ false
-      go true e = rw (e, due e, there s f S w i l e, same-refl bytes)
-      go false e = rw e
+  agreed = on (has S i) (λ e. rw (e, due e, there s f S w i l e, same-refl bytes)) (λ e. rw e)
 
   pub unrefused : joinRefusal (s .size) (partHeld s S) (pieceOf s i) bytes (bufferAt s S) ≡ 0
   unfolding joinRefusal

@@ -2,20 +2,21 @@
 use Prim.Native.Nat.{ℕ, _+_, _*_, _≤_, _<_}
 use mathlib.Core.Path.{_≡_, refl, sym, _∙_}
 use mathlib.Core.List.{List}
-use mathlib.Core.Bool.{Bool, true, false, cond, _&&_}
+use mathlib.Core.Bool.{false, _&&_}
 use native.Mathlib.Omega.{arith}
 use lib.Dec.{eqb, ltb, leb}
 use lib.ListN.{length}
 use borrow.Author.Tests.{eqb-true, eqb-false, ltb-false, leb-false, not-false, eq-eqb, ne-eqb}
-use Rattle.laws.specs.Rows.{first, orElse}
+use Rattle.laws.specs.Rows.{first, orElse, quiet}
 use Rattle.laws.proofs.Bools.{or-false}
-use Rattle.laws.proofs.Firsts.{first-append}
+use Rattle.laws.proofs.Firsts.{first-append, first-quiet}
+use Rattle.laws.proofs.Cases.{on, neither}
 use Rattle.joining.specs.declared.Progress.{Progress}
 use Rattle.joining.specs.declared.Piece.{Piece}
 use Rattle.joining.specs.Heard.{most}
 use Rattle.joining.specs.Cut.{badSize}
 use Rattle.joining.specs.Join.{badIndex, unlike, isLast, misfit, turnRows, placeRows, joinRefusal, Fitting}
-use Rattle.joining.proofs.Cuts.{good-size, passed}
+use Rattle.joining.proofs.Cuts.{good-size}
 
 -- The piece is one of the expected message.
 pub record InTurn (F expected : ℕ) (p : Piece) : Type 0 where
@@ -28,14 +29,13 @@ pub record InTurn (F expected : ℕ) (p : Piece) : Type 0 where
 
 pub in-turn : (F expected : ℕ) (p : Piece) → first (turnRows F expected p) ≡ 0 → InTurn F expected p
 in-turn F expected p e =
-    let a = passed (badSize F) 24 _ (λ z. omega arith) e in
-    let b = passed (badIndex (p .count) (p .index)) 7 _ (λ z. omega arith) (a .1) in
-    let c = passed (eqb (p .sequence) 4294967295) 19 _ (λ z. omega arith) (b .1) in
-    let d = passed (ltb (p .sequence) expected) 17 _ (λ z. omega arith) (c .1) in
-    let f = passed (ltb expected (p .sequence)) 18 _ (λ z. omega arith) (d .1) in
+    let a = first-quiet (turnRows F expected p) refl e in
+    let b = a .1 in
+    let c = b .1 in
+    let d = c .1 in
     let s = good-size F (a .0) in
     let n = or-false (ltb most (p .count)) (leb (p .count) (p .index)) (b .0) in
-    let q : p .sequence ≡ expected = omega (arith, ltb-false (p .sequence) expected (d .0), ltb-false expected (p .sequence) (f .0)) in
+    let q : p .sequence ≡ expected = omega (arith, ltb-false (p .sequence) expected (d .0), ltb-false expected (p .sequence) (d .1 .0)) in
     record {
       pos = s .0;
       small = s .1;
@@ -57,31 +57,22 @@ module _ (F : ℕ) (h : Progress) (p : Piece) (bytes report : List ℕ) where
   pub refusal-place : (r : ℕ) → r ≡ first (turnRows F (h .expected) p) → r ≡ 0 → first (placeRows F h p bytes report) ≡ joinRefusal F h p bytes report
   refusal-place r e z = rw (refusal-two, ← e, eq-eqb r 0 z)
 
-fit : (F : ℕ) (p : Piece) (size : ℕ) (t : Bool) → isLast p ≡ t → misfit F p size ≡ false → size ≤ F
-fit F p size true q e = ltb-false F size (or-false (ltb F size) (eqb size 0 && ltb 1 (p .count)) (rw q at e) .0)
-fit F p size false q e = omega (arith, eqb-true size F (not-false (eqb size F) (rw q at e)))
+fit : (F : ℕ) (p : Piece) (size : ℕ) → misfit F p size ≡ false → size ≤ F
+fit F p size e =
+    on (isLast p) (λ q. ltb-false F size (or-false (ltb F size) (eqb size 0 && ltb 1 (p .count)) (rw q at e) .0))
+    (λ q. omega (arith, eqb-true size F (not-false (eqb size F) (rw q at e))))
 
-pub fitting : (F : ℕ) (h : Progress) (p : Piece) (bytes report : List ℕ) → joinRefusal F h p bytes report ≡ 0
-    → Fitting F h p (length bytes) × (F * p .index + length bytes ≤ length report)
-fitting F h p bytes report e =
-    let z = both (first (turnRows F (h .expected) p)) (first (placeRows F h p bytes report)) (sym (refusal-two F h p bytes report) ∙ e) in
-    let a = passed (unlike h p) 21 _ (λ z. omega arith) (z .1) in
-    let b = passed (misfit F p (length bytes)) 20 _ (λ z. omega arith) (a .1) in
-    let c = passed (ltb (length report) (F * p .index + length bytes)) 22 _ (λ z. omega arith) (b .1) in
-    let t = in-turn F (h .expected) p (z .0) in (
-      record {
-        small = t .small;
-        under = t .under;
-        few = t .few;
-        more = t .more;
-        fits = fit F p (length bytes) (isLast p) refl (b .0);
-      },
-      ltb-false (length report) (F * p .index + length bytes) (c .0),
-    )
-  where
-    pick : (n m : ℕ) (t : Bool) → eqb n 0 ≡ t → cond t m n ≡ 0 → (n ≡ 0) × (m ≡ 0)
-    pick n m true t e = (eqb-true n 0 t, e)
-    pick n m false t e = absurd (eqb-false n 0 t e)
+module _ (F : ℕ) (h : Progress) (p : Piece) (bytes report : List ℕ) (e : joinRefusal F h p bytes report ≡ 0) where
+  -- No row of either table applies.
+  pub unrefusing : (first (turnRows F (h .expected) p) ≡ 0) × quiet (placeRows F h p bytes report)
+  unrefusing =
+      let z = neither _ _ (sym (refusal-two F h p bytes report) ∙ e) in
+      (z .0, first-quiet (placeRows F h p bytes report) refl (z .1))
 
-    both : (n m : ℕ) → orElse n m ≡ 0 → (n ≡ 0) × (m ≡ 0)
-    both n m e = pick n m (eqb n 0) refl e
+  pub fitting : Fitting F h p (length bytes) × (F * p .index + length bytes ≤ length report)
+  fitting =
+      let t = in-turn F (h .expected) p (unrefusing .0) in
+      let q = unrefusing .1 .1 in (
+        record { small = t .small; under = t .under; few = t .few; more = t .more; fits = fit F p (length bytes) (q .0) },
+        ltb-false (length report) (F * p .index + length bytes) (q .1 .0),
+      )

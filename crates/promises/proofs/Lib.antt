@@ -6,7 +6,6 @@ pub mod ReadBack
 pub mod ReadAgain
 pub mod ReportsJoined
 pub mod Writes
-pub mod Ways
 pub mod StateKept
 pub mod RepeatKnown
 pub mod Repeats

@@ -2,26 +2,20 @@
 use Prim.Native.Nat.{ℕ, _≤_}
 use mathlib.Core.Path.{_≡_, refl}
 use mathlib.Core.List.{List}
-use mathlib.Core.Bool.{_&&_}
 use native.Mathlib.Omega.{arith}
-use lib.Dec.{eqb}
-use borrow.Author.Tests.{eqb-true}
-use Rattle.laws.proofs.Bools.{and-true}
-use Rattle.wire.specs.Payload.{connectType, readRequest}
-use Rattle.wire.specs.declared.payload.Request.{Request}
 use Rattle.sha256.specs.Digests.{digest}
 use Rattle.joining.specs.declared.Arrival.{Arrival}
 use Rattle.joining.specs.declared.Arrival.the-variants as arrival
-use Rattle.joining.specs.Join.{join}
 use Rattle.hub.specs.declared.Connection.{Connection}
 use Rattle.hub.specs.declared.Stepped.{Stepped}
-use Rattle.hub.specs.declared.Answer.the-variants.{Refused, Reply, Again, Failure, Taken, Repeat, Complete}
+use Rattle.hub.specs.declared.Answer.the-variants.{Failure}
 use Rattle.hub.specs.Answers.{answerOf}
-use Rattle.hub.specs.Host.{hostRows, host, refuse, judged}
-use Rattle.hub.specs.Hear.{certificate, connect, pieceIn}
+use Rattle.hub.specs.Host.{judged}
+use Rattle.hub.specs.Hear.{certificate}
 use Rattle.hub.specs.Step.{step}
+use Rattle.hub.proofs.HostWays.{refuses, repeats, requests, passes, fails, finishes}
+use Rattle.hub.proofs.StepCases.{Connects, step-has}
 use Rattle.promises.specs.Enrolment.{OnlyByZero}
-use Rattle.promises.proofs.Ways.{first-has, heard-has, step-has}
 
 -- What a step leaves of a connection in states 1 to 3, unless it names Failure: all that a repeat is compared with.
 pub record Keeps (c d : Connection) : Type 0 where
@@ -42,49 +36,21 @@ module _ (c : Connection) (low : 1 ≤ c .state) (high : c .state ≤ 3) where
   same-kept : Keeps c c
   same-kept = record { size = refl; session = refl; nonce = refl; x = refl; y = refl; up = omega arith; top = high; digest = λ l. refl }
 
-  refused-kept : (n : ℕ) → Kept (refuse c n)
-  refused-kept n f = same-kept
-
   moved : (d : List ℕ) (state : ℕ) → c .state ≤ state → state ≤ 3 → (2 ≤ c .state → d ≡ c .digest) → Keeps c (judged c d state)
   moved d state u t e = record { size = refl; session = refl; nonce = refl; x = refl; y = refl; up = u; top = t; digest = e }
 
-  host-kept : (type session : ℕ) (r : Request) (d : List ℕ) (v : ℕ) → Kept (host c type session r d v)
-  unfolding host
-  host-kept type session r d v =
-      first-has c Kept refused-kept (hostRows c type session r d v) (refuse c 15) (
-        (λ e f. let z = eqb-true (c .state) 0 (and-true (eqb type 0) (eqb (c .state) 0) e .1) in absurd (omega arith)),
-        (
-          (λ e f. same-kept),
-          (
-            (λ e f.
-                let z = eqb-true (c .state) 1 (and-true (eqb type 2) (eqb (c .state) 1)
-                (and-true (eqb type 2 && eqb (c .state) 1) (eqb v 1) e .0) .1) in
-                moved d 2 (omega arith) (omega arith) (λ l. absurd (omega arith))),
-            (
-              (λ e f. absurd (f refl)),
-              (
-                (λ e f. same-kept),
-                (
-                  (λ e f. let z = eqb-true (c .state) 2 (and-true (eqb type 6) (eqb (c .state) 2) e .1) in moved (c .digest) 3
-                      (omega arith) (omega arith) (λ l. refl)),
-                  ((λ e f. same-kept), tt),
-                ),
-              ),
-            ),
-          ),
-        ),
-      )
-      (refused-kept 15)
-
-  connect-kept : (session : ℕ) (p : List ℕ) (v : ℕ) → Kept (connect c session p v)
-  unfolding connect
-  connect-kept session p v = host-kept (connectType p) session (readRequest p) (digest (certificate p)) v
+  connect-kept : (v session : ℕ) (p : List ℕ) (s : Stepped) → Connects c session p v s → Kept s
+  connect-kept v session p _ (refuses n) f = same-kept
+  connect-kept v session p _ (repeats t) f = same-kept
+  connect-kept v session p _ (requests t z) f = absurd (omega arith)
+  connect-kept v session p _ (passes t z) f = moved (digest (certificate p)) 2 (omega arith) (omega arith) (λ l. absurd (omega arith))
+  connect-kept v session p _ (fails z) f = absurd (f refl)
+  connect-kept v session p _ (finishes t z) f = moved (c .digest) 3 (omega arith) (omega arith) (λ l. refl)
 
   pub step-kept : (m keys w report : List ℕ) (v : ℕ) → Kept (step c m keys w report v)
   step-kept m keys w report v =
-      step-has c Kept refused-kept m keys w report v
-      (λ h p. heard-has c Kept refused-kept h p report v (λ f k. connect-kept (h .session) p v)
-      (λ f. record { size = refl; session = refl; nonce = refl; x = refl; y = refl; up = omega arith; top = high; digest = λ l. refl }))
+      step-has c m keys w report v Kept (λ n f. same-kept) (connect-kept v)
+      (λ j f. record { size = refl; session = refl; nonce = refl; x = refl; y = refl; up = omega arith; top = high; digest = λ l. refl })
 
 -- Failure is named by one row, whose verdict is 0.
 no-failure : (a : Arrival) → answerOf a ≡ Failure → ⊥
@@ -93,42 +59,22 @@ no-failure (arrival.Taken k) e = let z : _≡_ {A = ℕ} 0 1 = cc in omega arith
 no-failure (arrival.Repeat k) e = let z : _≡_ {A = ℕ} 0 1 = cc in omega arith
 no-failure (arrival.Complete l k) e = let z : _≡_ {A = ℕ} 0 1 = cc in omega arith
 
-not-reply : (t : ℕ) → Reply t ≡ Failure → ⊥
-not-reply t e = let z : _≡_ {A = ℕ} 0 1 = cc in omega arith
-
-not-again : (t : ℕ) → Again t ≡ Failure → ⊥
-not-again t e = let z : _≡_ {A = ℕ} 0 1 = cc in omega arith
-
 module _ (c : Connection) (v : ℕ) where
   abbrev Judged : Stepped → Type 0
   Judged s = s .answer ≡ Failure → v ≡ 0
 
-  refused-judged : (n : ℕ) → Judged (refuse c n)
-  refused-judged n e = let z : _≡_ {A = ℕ} 0 1 = cc in absurd (omega arith)
-
-  connect-judged : (session : ℕ) (p : List ℕ) → Judged (connect c session p v)
-  unfolding connect host
-  connect-judged session p =
-      first-has c Judged refused-judged (hostRows c (connectType p) session (readRequest p) (digest (certificate p)) v) (refuse c 15) (
-        (λ e f. absurd (not-reply 1 f)),
-        (
-          (λ e f. absurd (not-again 1 f)),
-          (
-            (λ e f. absurd (not-reply 3 f)),
-            (
-              (λ e f. eqb-true v 0 (and-true (eqb (connectType p) 2 && eqb (c .state) 1) (eqb v 0) e .1)),
-              ((λ e f. absurd (not-again 3 f)), ((λ e f. absurd (not-reply 7 f)), ((λ e f. absurd (not-again 7 f)), tt))),
-            ),
-          ),
-        ),
-      )
-      (refused-judged 15)
+  connect-judged : (session : ℕ) (p : List ℕ) (s : Stepped) → Connects c session p v s → Judged s
+  connect-judged session p _ (refuses n) e = let z : _≡_ {A = ℕ} 0 1 = cc in absurd (omega arith)
+  connect-judged session p _ (repeats t) e = let z : _≡_ {A = ℕ} 0 1 = cc in absurd (omega arith)
+  connect-judged session p _ (requests t s) e = let z : _≡_ {A = ℕ} 0 1 = cc in absurd (omega arith)
+  connect-judged session p _ (passes t s) e = let z : _≡_ {A = ℕ} 0 1 = cc in absurd (omega arith)
+  connect-judged session p _ (fails z) e = z
+  connect-judged session p _ (finishes t s) e = let z : _≡_ {A = ℕ} 0 1 = cc in absurd (omega arith)
 
   step-judged : (m keys w report : List ℕ) → Judged (step c m keys w report v)
   step-judged m keys w report =
-      step-has c Judged refused-judged m keys w report v
-      (λ h p. heard-has c Judged refused-judged h p report v (λ f k. connect-judged (h .session) p)
-      (λ e. absurd (no-failure (join (c .size) (c .progress) (pieceIn h) p report .answer) e)))
+      step-has c m keys w report v Judged (λ n e. absurd (no-failure (arrival.Refused n) e)) connect-judged
+      (λ j e. absurd (no-failure (j .answer) e))
 
 pub only-by-zero : OnlyByZero
 only-by-zero p x e = step-judged (p .connection) (x .verdict) (x .message) (x .keys) (x .working) (p .report) e

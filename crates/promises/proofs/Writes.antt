@@ -21,11 +21,12 @@ use Rattle.joining.specs.Cut.{cutCount}
 use Rattle.joining.proofs.Cuts.{Cuttable, cuttable, not-over}
 use Rattle.promises.specs.Refusals.{AreBytes}
 use Rattle.promises.specs.Written.{Wrote}
-use Rattle.promises.specs.Reports.{after, Sending, fragments, fragment, headerFor, Fair, Sent, done, brings}
+use Rattle.promises.specs.Reports.{Sending, fragments, fragment, headerFor, Fair, Sent, done, brings}
 use Rattle.promises.specs.Met.{Typed, Choice, Good, flagsOf, callFor, CanBeSent, AnyOrder}
 use Rattle.promises.proofs.ReadBack.{all-bytes}
 use Rattle.promises.proofs.ReportsJoined.{each-cut, each-count}
 use Rattle.message.specs.Widths.{InWidth}
+use Rattle.hub.specs.Calls.{after}
 
 -- A call of the writer with an output that is just long enough.
 module _ (h : Header) (chain bytes keys : List ℕ) (widths : InWidth h) (of-chain : AreBytes chain) (of-bytes : AreBytes bytes)

@@ -47,5 +47,5 @@ returns-4 c =
 pub hear-spec : {M : Type 1} → statement M
 hear-spec =
     tie.close (tie.spec
-    (λ c κs. search needs) (λ c κs. search needs) returns (λ c κs. search needs) returns-2 (λ c κs. search needs)
-    (λ c. search needs) returns-3 (λ c κs. search needs) returns-4)
+    _ _ returns _ returns-2 _
+    (λ c. search needs) returns-3 _ returns-4)

@@ -48,6 +48,6 @@ returns-4 c =
 pub step-spec : {M : Type 1} → statement M
 step-spec =
     tie.close (tie.spec
-    (λ c κs. search needs) returns (λ c κs. search needs) (λ c κs. search needs) returns-2 (λ c κs. search needs)
-    (λ c. search needs) (λ c κs. search needs) (λ c. search needs) (λ c κs. search needs) (λ c κs. search needs)
+    _ returns _ _ returns-2 _
+    (λ c. search needs) _ (λ c. search needs) _ _
     (λ c. search needs) returns-3 (λ c. search needs) (λ c. search needs) returns-4)
