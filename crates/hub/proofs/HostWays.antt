@@ -64,7 +64,8 @@ module _ (c : Connection) (type session : ℕ) (r : Request) (d : List ℕ) (v :
       also (λ e. repeats 7)
       also tt in
       let last = of-type Hosts type 6 (doneRows c) done in
-      let later = append Hosts (ofType type 2 (deviceRows c d v)) (ofType type 6 (doneRows c)) (of-type Hosts type 2 (deviceRows c d v) device) last in
+      let later =
+      append Hosts (ofType type 2 (deviceRows c d v)) (ofType type 6 (doneRows c)) (of-type Hosts type 2 (deviceRows c d v) device) last in
       first-row Hosts (hostRows c type session r d v) (refuse c 15)
       (append Hosts (ofType type 0 (requestRows c session r)) (ofType type 2 (deviceRows c d v) ++ ofType type 6 (doneRows c))
       (of-type Hosts type 0 (requestRows c session r) request) later)

@@ -40,7 +40,8 @@ module _ (c : Connection) (b : List ℕ) where
 
     heard-still : Still c b (heard c h p b v) (reportHeard c h p b)
     heard-still =
-        heard-cases c h p b v (Still c b) (λ f e. (refl, refl)) (λ f k. connect-still (h .session) p v (connect-way c (h .session) p v)) (λ f j. joined-still)
+        heard-cases c h p b v (Still c b) (λ f e. (refl, refl))
+        (λ f k. connect-still (h .session) p v (connect-way c (h .session) p v)) (λ f j. joined-still)
         (λ f k j e. (refl, refl))
 
   pub step-still : (m k w : List ℕ) (v : ℕ) → Still c b (step c m k w b v) (reportStepped c m k w b v)

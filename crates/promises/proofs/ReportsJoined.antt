@@ -51,7 +51,8 @@ module _ (s : Sending) (f : Fair s) where
   machine = hub (s .connection) (f .ready) (uncut (s .connection .size) (length (s .report)) 0 (f .cut) .0)
 
   -- A fragment that was sent is one that joining is brought.
-  sent-brings : (i : ℕ) → i < fragments s → (x : Call) → Sent s i x → Brings (s .connection) (snapshot.pieceOf start i) (snapshot.pieceBytes start i) x
+  sent-brings : (i : ℕ) → i < fragments s → (x : Call) → Sent s i x
+      → Brings (s .connection) (snapshot.pieceOf start i) (snapshot.pieceBytes start i) x
   sent-brings i l x o =
       let h = headerFor s i (o .request) (o .flags) in
       let r = reads-back h (o .chain) (fragment s i) (s .keys) (x .message) (o .written) (x .working) (λ e. o .room) in
