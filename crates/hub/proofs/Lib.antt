@@ -1,5 +1,7 @@
 pub mod Certificates
 pub mod Hearing
-pub mod Quiet
 pub mod Stepping
-pub mod Layer
+pub mod HostWays
+pub mod StepCases
+pub mod QuietKeeps
+pub mod StepMachine

@@ -1,7 +1,10 @@
--- A call of the step, seen from outside: what it is given, and what it leaves.
+-- A call of the step, seen from outside: what it is given, what it leaves and answers; and calls one after the other.
 use Prim.Native.Nat.{ℕ}
 use mathlib.Core.List.{List}
+use Rattle.laws.specs.Courses.{final}
 use Rattle.hub.specs.declared.Connection.{Connection}
+use Rattle.hub.specs.declared.Answer.{Answer}
+use Rattle.hub.specs.Step.{step, reportStepped}
 
 -- What one call is given beside the connection and the report buffer.
 pub record Call : Type 0 where
@@ -14,3 +17,19 @@ pub record Call : Type 0 where
 pub record Standing : Type 0 where
   pub connection : Connection
   pub report : List ℕ
+
+-- What one call of the step leaves: the next connection and the report buffer.
+abbrev pub after : Standing → Call → Standing
+after s x =
+    record {
+      connection = step (s .connection) (x .message) (x .keys) (x .working) (s .report) (x .verdict) .connection;
+      report = reportStepped (s .connection) (x .message) (x .keys) (x .working) (s .report) (x .verdict);
+    }
+
+-- What it answers.
+abbrev pub answer : Standing → Call → Answer
+answer s x = step (s .connection) (x .message) (x .keys) (x .working) (s .report) (x .verdict) .answer
+
+-- What a list of calls leaves, one after the other.
+abbrev pub afterAll : Standing → List Call → Standing
+afterAll s xs = final after s xs

@@ -1,6 +1,6 @@
 -- The host's states: 0 waiting for a request, 1 waiting for authentication, 2 passed, 3 Ready, 4 Failed; and what a Connect message does in each.
 use Prim.Native.Nat.{ℕ}
-use mathlib.Core.List.{List, [], _∷_}
+use mathlib.Core.List.{List, [], _∷_, _++_}
 use mathlib.Core.Bool.{Bool, cond, _&&_}
 use lib.Dec.{eqb, leb}
 use Rattle.laws.specs.Same.{same}
@@ -55,34 +55,54 @@ knows c r = same (c .nonce) (r .nonce) && same (c .x) (r .x) && same (c .y) (r .
 abbrev pub within : ℕ → ℕ → Connection → Bool
 within a b c = leb a (c .state) && leb (c .state) b
 
--- What a Connect message of this type does, sentence by sentence of "Host states"; the rows exclude each other.
-abbrev pub hostRows : Connection → ℕ → ℕ → Request → List ℕ → ℕ → List (Bool × Stepped)
-hostRows c type session r digest verdict =
+-- What a Connect message does, sentence by sentence of "Host states"; the rows exclude each other. A Connection Request, type 0:
+abbrev pub requestRows : Connection → ℕ → Request → List (Bool × Stepped)
+requestRows c session r =
     -- State 0, type 0: remember SessionID, nonce, X, Y; go to 1; reply Connection Response.
-    (eqb type 0 && eqb (c .state) 0, stepped (requested c session r) (Reply 1))
+    (eqb (c .state) 0, stepped (requested c session r) (Reply 1))
     -- States 1 to 3, type 0 with the same nonce, X and Y: Again, same reply.
-    ∷ (eqb type 0 && within 1 3 c && knows c r, stepped c (Again 1))
-    -- State 1, type 2: remember the SHA-256 of the certificate; verdict 1 goes to 2 and replies type 3,
-    ∷ (eqb type 2 && eqb (c .state) 1 && eqb verdict 1, stepped (judged c digest 2) (Reply 3))
-    -- verdict 0 goes to 4 and names Failure.
-    ∷ (eqb type 2 && eqb (c .state) 1 && eqb verdict 0, stepped (judged c digest 4) Failure)
-    -- States 2 and 3, type 2 with the same certificate digest: Again, reply type 3, whatever the verdict.
-    ∷ (eqb type 2 && within 2 3 c && same (c .digest) digest, stepped c (Again 3))
-    -- State 2, type 6: go to 3, reply type 7 with Status 0.
-    ∷ (eqb type 6 && eqb (c .state) 2, stepped (judged c (c .digest) 3) (Reply 7))
-    -- State 3, type 6: Again, same reply.
-    ∷ (eqb type 6 && eqb (c .state) 3, stepped c (Again 7))
+    ∷ (within 1 3 c && knows c r, stepped c (Again 1))
     ∷ []
 
--- The first row that applies; "All else, and all of state 4: refusal 15."
+-- A Device Authentication Request, type 2:
+abbrev pub deviceRows : Connection → List ℕ → ℕ → List (Bool × Stepped)
+deviceRows c digest verdict =
+    -- State 1, type 2: remember the SHA-256 of the certificate; verdict 1 goes to 2 and replies type 3,
+    (eqb (c .state) 1 && eqb verdict 1, stepped (judged c digest 2) (Reply 3))
+    -- verdict 0 goes to 4 and names Failure.
+    ∷ (eqb (c .state) 1 && eqb verdict 0, stepped (judged c digest 4) Failure)
+    -- States 2 and 3, type 2 with the same certificate digest: Again, reply type 3, whatever the verdict.
+    ∷ (within 2 3 c && same (c .digest) digest, stepped c (Again 3))
+    ∷ []
+
+-- An Authentication Done Request, type 6:
+abbrev pub doneRows : Connection → List (Bool × Stepped)
+doneRows c =
+    -- State 2, type 6: go to 3, reply type 7 with Status 0.
+    (eqb (c .state) 2, stepped (judged c (c .digest) 3) (Reply 7))
+    -- State 3, type 6: Again, same reply.
+    ∷ (eqb (c .state) 3, stepped c (Again 7))
+    ∷ []
+
+-- Rows of one Connect type, which apply to a message of that type alone.
+abbrev pub ofType : ℕ → ℕ → List (Bool × Stepped) → List (Bool × Stepped)
+ofType type own [] = []
+ofType type own (row ∷ rows) = (eqb type own && row .0, row .1) ∷ ofType type own rows
+
+-- All of them.
+abbrev pub hostRows : Connection → ℕ → ℕ → Request → List ℕ → ℕ → List (Bool × Stepped)
+hostRows c type session r digest verdict =
+    ofType type 0 (requestRows c session r) ++ (ofType type 2 (deviceRows c digest verdict) ++ ofType type 6 (doneRows c))
+
+-- The first row that applies.
 abbrev pub firstRow : List (Bool × Stepped) → Stepped → Stepped
 firstRow [] other = other
 firstRow (row ∷ rows) other = cond (row .0) (row .1) (firstRow rows other)
 
--- No nonce, X and Y: what stands for them where a type has none.
-abbrev pub emptyRequest : Request
-emptyRequest = record { nonce = []; x = []; y = [] }
+-- What rows of this connection do; "All else, and all of state 4: refusal 15."
+abbrev pub hosted : Connection → List (Bool × Stepped) → Stepped
+hosted c rows = firstRow rows (refuse c notAllowed)
 
 -- What a Connect message does.
 unfoldable pub host : Connection → ℕ → ℕ → Request → List ℕ → ℕ → Stepped
-host c type session r digest verdict = firstRow (hostRows c type session r digest verdict) (refuse c notAllowed)
+host c type session r digest verdict = hosted c (hostRows c type session r digest verdict)

@@ -1,7 +1,6 @@
 // Enrolment: what a Connect message does in each state.
 ghost use mathlib.Core.Path.{_≡_};
-ghost use mathlib.Core.List.{[]};
-ghost use Rattle.hub.specs.Host.{host, emptyRequest, knows, refuse, requested, judged};
+ghost use Rattle.hub.specs.Host.{requestRows, deviceRows, doneRows, hosted, knows, refuse, requested, judged};
 use super::Answer;
 use super::Connection;
 use super::FAILED;
@@ -69,7 +68,7 @@ impl Connection {
 
     // A Connection Request.
     pub(crate) fn request(self, session: u64, request: Request) -> Stepped
-        ensures { λ r. ⌜ r ≡ host self 0 session request [] 0 ⌝ }
+        ensures { λ r. ⌜ r ≡ hosted self (requestRows self session request) ⌝ }
     {
         let state = self.state;
         if state == WAITING {
@@ -89,7 +88,7 @@ impl Connection {
 
     // A Device Authentication Request whose certificate has this digest.
     pub(crate) fn authenticate(self, digest: [u8; 32], verdict: u8) -> Stepped
-        ensures { λ r. ⌜ r ≡ host self 2 0 emptyRequest digest verdict ⌝ }
+        ensures { λ r. ⌜ r ≡ hosted self (deviceRows self digest verdict) ⌝ }
     {
         let state = self.state;
         if (state == REQUESTED) & (verdict == 1) {
@@ -116,7 +115,7 @@ impl Connection {
 
     // An Authentication Done Request.
     pub(crate) fn finish(self) -> Stepped
-        ensures { λ r. ⌜ r ≡ host self 6 0 emptyRequest [] 0 ⌝ }
+        ensures { λ r. ⌜ r ≡ hosted self (doneRows self) ⌝ }
     {
         let state = self.state;
         if state == PASSED {

@@ -11,7 +11,7 @@ use lib.ListN.{length, getD, List·getD-append}
 use lib.Seq.{getD-at}
 use Rattle.laws.proofs.Order.{lt-or-ge}
 use Rattle.joining.specs.Heard.{bit, has}
-use Rattle.joining.proofs.Heards.{bit-le}
+use Rattle.joining.proofs.HeardLaws.{bit-le}
 use Rattle.field.proofs.Below.{agree}
 use Rattle.hub_c.specs.State.{bitAt, heardAt, eight, heardBytes}
 use Rattle.hub_c.proofs.Filling.{length-heardAt, length-heardBytes}

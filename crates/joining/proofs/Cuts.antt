@@ -1,14 +1,15 @@
 -- What the rules of cutting come to: places and lengths of the pieces, over any number of them.
 use Prim.Native.Nat.{ℕ, zero, suc, _+_, _-_, _*_, _/_, _≤_, _<_, min}
 use mathlib.Core.Path.{_≡_, refl, ap}
-use mathlib.Core.List.{List}
-use mathlib.Core.Bool.{Bool, true, false, cond, _||_}
+use mathlib.Core.List.{List, [], _∷_}
+use mathlib.Core.Bool.{false, _||_}
 use native.Mathlib.Omega.{arith}
 use native.Mathlib.Nat.{div-lt-iff-lt-mul, le-div-iff-mul-le, div-eq-of-lt-le, mul-le-mul, le-of-lt}
 use lib.Dec.{eqb, ltb, leb, eqb·suc-zero}
 use lib.ListN.{length, length-take, length-drop}
 use borrow.Author.Tests.{eqb-false, ltb-false, leb-false}
 use Rattle.laws.proofs.Bools.{or-false}
+use Rattle.laws.proofs.Firsts.{first-quiet}
 use Rattle.wire.specs.Fields.{mostPieces}
 use Rattle.joining.specs.Heard.{most}
 use Rattle.joining.specs.Report.{part}
@@ -50,12 +51,15 @@ good-size F e =
     positive zero z = absurd (z refl)
     positive (suc F) z = omega arith
 
--- A row that does not apply is passed over.
-pub passed : (b : Bool) (k x : ℕ) → (k ≡ 0 → ⊥) → cond b k x ≡ 0 → (b ≡ false) × (x ≡ 0)
-passed true k x n e = absurd (n e)
-passed false k x n e = (refl, e)
+-- What the cutter does not refuse: neither row applies.
+pub uncut : (F L i : ℕ) → cutRefusal F L i ≡ 0 → (badSize F ≡ false) × (ltb (F * most) L ≡ false) × (leb (pieceCount F L) i ≡ false)
+unfolding cutRefusal
+uncut F L i e =
+    let q = first-quiet ((24, badSize F) ∷ (7, ltb (F * most) L || leb (pieceCount F L) i) ∷ []) refl e in
+    let n = or-false (ltb (F * most) L) (leb (pieceCount F L) i) (q .1 .0) in
+    (q .0, n .0, n .1)
 
--- What the cutter does not refuse is cut by the rules, and the piece asked for is one of them.
+-- It is cut by the rules, and the piece asked for is one of them.
 pub record Cuttable (F L i : ℕ) : Type 0 where
   pub cut : Cut F most (pieceCount F L) L
   pub small : F ≤ 16384
@@ -67,15 +71,12 @@ begins c zero l = omega arith
 begins c (suc i) l = omega (arith, c .full i (omega arith))
 
 pub cuttable : (F L i : ℕ) → cutRefusal F L i ≡ 0 → Cuttable F L i
-unfolding cutRefusal mostPieces
+unfolding mostPieces
 cuttable F L i e =
-    let a = passed (badSize F) 24 _ (λ z. omega arith) e in
-    let b = passed (ltb (F * most) L || leb (pieceCount F L) i) 7 0 (λ z. omega arith) (a .1) in
-    let n = or-false (ltb (F * most) L) (leb (pieceCount F L) i) (b .0) in
-    let f = good-size F (a .0) in
-    let c = cuts F most L (f .0) (omega arith) (ltb-false (F * most) L (n .0)) in
-    let l = leb-false (pieceCount F L) i (n .1) in
-    record { cut = c; small = f .1; within = begins c i l }
+    let q = uncut F L i e in
+    let f = good-size F (q .0) in
+    let c = cuts F most L (f .0) (omega arith) (ltb-false (F * most) L (q .1)) in
+    record { cut = c; small = f .1; within = begins c i (leb-false (pieceCount F L) i (q .2)) }
 
 module _ {F N n : ℕ} (R : List ℕ) (c : Cut F N n (length R)) (i : ℕ) (l : i < n) where
   pub part-length : length (part R (F * i) F) ≡ min F (length R - F * i)

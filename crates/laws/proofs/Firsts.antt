@@ -9,6 +9,7 @@ use native.Mathlib.Omega.{arith}
 use lib.Dec.{leb, eqb}
 use borrow.Author.Tests.{leb-true, eqb-true, eqb-false}
 use Rattle.laws.proofs.Bools.{and-true}
+use Rattle.laws.proofs.Cases.{on}
 use Rattle.laws.specs.Rows.{first, orElse, numbered, quiet, testOf, leads, upTo}
 
 both : (a b : Bool) → (not a && b) ≡ true → (a ≡ false) × (b ≡ true)
@@ -28,13 +29,9 @@ first-append (r ∷ a) b e =
     let k = numbered-both r a e in
     one-row (r .1) (r .0) (first (a ++ b)) (first a) (first b) (k .0) (first-append a b (k .1))
 
--- Two tables of which neither refuses.
-neither-by : (n m : ℕ) (t : Bool) → eqb n 0 ≡ t → cond t m n ≡ 0 → (n ≡ 0) × (m ≡ 0)
-neither-by n m true t e = (eqb-true n 0 t, e)
-neither-by n m false t e = absurd (eqb-false n 0 t e)
-
+-- Of two tables one after the other neither refuses.
 pub neither : (n m : ℕ) → orElse n m ≡ 0 → (n ≡ 0) × (m ≡ 0)
-neither n m e = neither-by n m (eqb n 0) refl e
+neither n m e = on (eqb n 0) (λ z. (eqb-true n 0 z, rw z at e)) (λ z. absurd (eqb-false n 0 z (rw z at e)))
 
 module _ (n : ℕ) (applies : n ≡ 0 → ⊥) where
   leads-row : (row : ℕ × Bool) (rows : List (ℕ × Bool)) → (first rows ≡ n → leads n rows) → first (row ∷ rows) ≡ n → leads n (row ∷ rows)

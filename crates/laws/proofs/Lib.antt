@@ -6,6 +6,8 @@ pub mod Lists
 pub mod Xor
 pub mod Sames
 pub mod Bools
+pub mod Cases
+pub mod Courses
 pub mod Numbers
 pub mod Parts
 pub mod Stores

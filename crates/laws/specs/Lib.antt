@@ -1,3 +1,4 @@
 pub mod Rows
 pub mod Bytes
 pub mod Same
+pub mod Courses

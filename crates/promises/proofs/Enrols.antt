@@ -21,13 +21,12 @@ use Rattle.hub.specs.Host.{host, stepped, requested, judged}
 use Rattle.hub.specs.Hear.{certificate, connect, isForeign, heard, reportHeard}
 use Rattle.promises.specs.Refusals.{AreBytes}
 use Rattle.promises.specs.Written.{Wrote}
-use Rattle.promises.specs.Reports.{after, answer}
 use Rattle.promises.specs.Met.{Enrolled, CanEnrol}
 use Rattle.promises.proofs.ReadBack.{steps-by-state}
 use Rattle.promises.proofs.Writes.{wrote}
 use Rattle.promises.proofs.Witness.{are-bytes}
 use Rattle.message.specs.Widths.{InWidth}
-use Rattle.hub.specs.Calls.{Call, Standing}
+use Rattle.hub.specs.Calls.{Call, Standing, after, answer}
 
 abbrev header : ℕ → Header
 header flags = record { kind = 2; flags = flags; sequence = 0; request = 0; index = 0; count = 1; session = 7; channel = 0 }

@@ -6,9 +6,8 @@ pub mod ReadBack
 pub mod ReadAgain
 pub mod ReportsJoined
 pub mod Writes
-pub mod Ways
-pub mod Keeping
-pub mod Known
+pub mod StateKept
+pub mod RepeatKnown
 pub mod Repeats
 pub mod Counted
 pub mod Determined

@@ -2,14 +2,15 @@
 use Prim.Native.Nat.{ℕ, _≤_}
 use mathlib.Core.Path.{_≡_, refl, sym, ap, _∙_}
 use mathlib.Core.List.{List, [], _∷_}
-use mathlib.Core.Bool.{Bool, true, false, cond}
+use mathlib.Core.Bool.{Bool, true, false}
 use native.Mathlib.Omega.{arith}
 use lib.ListN.{length, take, drop}
 use lib.Dec.{eqb}
 use borrow.Author.Tests.{eqb-true, eq-eqb, le-ltb}
 use Rattle.laws.specs.Bytes.{be8, be16, be32}
 use Rattle.laws.specs.Rows.{first, orElse}
-use Rattle.laws.proofs.Firsts.{first-quiet}
+use Rattle.laws.proofs.Cases.{on}
+use Rattle.laws.proofs.Firsts.{first-quiet, neither}
 use Rattle.wire.specs.Fields.{isSealed}
 use Rattle.wire.specs.Chain.{leaves}
 use Rattle.wire.specs.Payload.{badPayload}
@@ -18,7 +19,7 @@ use Rattle.wire.specs.declared.header.Header.{Header}
 use Rattle.wire.proofs.Reading.{read-good}
 use Rattle.seal.specs.Padding.{payloadOf}
 use Rattle.seal.specs.Opening.{sealedPart, noPart, partRefusal, openRefusal, openedInto}
-use Rattle.seal.proofs.Accepted.{neither, accepted}
+use Rattle.seal.proofs.Accepted.{accepted}
 use Rattle.message.specs.Reading.{opened, unless, plainRead, sealedRead, readMessage, workingAfter}
 use Rattle.message.specs.Handed.{partOf, payload}
 use Rattle.message.specs.declared.reading.MessageRead.{MessageRead}
@@ -29,11 +30,8 @@ use Rattle.promises.specs.Written.{ReadAs}
 
 -- Where a message was read, nothing was refused.
 read-none : (n : ℕ) (r : MessageRead) (h : Header) (s : Bool) (from size : ℕ) → unless n r ≡ Read h s from size → (n ≡ 0) × (r ≡ Read h s from size)
-read-none n r h s from size = by (eqb n 0) refl
-  where
-    by : (t : Bool) → eqb n 0 ≡ t → cond {A = MessageRead} t r (Refused n) ≡ Read h s from size → (n ≡ 0) × (r ≡ Read h s from size)
-    by true e q = (eqb-true n 0 e, q)
-    by false e q = let z : _≡_ {A = ℕ} 0 1 = cc in absurd (omega arith)
+read-none n r h s from size q =
+    on (eqb n 0) (λ e. (eqb-true n 0 e, rw e at q)) (λ e. let k = rw e at q in let z : _≡_ {A = ℕ} 0 1 = cc in absurd (omega arith))
 
 -- What opens with one working buffer opens with another that is long enough.
 room-only : (keys m : List ℕ) (at room other : ℕ) → openRefusal keys m at room ≡ 0 → length (sealedPart m at) ≤ other
@@ -57,11 +55,9 @@ handedBy m w (Read h s from size) = payload m w s from size
 module _ (m keys w : List ℕ) (h : Header) (s : Bool) (from size : ℕ) (e : readMessage m keys (length w) ≡ Read h s from size) where
   good : refusalOf m ≡ 0
   unfolding readMessage readHeader
-  good = by (eqb (refusalOf m) 0) refl
-    where
-      by : (t : Bool) → eqb (refusalOf m) 0 ≡ t → refusalOf m ≡ 0
-      by true q = eqb-true (refusalOf m) 0 q
-      by false q = let k = rw q at e in let z : _≡_ {A = ℕ} 0 1 = cc in absurd (omega arith)
+  good =
+      on (eqb (refusalOf m) 0) (λ q. eqb-true (refusalOf m) 0 q)
+      (λ q. let k = rw q at e in let z : _≡_ {A = ℕ} 0 1 = cc in absurd (omega arith))
 
   abbrev at : ℕ
   at = start m
@@ -121,33 +117,29 @@ fieldsOf other (Refused n) = other
 fieldsOf other (Read h s from size) = h
 
 pub read-header : (m keys w : List ℕ) (h : Header) (s : Bool) (from size : ℕ) → readMessage m keys (length w) ≡ Read h s from size → headerOf m ≡ h
-read-header m keys w h s from size e = by (isSealed (be16 m 6)) refl
-  where
-    by : (t : Bool) → isSealed (be16 m 6) ≡ t → headerOf m ≡ h
-    by true f = ap (fieldsOf h) (inside m keys w h s from size e f .1)
-    by false f = ap (fieldsOf h) (plainly m keys w h s from size e f)
+read-header m keys w h s from size e =
+    on (isSealed (be16 m 6)) (λ f. ap (fieldsOf h) (inside m keys w h s from size e f .1)) (λ f. ap (fieldsOf h) (plainly m keys w h s from size e f))
 
 pub read-again : (h : Header) (bytes m keys w v : List ℕ) → ReadAs h bytes m keys w
     → (sealed m ≡ true → length (sealedPart m (start m)) ≤ length v) → ReadAs h bytes m keys v
-read-again h bytes m keys w v r room = by (isSealed (be16 m 6)) refl
-  where
-    by : (t : Bool) → isSealed (be16 m 6) ≡ t → ReadAs h bytes m keys v
-    by true f =
-        let e = sealed-again m keys w h (r .sealed) (r .from) (r .size) (r .reads) f (length v) (room f) in
-        record {
-          sealed = r .sealed;
-          from = r .from;
-          size = r .size;
-          reads = e;
-          handed = sealed-payload m keys v h (r .sealed) (r .from) (r .size) e f
-              ∙ sym (sealed-payload m keys w h (r .sealed) (r .from) (r .size) (r .reads) f) ∙ r .handed;
-        }
-    by false f =
-        let p = plain-payload m keys w h (r .sealed) (r .from) (r .size) (r .reads) f in
-        record {
-          sealed = r .sealed;
-          from = r .from;
-          size = r .size;
-          reads = plain-again m keys w h (r .sealed) (r .from) (r .size) (r .reads) f (length v);
-          handed = p (workingAfter m keys v) ∙ sym (p (workingAfter m keys w)) ∙ r .handed;
-        }
+read-again h bytes m keys w v r room =
+    on (isSealed (be16 m 6))
+    (λ f.
+    let e = sealed-again m keys w h (r .sealed) (r .from) (r .size) (r .reads) f (length v) (room f) in
+    record {
+      sealed = r .sealed;
+      from = r .from;
+      size = r .size;
+      reads = e;
+      handed = sealed-payload m keys v h (r .sealed) (r .from) (r .size) e f
+          ∙ sym (sealed-payload m keys w h (r .sealed) (r .from) (r .size) (r .reads) f) ∙ r .handed;
+    })
+    (λ f.
+    let p = plain-payload m keys w h (r .sealed) (r .from) (r .size) (r .reads) f in
+    record {
+      sealed = r .sealed;
+      from = r .from;
+      size = r .size;
+      reads = plain-again m keys w h (r .sealed) (r .from) (r .size) (r .reads) f (length v);
+      handed = p (workingAfter m keys v) ∙ sym (p (workingAfter m keys w)) ∙ r .handed;
+    })

@@ -8,6 +8,7 @@ use lib.ListN.{length, drop}
 use lib.Seq.{take-at}
 use lib.Dec.{eqb}
 use borrow.Author.Tests.{eqb-true, le-ltb}
+use Rattle.laws.proofs.Cases.{on}
 use Rattle.wire.specs.Fields.{isSealed}
 use Rattle.wire.specs.declared.header.Header.{Header}
 use Rattle.laws.proofs.ByteLists.{AllBytes}
@@ -29,12 +30,10 @@ module _ (h : Header) (chain bytes keys message : List ℕ) (w : Wrote h chain b
   -- Nothing was refused, and the length is the message's.
   passed : (writeRefusal h chain bytes (length keys) (length (w .output)) ≡ 0) × (lengthOf h chain bytes ≡ w .size)
   unfolding writeAnswer
-  passed = by (eqb (writeRefusal h chain bytes (length keys) (length (w .output))) 0) refl
-    where
-      by : (t : Bool) → eqb (writeRefusal h chain bytes (length keys) (length (w .output))) 0 ≡ t
-          → (writeRefusal h chain bytes (length keys) (length (w .output)) ≡ 0) × (lengthOf h chain bytes ≡ w .size)
-      by true e = let k = rw e at (w .answered) in let z : lengthOf h chain bytes ≡ w .size = cc in (eqb-true _ 0 e, z)
-      by false e = let k = rw e at (w .answered) in let z : _≡_ {A = ℕ} 0 1 = cc in absurd (omega arith)
+  passed =
+      on (eqb (writeRefusal h chain bytes (length keys) (length (w .output))) 0)
+      (λ e. let k = rw e at (w .answered) in let z : lengthOf h chain bytes ≡ w .size = cc in (eqb-true _ 0 e, z))
+      (λ e. let k = rw e at (w .answered) in let z : _≡_ {A = ℕ} 0 1 = cc in absurd (omega arith))
 
   is-message : message ≡ messageBytes h chain bytes keys
   unfolding writtenInto

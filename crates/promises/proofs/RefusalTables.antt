@@ -1,18 +1,20 @@
 -- Demand 1 for reader, step and cutter: each call's refusal is the first number of its table, and laws' both directions do the rest.
 use Prim.Native.Nat.{ℕ, _-_, _≤_}
 use mathlib.Core.Path.{_≡_, refl, sym, ap, _∙_}
-use mathlib.Core.List.{List}
+use mathlib.Core.List.{List, [], _∷_}
 use mathlib.Core.Bool.{Bool, true, false, cond, not}
 use native.Mathlib.Omega.{arith}
 use lib.ListN.{length}
 use lib.Dec.{ltb, eqb}
 use borrow.Author.Tests.{eqb-true, le-ltb, lt-leb}
-use Rattle.laws.specs.Bytes.{be16, be32}
+use Rattle.laws.specs.Bytes.{be8, be16, be32}
 use Rattle.laws.specs.Rows.{first, orElse, leads}
 use Rattle.laws.specs.Same.{same}
+use Rattle.laws.proofs.Cases.{on}
 use Rattle.laws.proofs.Firsts.{first-append, first-leads, leads-first}
 use Rattle.wire.specs.Fields.{isSealed}
 use Rattle.wire.specs.Chain.{leaves}
+use Rattle.wire.specs.Payload.{badPayload}
 use Rattle.wire.specs.Reader.{headerOf, chainOf, headerRows, rowsOf, refusalWith, refusalOf, readHeader}
 use Rattle.wire.specs.declared.header.Header.{Header}
 use Rattle.wire.proofs.Reading.{read-good}
@@ -28,7 +30,7 @@ use Rattle.message.specs.declared.reading.MessageRead.the-variants as read
 use Rattle.joining.specs.Cut.{cutRefusal}
 use Rattle.hub.specs.declared.Answer.the-variants.{Refused}
 use Rattle.promises.specs.Examples.{numberOf}
-use Rattle.promises.specs.Refusals.{AreBytes, sealed, start, headerTable, openingTable, readerTable, _⇔_, ReaderExact, cutTable, CutterExact, writerTable, WriterExact}
+use Rattle.promises.specs.Refusals.{AreBytes, sealed, start, headerTable, payloadIn, sealedTable, openingTable, readerTable, _⇔_, ReaderExact, cutTable, CutterExact, writerTable, WriterExact}
 
 -- A table's answer is n if and only if row n is the first that applies.
 exact : (rows : List (ℕ × Bool)) (n : ℕ) → (n ≡ 0 → ⊥) → (first rows ≡ n) ⇔ leads n rows
@@ -41,15 +43,6 @@ cutter-exact F bytes i n z = exact (cutTable F bytes i) n z
 pub writer-exact : WriterExact
 unfolding writeRefusal
 writer-exact h chain payload keys room n z = exact (writerTable h chain payload keys room) n z
-
--- Rows one behind the other, and tables in turn.
-in-turn : (a b c d : Bool) (x : ℕ)
-    → orElse (orElse (cond a 10 (cond b 11 0)) (cond c 12 (cond d 13 0))) x ≡ cond a 10 (cond b 11 (cond c 12 (cond d 13 x)))
-in-turn true b c d x = refl
-in-turn false true c d x = refl
-in-turn false false true d x = refl
-in-turn false false false true x = refl
-in-turn false false false false x = refl
 
 module _ (m keys : List ℕ) (room : ℕ) (bytes : AreBytes m) where
   pub header-first : first (headerTable m) ≡ refusalOf m
@@ -85,24 +78,30 @@ module _ (m keys : List ℕ) (room : ℕ) (bytes : AreBytes m) where
         let q : length m - 32 - start m ≡ leaves (chainOf m) = omega arith in
         rw (le-ltb (length m) 42 l, le-ltb 65535 (length m) short, lt-leb (length m - 32) (start m) (omega arith), q, b .0)
 
+    -- Rows 10 to 13 are seal's two tables in turn.
+    pub sealed-first : isSealed (be16 m 6) ≡ true → openRefusal keys m (start m) room ≡ first (sealedTable m keys room)
+    unfolding openRefusal partRefusal
+    sealed-first s =
+        rw (part-there s, s)
+        (sym (first-append ((10, not (eqb (length keys) 64)) ∷ (11, not (same (tagOf keys (bodyOf m)) (tagIn m))) ∷ [])
+        ((12, ltb room (length (sealedPart m (start m)))) ∷ (13, badPlain (opened m keys (start m))) ∷ []) refl))
+
     sealed-way : isSealed (be16 m 6) ≡ true
         → sealedRead m keys (headerOf m) (start m) room ≡ unless (first (openingTable m keys room)) whatIsRead
-    unfolding sealedRead openRefusal partRefusal
+    unfolding sealedRead
     sealed-way s =
-        rw (part-there s, s)
-        (ap (λ (n : ℕ). unless n (read.Read (headerOf m) true 4 (be32 (opened m keys (start m)) 0)))
-        (in-turn (not (eqb (length keys) 64)) (not (same (tagOf keys (bodyOf m)) (tagIn m))) (ltb room (length (sealedPart m (start m))))
-        (badPlain (opened m keys (start m))) _))
+        rw (first-append (sealedTable m keys room) ((14, badPayload (be8 m 5) (sealed m) (payloadIn m keys)) ∷ []) refl, ← (sealed-first s), s)
 
     plain-way : isSealed (be16 m 6) ≡ false → plainRead m (headerOf m) (start m) (leaves (chainOf m))
         ≡ unless (first (openingTable m keys room)) whatIsRead
     unfolding plainRead
     plain-way s = rw s
 
-    by-seal : (t : Bool) → isSealed (be16 m 6) ≡ t → readMessage m keys room ≡ unless (first (openingTable m keys room)) whatIsRead
+    by-seal : readMessage m keys room ≡ unless (first (openingTable m keys room)) whatIsRead
     unfolding readMessage
-    by-seal true s = rw (read-good m z, s) (rw s at (sealed-way s))
-    by-seal false s = rw (read-good m z, s) (rw s at (plain-way s))
+    by-seal =
+        on (isSealed (be16 m 6)) (λ s. rw (read-good m z, s) (rw s at (sealed-way s)))
+        (λ s. rw (read-good m z, s) (rw s at (plain-way s)))
 
   header-refused : eqb (refusalOf m) 0 ≡ false → readMessage m keys room ≡ read.Refused (refusalOf m)
   unfolding readMessage readHeader
@@ -110,18 +109,12 @@ module _ (m keys : List ℕ) (room : ℕ) (bytes : AreBytes m) where
 
   -- The reader's answer is its table's.
   pub read-by-table : readMessage m keys room ≡ unless (first (readerTable m keys room)) whatIsRead
-  read-by-table = by (eqb (refusalOf m) 0) refl
-    where
-      by : (t : Bool) → eqb (refusalOf m) 0 ≡ t → readMessage m keys room ≡ unless (first (readerTable m keys room)) whatIsRead
-      by true e = rw (reader-first, e) (by-seal (eqb-true (refusalOf m) 0 e) (isSealed (be16 m 6)) refl)
-      by false e = rw (reader-first, e, e) (header-refused e)
+  read-by-table =
+      on (eqb (refusalOf m) 0) (λ e. rw (reader-first, e) (by-seal (eqb-true (refusalOf m) 0 e)))
+      (λ e. rw (reader-first, e, e) (header-refused e))
 
 number-unless : (n : ℕ) (h : Header) (s : Bool) (from size : ℕ) → numberOf (unless n (read.Read h s from size)) ≡ n
-number-unless n h s from size = by (eqb n 0) refl
-  where
-    by : (t : Bool) → eqb n 0 ≡ t → numberOf (cond t (read.Read h s from size) (read.Refused n)) ≡ n
-    by true e = sym (eqb-true n 0 e)
-    by false e = refl
+number-unless n h s from size = on (eqb n 0) (λ e. rw e (sym (eqb-true n 0 e))) (λ e. rw e)
 
 read-refused : (r : MessageRead) (n : ℕ) → (n ≡ 0 → ⊥) → numberOf r ≡ n → r ≡ read.Refused n
 read-refused (read.Refused k) n z e = ap read.Refused e

@@ -2,7 +2,7 @@
 use Prim.Native.Nat.{ℕ, _≤_}
 use mathlib.Core.Path.{_≡_, refl, sym, ap, _∙_}
 use mathlib.Core.List.{List, [], _∷_}
-use mathlib.Core.Bool.{Bool, true, false}
+use mathlib.Core.Bool.{false}
 use native.Mathlib.Omega.{arith}
 use lib.ListN.{length}
 use lib.Dec.{ltb}
@@ -15,18 +15,19 @@ use Rattle.message.specs.declared.reading.MessageRead.the-variants as read
 use Rattle.joining.specs.Cut.{badSize}
 use Rattle.hub.specs.declared.Connection.{Connection}
 use Rattle.hub.specs.declared.Stepped.{Stepped}
-use Rattle.hub.specs.declared.Answer.the-variants.{Refused, Reply, Again}
+use Rattle.hub.specs.declared.Answer.the-variants.{Reply, Again}
 use Rattle.hub.specs.Answers.{isQuiet}
-use Rattle.hub.specs.Step.{step}
-use Rattle.hub.proofs.Layer.{step-still}
+use Rattle.hub.specs.Host.{refuse}
+use Rattle.hub.specs.Step.{afterRead, step}
+use Rattle.hub.proofs.StepCases.{step-tests}
+use Rattle.hub.proofs.StepMachine.{still}
 use Rattle.promises.specs.Written.{ReadAs}
-use Rattle.promises.specs.Reports.{after, answer, afterAll}
 use Rattle.promises.specs.Enrolment.{NoFailure, RepeatedStep}
 use Rattle.promises.proofs.ReadBack.{step-hears}
 use Rattle.promises.proofs.ReadAgain.{read-again}
-use Rattle.promises.proofs.Keeping.{step-kept}
-use Rattle.promises.proofs.Known.{Known, still-known, again, heard-replied}
-use Rattle.hub.specs.Calls.{Call, Standing}
+use Rattle.promises.proofs.StateKept.{step-kept}
+use Rattle.promises.proofs.RepeatKnown.{Known, still-known, again, heard-replied}
+use Rattle.hub.specs.Calls.{Call, Standing, after, answer, afterAll}
 
 -- A step that answered with a reply had a fragment size, a verdict and a message that was read.
 pub record Heard (c : Connection) (m keys w : List ℕ) (v : ℕ) : Type 0 where
@@ -36,22 +37,29 @@ pub record Heard (c : Connection) (m keys w : List ℕ) (v : ℕ) : Type 0 where
   pub bytes : List ℕ
   pub reads : ReadAs header bytes m keys w
 
-replied-heard : (c : Connection) (m keys w report : List ℕ) (v t : ℕ) → step c m keys w report v .answer ≡ Reply t → Heard c m keys w v
-unfolding step
-replied-heard c m keys w report v t e = by (ltb 1 v) (badSize (c .size)) (readMessage m keys (length w)) refl refl refl
-  where
-    by : (a b : Bool) (r : MessageRead) → ltb 1 v ≡ a → badSize (c .size) ≡ b → readMessage m keys (length w) ≡ r → Heard c m keys w v
-    by true b r p q k = let n = rw p at e in let z : _≡_ {A = ℕ} 0 1 = cc in absurd (omega arith)
-    by false true r p q k = let n = rw (p, q) at e in let z : _≡_ {A = ℕ} 0 1 = cc in absurd (omega arith)
-    by false false (read.Refused i) p q k = let n = rw (p, q, k) at e in let z : _≡_ {A = ℕ} 0 1 = cc in absurd (omega arith)
-    by false false (read.Read h s from size) p q k =
-        record {
-          sized = q;
-          verdict = ltb-false 1 v p;
-          header = h;
-          bytes = payload m (workingAfter m keys w) s from size;
-          reads = record { sealed = s; from = from; size = size; reads = k; handed = refl };
-        }
+module _ (c : Connection) (m keys w report : List ℕ) (v t : ℕ) where
+  abbrev IfReplied : Stepped → Type 0
+  IfReplied s = s .answer ≡ Reply t → Heard c m keys w v
+
+  refused : (n : ℕ) → IfReplied (refuse c n)
+  refused n e = let z : _≡_ {A = ℕ} 0 1 = cc in absurd (omega arith)
+
+  replied-heard : IfReplied (step c m keys w report v)
+  replied-heard =
+      step-tests c m keys w report v (λ (s : Stepped) (b : List ℕ). IfReplied s) (λ p. refused 25) (λ p q. refused 24)
+      (λ p q. by p q (readMessage m keys (length w)) refl)
+    where
+      by : ltb 1 v ≡ false → badSize (c .size) ≡ false → (r : MessageRead) → readMessage m keys (length w) ≡ r
+          → IfReplied (afterRead c m (workingAfter m keys w) report v r)
+      by p q (read.Refused n) k e = refused n e
+      by p q (read.Read h s from size) k e =
+          record {
+            sized = q;
+            verdict = ltb-false 1 v p;
+            header = h;
+            bytes = payload m (workingAfter m keys w) s from size;
+            reads = record { sealed = s; from = from; size = size; reads = k; handed = refl };
+          }
 
 known-since : (h : Header) (bytes : List ℕ) (t : ℕ) (p : Standing) → Known (p .connection) h bytes t → (xs : List Call) → NoFailure p xs
     → Known (afterAll p xs .connection) h bytes t
@@ -78,5 +86,4 @@ repeated-step p x t e xs n y o =
     ap (λ (s : Stepped). s .answer)
     (step-hears (q .connection) h bytes (y .message) (y .keys) (y .working) (q .report) (y .verdict) (w .sized) (o .verdict) r .0
     ∙ again (q .connection) h bytes (q .report) (y .verdict) t w) in
-    let b = step-still (q .connection) (y .message) (y .keys) (y .working) (q .report) (y .verdict) (ap isQuiet a) in
-    (a, λ i. record { connection = b .0 i; report = b .1 i })
+    (a, still q y (ap isQuiet a))

@@ -1,51 +1,36 @@
 -- Demand 3: the step is the machine over which joining proved it for any number of pieces.
-use Prim.Native.Nat.{ℕ, _*_, _<_}
+use Prim.Native.Nat.{ℕ, _<_}
 use mathlib.Core.Path.{_≡_, refl, sym, ap, _∙_}
-use mathlib.Core.List.{List, [], _∷_}
-use mathlib.Core.Bool.{true, false, _||_, true≢false}
-use native.Mathlib.Omega.{arith}
+use mathlib.Core.List.{List}
+use mathlib.Core.Bool.{true, false, true≢false}
 use lib.ListN.{length, take}
-use lib.Dec.{ltb, leb}
 use borrow.Author.Tests.{lt-leb}
-use Rattle.laws.proofs.Bools.{or-false}
-use Rattle.joining.specs.Heard.{most}
-use Rattle.joining.specs.Cut.{badSize, pieceCount, cutRefusal, cutCount}
-use Rattle.joining.proofs.Cuts.{passed, cuttable}
-use Rattle.joining.proofs.Coming as coming
-use Rattle.joining.proofs.Courses as joining
-use Rattle.joining.proofs.Counting.{all-told, told-again, told-taken}
-use Rattle.joining.proofs.Courses.{Machine, final, only-the-set, handed-out, as-sent, at-no-other, late-copy}
+use Rattle.laws.proofs.Courses.{end, goes}
+use Rattle.joining.specs.Cut.{pieceCount, cutRefusal, cutCount}
+use Rattle.joining.proofs.Cuts.{uncut, cuttable}
+use Rattle.joining.proofs.Snapshot as snapshot
+use Rattle.joining.proofs.DemandThree as joining
+use Rattle.joining.proofs.HeardCount.{all-told, told-again, told-taken}
+use Rattle.joining.proofs.DemandThree.{Machine, only-the-set, handed-out, as-sent, at-no-other, late-copy}
 use Rattle.hub.specs.declared.Answer.the-variants.{Refused, Reply, Again, Failure, Taken, Repeat, Complete}
-use Rattle.hub.specs.Answers.{isComplete}
-use Rattle.hub.proofs.Layer.{Brings, hub}
-use Rattle.promises.specs.Reports.{after, answer, afterAll, Sending, began, fragments, Fair, fragment, headerFor, Sent, Course, done, brings, rests, OnlyWhatCame, HandedOut, Brought, DemandThree, NotBetween}
+use Rattle.hub.proofs.StepMachine.{Brings, hub}
+use Rattle.promises.specs.Reports.{Sending, began, fragments, Fair, fragment, headerFor, Sent, Course, done, brings, rests, OnlyWhatCame, HandedOut, Brought, DemandThree, NotBetween}
 use Rattle.promises.proofs.ReadBack.{reads-back}
 use Rattle.joining.specs.Events.{Event, piece, LastMissing}
-use Rattle.hub.specs.Calls.{Call, Standing}
+use Rattle.hub.specs.Calls.{Call, Standing, after, answer, afterAll}
 
 -- What the cutter does not refuse at piece 0 it refuses at no piece under the count.
 module _ (F L : ℕ) (e : cutRefusal F L 0 ≡ 0) where
-  pub sized : badSize F ≡ false
-  unfolding cutRefusal
-  sized = passed (badSize F) 24 _ (λ z. omega arith) e .0
-
-  not-longer : ltb (F * most) L ≡ false
-  unfolding cutRefusal
-  not-longer =
-      or-false (ltb (F * most) L) (leb (pieceCount F L) 0)
-      (passed (ltb (F * most) L || leb (pieceCount F L) 0) 7 0 (λ z. omega arith) (passed (badSize F) 24 _ (λ z. omega arith) e .1) .0)
-      .0
-
   pub each-cut : (i : ℕ) → i < pieceCount F L → cutRefusal F L i ≡ 0
   unfolding cutRefusal
-  each-cut i l = rw (sized, not-longer, lt-leb (pieceCount F L) i l)
+  each-cut i l = rw (uncut F L 0 e .0, uncut F L 0 e .1, lt-leb (pieceCount F L) i l)
 
   pub each-count : (i : ℕ) → i < pieceCount F L → cutCount F L i ≡ pieceCount F L
   each-count i l = rw (each-cut i l)
 
 module _ (s : Sending) (f : Fair s) where
   -- The report as joining sees it.
-  abbrev pub start : coming.Start
+  abbrev pub start : snapshot.Start
   start =
       record {
         size = s .connection .size;
@@ -56,17 +41,18 @@ module _ (s : Sending) (f : Fair s) where
         buffer = s .buffer;
       }
 
-  start-fair : coming.Fair start
+  start-fair : snapshot.Startable start
   start-fair =
       let k = cuttable (s .connection .size) (length (s .report)) 0 (f .cut) in
       record { small = k .small; cut = k .cut; number = f .number; fresh = f .unheard; room = f .room }
 
   -- The step as joining's machine.
   abbrev pub machine : Machine (s .connection .size)
-  machine = hub (s .connection) (f .ready) (sized (s .connection .size) (length (s .report)) (f .cut))
+  machine = hub (s .connection) (f .ready) (uncut (s .connection .size) (length (s .report)) 0 (f .cut) .0)
 
   -- A fragment that was sent is one that joining is brought.
-  sent-brings : (i : ℕ) → i < fragments s → (x : Call) → Sent s i x → Brings (s .connection) (coming.pieceOf start i) (coming.bytesOf start i) x
+  sent-brings : (i : ℕ) → i < fragments s → (x : Call) → Sent s i x
+      → Brings (s .connection) (snapshot.pieceOf start i) (snapshot.pieceBytes start i) x
   sent-brings i l x o =
       let h = headerFor s i (o .request) (o .flags) in
       let r = reads-back h (o .chain) (fragment s i) (s .keys) (x .message) (o .written) (x .working) (λ e. o .room) in
@@ -83,48 +69,37 @@ module _ (s : Sending) (f : Fair s) where
         payload = rw (o .keys) (r .handed ∙ rw (each-cut (s .connection .size) (length (s .report)) (f .cut) i l));
       }
 
-  course : {p : Standing} {xs : List Call} {es : List Event} → Course s p xs es → joining.Course start machine p xs es
-  course done = joining.end
-  course (brings {x = x} {i = i} l o r) = joining.brings l (sent-brings i l x o) (course r)
-  course (rests q r) = joining.rests q (course r)
-
-  finally : (p : Standing) (xs : List Call) → final machine p xs ≡ afterAll p xs
-  finally p [] = refl
-  finally p (x ∷ xs) = finally (after p x) xs
+  course : {p : Standing} {xs : List Call} {es : List Event} → Course s p xs es → joining.CourseOf start machine p xs es
+  course done = end
+  course (brings {x = x} {i = i} l o r) = goes (joining.brings l (sent-brings i l x o)) (course r)
+  course (rests q r) = goes (joining.rests q) (course r)
 
   only-what-came : OnlyWhatCame s
-  only-what-came xs ys es ds r q e =
-      sym (finally (began s) xs) ∙ only-the-set start start-fair machine (course r) (course q) e ∙ finally (began s) ys
+  only-what-came xs ys es ds r q e = only-the-set start start-fair machine (course r) (course q) e
 
   module _ (xs : List Call) (es : List Event) (r : Course s (began s) xs es) (i : ℕ) (l : i < fragments s) (x : Call) (o : Sent s i x) where
-    b : Brings (s .connection) (coming.pieceOf start i) (coming.bytesOf start i) x
+    b : Brings (s .connection) (snapshot.pieceOf start i) (snapshot.pieceBytes start i) x
     b = sent-brings i l x o
-
-    -- What the machine says is what the step answers.
-    answers : final machine (began s) xs ≡ afterAll (began s) xs
-    answers = finally (began s) xs
 
     at-the-last-missing : LastMissing (fragments s) i es → HandedOut s xs es i x
     at-the-last-missing d =
         let a = as-sent start start-fair machine (course r) i l x b d in
-        let n = sym (ap (λ (p : Standing). after p x) answers) ∙ a .1 in
         record {
-          answered = sym (ap (λ (p : Standing). answer p x) answers) ∙ handed-out start start-fair machine (course r) i l x b d;
-          whole = ap (λ (p : Standing). take (length (s .report)) (p .report)) n ∙ a .2;
-          long = ap (λ (p : Standing). length (p .report)) n ∙ a .3;
-          next = ap (λ (p : Standing). p .connection) n;
+          answered = handed-out start start-fair machine (course r) i l x b d;
+          whole = ap (λ (p : Standing). take (length (s .report)) (p .report)) (a .1) ∙ a .2;
+          long = ap (λ (p : Standing). length (p .report)) (a .1) ∙ a .3;
+          next = ap (λ (p : Standing). p .connection) (a .1);
         }
 
     pub brought : Brought s xs es i x
     brought =
-        let z = sym (ap (λ (p : Standing). answer p x) answers) in
         record {
           last = at-the-last-missing;
-          no-other = λ d. at-no-other start start-fair machine (course r) i l x b (ap isComplete (sym z) ∙ d);
-          taken = λ a j k n c. z ∙ told-taken start start-fair machine (course r) i l x b a j k n c;
-          repeated = λ a j k c. z ∙ told-again start start-fair machine (course r) i l x b a j k c;
-          counted = λ d. all-told start start-fair machine (course r) i l d;
-          late = λ d. z ∙ late-copy start start-fair machine (course r) i l x b d;
+          no-other = at-no-other start start-fair machine (course r) i l x b;
+          taken = told-taken start start-fair machine (course r) i l x b;
+          repeated = told-again start start-fair machine (course r) i l x b;
+          counted = all-told start start-fair machine (course r) i l;
+          late = late-copy start start-fair machine (course r) i l x b;
         }
 
 pub demand-three : DemandThree

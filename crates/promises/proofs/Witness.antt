@@ -23,12 +23,12 @@ use Rattle.hub.specs.Answers.{isQuiet}
 use Rattle.hub.specs.Host.{refuse}
 use Rattle.hub.specs.Step.{step}
 use Rattle.promises.specs.Refusals.{AreBytes}
-use Rattle.promises.specs.Reports.{answer, Sending, began, fragments, fragment, Fair, Sent, Course, done, brings, rests, HandedOut}
+use Rattle.promises.specs.Reports.{Sending, began, fragments, fragment, Fair, Sent, Course, done, brings, rests, HandedOut}
 use Rattle.promises.specs.Met.{Typed, Choice, Good, callFor}
 use Rattle.promises.proofs.ReportsJoined.{demand-three}
 use Rattle.promises.proofs.Writes.{can-be-sent}
 use Rattle.joining.specs.Events.{Event, piece, between, came, LastMissing}
-use Rattle.hub.specs.Calls.{Call, Standing}
+use Rattle.hub.specs.Calls.{Call, Standing, answer}
 
 -- A list whose elements are tested to be bytes.
 abbrev below : List ℕ → Bool

@@ -7,13 +7,12 @@ use native.Mathlib.Omega.{arith}
 use lib.ListN.{length, take, drop, replicate, length-replicate}
 use lib.Seq.{take-at}
 use borrow.Author.Tests.{eq-eqb, ne-eqb, le-ltb, lt-leb}
-use Rattle.laws.proofs.Firsts.{quiet-first}
 use Rattle.wire.specs.Fields.{badKind, badFlags, badPiece, isSealed, mostPieces}
 use Rattle.wire.specs.Payload.{badPayload}
 use Rattle.wire.specs.declared.header.Header.{Header}
 use Rattle.writer.specs.declared.Written.the-variants.{Bytes}
 use Rattle.laws.proofs.ByteLists.{take-bytes, drop-bytes}
-use Rattle.message.specs.Writing.{lengthOf, writeRows, writeRefusal, messageBytes, writeAnswer, writtenInto}
+use Rattle.message.specs.Writing.{lengthOf, writeRefusal, messageBytes, writeAnswer, writtenInto}
 use Rattle.message.proofs.WrittenLengths.{length-messageBytes}
 use Rattle.joining.specs.Heard.{most, bit}
 use Rattle.joining.specs.Report.{part}
@@ -21,11 +20,12 @@ use Rattle.joining.specs.Cut.{cutCount}
 use Rattle.joining.proofs.Cuts.{Cuttable, cuttable, not-over}
 use Rattle.promises.specs.Refusals.{AreBytes}
 use Rattle.promises.specs.Written.{Wrote}
-use Rattle.promises.specs.Reports.{after, Sending, fragments, fragment, headerFor, Fair, Sent, done, brings}
+use Rattle.promises.specs.Reports.{Sending, fragments, fragment, headerFor, Fair, Sent, done, brings}
 use Rattle.promises.specs.Met.{Typed, Choice, Good, flagsOf, callFor, CanBeSent, AnyOrder}
 use Rattle.promises.proofs.ReadBack.{all-bytes}
 use Rattle.promises.proofs.ReportsJoined.{each-cut, each-count}
 use Rattle.message.specs.Widths.{InWidth}
+use Rattle.hub.specs.Calls.{after}
 
 -- A call of the writer with an output that is just long enough.
 module _ (h : Header) (chain bytes keys : List ℕ) (widths : InWidth h) (of-chain : AreBytes chain) (of-bytes : AreBytes bytes)
@@ -62,16 +62,12 @@ module _ (h : Header) (chain bytes keys : List ℕ) (widths : InWidth h) (of-cha
       }
 
 -- Acknowledge and wake are free; 2 and 4 are there.
-module _ (a w : Bool) where
-  flags-free : (badFlags 4 (6 + bit a + 8 * bit w) ≡ false) × (6 + bit a + 8 * bit w ≤ 15)
-  unfolding badFlags isSealed
-  flags-free = by a w
-    where
-      by : (a w : Bool) → (badFlags 4 (6 + bit a + 8 * bit w) ≡ false) × (6 + bit a + 8 * bit w ≤ 15)
-      by true true = (refl, omega arith)
-      by true false = (refl, omega arith)
-      by false true = (refl, omega arith)
-      by false false = (refl, omega arith)
+flags-free : (a w : Bool) → (badFlags 4 (6 + bit a + 8 * bit w) ≡ false) × (6 + bit a + 8 * bit w ≤ 15)
+unfolding badFlags isSealed
+flags-free true true = (refl, omega arith)
+flags-free true false = (refl, omega arith)
+flags-free false true = (refl, omega arith)
+flags-free false false = (refl, omega arith)
 
 module _ (s : Sending) (f : Fair s) (t : Typed s) (i : ℕ) (l : i < fragments s) where
   abbrev F : ℕ
@@ -129,27 +125,15 @@ module _ (s : Sending) (f : Fair s) (t : Typed s) (i : ℕ) (l : i < fragments s
     allowed : writeRefusal h (d .chain) (fragment s i) (length (s .keys)) (lengthOf h (d .chain) (fragment s i)) ≡ 0
     unfolding writeRefusal badKind badPayload
     allowed =
-        quiet-first (writeRows h (d .chain) (fragment s i) (length (s .keys)) (lengthOf h (d .chain) (fragment s i))) (
-          refl,
-          (
-            flags-free (d .acknowledge) (d .wake) .0,
-            (
-              placed,
-              (
-                g .chained,
-                (
-                  rw (eq-eqb (length (s .keys)) 64 (t .whole)) (and-false (isSealed (flagsOf d))),
-                  (
-                    refl,
-                    (
-                      le-ltb 16384 (length (fragment s i)) short,
-                      (le-ltb (lengthOf h (d .chain) (fragment s i)) (lengthOf h (d .chain) (fragment s i)) (omega arith), tt),
-                    ),
-                  ),
-                ),
-              ),
-            ),
-          ),
+        let n = lengthOf h (d .chain) (fragment s i) in
+        rw (
+          flags-free (d .acknowledge) (d .wake) .0,
+          placed,
+          g .chained,
+          eq-eqb (length (s .keys)) 64 (t .whole),
+          and-false (isSealed (flagsOf d)),
+          le-ltb 16384 (length (fragment s i)) short,
+          le-ltb n n (omega arith),
         )
 
     pub sent : Sent s i (callFor s i d)

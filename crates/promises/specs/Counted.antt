@@ -8,9 +8,8 @@ use Rattle.laws.specs.Bytes.{be16}
 use Rattle.joining.specs.Heard.{most, none}
 use Rattle.hub.specs.declared.Answer.{Answer}
 use Rattle.hub.specs.declared.Answer.the-variants.{Refused, Reply, Again, Failure, Taken, Repeat, Complete}
-use Rattle.promises.specs.Reports.{after, answer, afterAll}
 use Rattle.joining.specs.Events.{Event, piece, came, howMany}
-use Rattle.hub.specs.Calls.{Call, Standing}
+use Rattle.hub.specs.Calls.{Call, Standing, after, answer, afterAll}
 
 -- FragmentIndex, in its place on the wire.
 abbrev pub indexIn : Call → ℕ

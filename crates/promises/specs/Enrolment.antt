@@ -8,8 +8,7 @@ use lib.ListN.{length}
 use Rattle.seal.specs.Opening.{sealedPart}
 use Rattle.hub.specs.declared.Answer.the-variants.{Reply, Again, Failure}
 use Rattle.promises.specs.Refusals.{sealed, start}
-use Rattle.promises.specs.Reports.{after, answer, afterAll}
-use Rattle.hub.specs.Calls.{Call, Standing}
+use Rattle.hub.specs.Calls.{Call, Standing, after, answer, afterAll}
 
 -- "until a verdict of 0": no step of the course named Failure.
 abbrev pub NoFailure : Standing → List Call → Type 0

@@ -13,9 +13,9 @@ use Rattle.joining.specs.Cut.{badSize}
 use Rattle.hub.specs.declared.Answer.the-variants.{Reply}
 use Rattle.hub.specs.Opening.{blank}
 use Rattle.promises.specs.Refusals.{AreBytes}
-use Rattle.promises.specs.Reports.{after, answer, Sending, fragments, fragment, headerFor, Fair, Sent, Course}
+use Rattle.promises.specs.Reports.{Sending, fragments, fragment, headerFor, Fair, Sent, Course}
 use Rattle.joining.specs.Events.{Event, piece}
-use Rattle.hub.specs.Calls.{Call, Standing}
+use Rattle.hub.specs.Calls.{Call, Standing, after, answer}
 
 -- What the types of the calls say of a report that is sent, and 64 key bytes.
 pub record Typed (s : Sending) : Type 0 where

@@ -15,27 +15,9 @@ use Rattle.hub.specs.declared.Answer.{Answer}
 use Rattle.hub.specs.declared.Answer.the-variants.{Refused, Taken, Repeat, Complete}
 use Rattle.hub.specs.Answers.{isQuiet, isComplete}
 use Rattle.hub.specs.Hear.{withProgress}
-use Rattle.hub.specs.Step.{step, reportStepped}
 use Rattle.promises.specs.Written.{Wrote}
 use Rattle.joining.specs.Events.{Event, piece, between, came, LastMissing, howMany}
-use Rattle.hub.specs.Calls.{Call, Standing}
-
--- What one call of the step leaves: the next connection and the report buffer.
-abbrev pub after : Standing → Call → Standing
-after s x =
-    record {
-      connection = step (s .connection) (x .message) (x .keys) (x .working) (s .report) (x .verdict) .connection;
-      report = reportStepped (s .connection) (x .message) (x .keys) (x .working) (s .report) (x .verdict);
-    }
-
--- What it answers.
-abbrev pub answer : Standing → Call → Answer
-answer s x = step (s .connection) (x .message) (x .keys) (x .working) (s .report) (x .verdict) .answer
-
--- What a list of calls leaves, one after the other.
-abbrev pub afterAll : Standing → List Call → Standing
-afterAll s [] = s
-afterAll s (x ∷ xs) = afterAll (after s x) xs
+use Rattle.hub.specs.Calls.{Call, Standing, after, answer, afterAll}
 
 -- A report that is sent to a connection, in these keys and on this channel; and the report buffer as it began.
 pub record Sending : Type 0 where

@@ -5,7 +5,7 @@ use borrow.Author.Needs.{needs}
 use Rattle.joining.specs.Heard.{most}
 use Rattle.wire.specs.Fields.{mostPieces}
 use Rattle.joining.proofs.Cuts.{place-bound}
-use Rattle.joining.proofs.Ways.{way-complete, way-taken}
+use Rattle.joining.proofs.JoinWays.{way-complete, way-taken}
 use Rattle.joining.proofs.advance.Statement.{statement}
 use Rattle.joining.proofs.advance.Tie as tie
 

@@ -4,7 +4,7 @@ use native.Mathlib.Omega.{arith}
 use borrow.Author.Needs.{needs}
 use borrow.Author.Tests.{ne-eqb}
 use Rattle.joining.specs.Heard.{come}
-use Rattle.joining.proofs.Heards.{come-tally}
+use Rattle.joining.proofs.HeardLaws.{come-tally}
 use Rattle.joining.proofs.completes.Statement.{statement}
 use Rattle.joining.proofs.completes.Tie as tie
 

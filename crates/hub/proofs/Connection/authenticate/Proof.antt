@@ -1,25 +1,20 @@
 -- Row by row: state 1 with either verdict, states 2 and 3 with the certificate's digest compared, all else.
 use borrow.Author.Needs.{needs}
-use Rattle.hub.specs.Host.{host}
 use Rattle.hub.proofs.Connection.authenticate.Statement.{statement}
 use Rattle.hub.proofs.Connection.authenticate.Tie as tie
 
 returns : tie.Need-returns
-unfolding host
 returns c = rw (c .before .if1 .taken, c .judged .ensures)
 
 returns-2 : tie.Need-returns-2
-unfolding host
 returns-2 c = rw (c .before .before .if1 .left, c .before .if2 .taken, c .judged2 .ensures)
 
 returns-3 : tie.Need-returns-3
-unfolding host
 returns-3 c =
     let d = c .before .before .before .before .before in
     rw (d .before .if1 .left, d .if2 .left, ← (c .before .alike .ensures), c .if3 .taken)
 
 returns-4 : tie.Need-returns-4
-unfolding host
 returns-4 c =
     let a = c .before .before in
     let d = a .before .before .before .before in
@@ -28,5 +23,5 @@ returns-4 c =
 pub authenticate-spec : {M : Type 1} → statement M
 authenticate-spec =
     tie.close (tie.spec
-    (λ c κs. search needs) returns (λ c κs. search needs) returns-2 (λ c. search needs) (λ c. search needs)
-    (λ c κs. search needs) returns-3 (λ c κs. search needs) returns-4)
+    _ returns _ returns-2 (λ c. search needs) (λ c. search needs)
+    _ returns-3 _ returns-4)

@@ -7,4 +7,4 @@ returns : tie.Need-returns
 returns c = rw (c .expecting .ensures)
 
 pub blank-spec : {M : Type 1} → statement M
-blank-spec = tie.close (tie.spec (λ c κs. search needs) returns)
+blank-spec = tie.close (tie.spec _ returns)

@@ -44,5 +44,5 @@ returns-4 c =
 pub connect-spec : {M : Type 1} → statement M
 connect-spec =
     tie.close (tie.spec
-    (λ c κs. search needs) (λ c κs. search needs) (λ c κs. search needs) returns (λ c κs. search needs)
-    (λ c κs. search needs) returns-2 (λ c κs. search needs) returns-3 (λ c κs. search needs) returns-4)
+    _ _ _ returns _
+    _ returns-2 _ returns-3 _ returns-4)

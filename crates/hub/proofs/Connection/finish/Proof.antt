@@ -1,21 +1,17 @@
 -- Row by row: state 2, state 3, all else.
 use borrow.Author.Tests.{eq-eqb, ne-eqb}
 use borrow.Author.Needs.{needs}
-use Rattle.hub.specs.Host.{host}
 use Rattle.hub.proofs.Connection.finish.Statement.{statement}
 use Rattle.hub.proofs.Connection.finish.Tie as tie
 
 returns : tie.Need-returns
-unfolding host
 returns c = rw (eq-eqb _ _ (c .before .before .if1 .taken), c .judged .ensures)
 
 returns-2 : tie.Need-returns-2
-unfolding host
 returns-2 c = rw (ne-eqb _ _ (c .before .if1 .left), eq-eqb _ _ (c .if2 .taken))
 
 returns-3 : tie.Need-returns-3
-unfolding host
 returns-3 c = rw (ne-eqb _ _ (c .before .before .if1 .left), ne-eqb _ _ (c .before .if2 .left), c .refuse .ensures)
 
 pub finish-spec : {M : Type 1} → statement M
-finish-spec = tie.close (tie.spec (λ c κs. search needs) returns returns-2 (λ c κs. search needs) returns-3)
+finish-spec = tie.close (tie.spec _ returns returns-2 _ returns-3)

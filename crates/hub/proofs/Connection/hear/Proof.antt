@@ -15,37 +15,26 @@ own c = sym (c .before .is-foreign .ensures) ∙ c .if1 .left
 returns : tie.Need-returns
 returns c =
     let i = c .before in
-    let s = i .before .before .before .before .args in
-    way-foreign (s .self) (s .header) (s .payload .now) (s .report .now) (s .verdict)
-    (sym (i .before .is-foreign .ensures) ∙ i .if1 .taken) _ (c .refuse .ensures)
+    way-foreign _ _ _ _ _ (sym (i .before .is-foreign .ensures) ∙ i .if1 .taken) _ (c .refuse .ensures)
 
 returns-2 : tie.Need-returns-2
-returns-2 c =
-    let i = c .before .before .before in
-    let s = i .before .before .before .before .args in
-    way-connect (s .self) (s .header) (s .payload .now) (s .report .now) (s .verdict) (own i) (c .before .if2 .taken) _ (c .connect .ensures)
+returns-2 c = way-connect _ _ _ _ _ (own (c .before .before .before)) (c .before .if2 .taken) _ (c .connect .ensures)
 
 returns-3 : tie.Need-returns-3
 returns-3 c =
     let j = c .before .before .before .before in
     let k = j .before .before .before in
-    let i = k .before .before in
-    let s = i .before .before .before .before .args in
     let e = c .before .before .session .ensures in
-    way-session (s .self) (s .header) (s .payload .now) (s .report .now) (s .verdict) (own i) (ne-eqb _ _ (k .if2 .left)) (j .if3 .taken) _
-    (e .0) _ (e .1)
+    way-session _ _ _ _ _ (own (k .before .before)) (ne-eqb _ _ (k .if2 .left)) (j .if3 .taken) _ (e .0) _ (e .1)
 
 returns-4 : tie.Need-returns-4
 returns-4 c =
     let j = c .before in
     let k = j .before .before .before in
-    let i = k .before .before in
-    let s = i .before .before .before .before .args in
-    way-else (s .self) (s .header) (s .payload .now) (s .report .now) (s .verdict) (own i) (ne-eqb _ _ (k .if2 .left)) (j .if3 .left) _
-    (c .refuse2 .ensures)
+    way-else _ _ _ _ _ (own (k .before .before)) (ne-eqb _ _ (k .if2 .left)) (j .if3 .left) _ (c .refuse2 .ensures)
 
 pub hear-spec : {M : Type 1} → statement M
 hear-spec =
     tie.close (tie.spec
-    (λ c κs. search needs) (λ c κs. search needs) returns (λ c κs. search needs) returns-2 (λ c κs. search needs)
-    (λ c. search needs) returns-3 (λ c κs. search needs) returns-4)
+    _ _ returns _ returns-2 _
+    (λ c. search needs) returns-3 _ returns-4)

@@ -11,5 +11,5 @@ returns c =
 pub knows-spec : {M : Type 1} → statement M
 knows-spec =
     tie.close (tie.spec
-    (λ c. search needs) (λ c. search needs) (λ c κs. search needs) (λ c. search needs) (λ c. search needs)
-    (λ c κs. search needs) (λ c. search needs) (λ c. search needs) (λ c κs. search needs) returns)
+    (λ c. search needs) (λ c. search needs) _ (λ c. search needs) (λ c. search needs)
+    _ (λ c. search needs) (λ c. search needs) _ returns)

@@ -14,4 +14,4 @@ returns-2 c = rw (← (c .before .before .bad-size .ensures), c .before .if1 .le
 
 pub open-spec : {M : Type 1} → statement M
 open-spec =
-    tie.close (tie.spec (λ c κs. search needs) (λ c κs. search needs) returns (λ c κs. search needs) returns-2)
+    tie.close (tie.spec _ _ returns _ returns-2)

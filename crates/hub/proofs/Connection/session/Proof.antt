@@ -9,4 +9,4 @@ returns c =
     (rw (c .of .ensures, j .0), j .1)
 
 pub session-spec : {M : Type 1} → statement M
-session-spec = tie.close (tie.spec (λ c. search needs) (λ c. search needs) (λ c κs. search needs) (λ c κs. search needs) (λ c. search needs) returns)
+session-spec = tie.close (tie.spec (λ c. search needs) (λ c. search needs) _ _ (λ c. search needs) returns)

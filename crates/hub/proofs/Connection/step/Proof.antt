@@ -7,29 +7,20 @@ use Rattle.hub.proofs.Connection.step.Statement.{statement}
 use Rattle.hub.proofs.Connection.step.Tie as tie
 
 returns : tie.Need-returns
-returns c =
-    let s = c .before .before .before .before .before .before .args in
-    way-verdict (s .self) (s .message .now) (s .keys .now) (s .working .now) (s .report .now) (s .verdict)
-    (lt-ltb _ _ (c .before .if1 .taken)) _ (c .refuse .ensures)
+returns c = way-verdict _ _ _ _ _ _ (lt-ltb _ _ (c .before .if1 .taken)) _ (c .refuse .ensures)
 
 returns-2 : tie.Need-returns-2
 returns-2 c =
     let z = c .before in
-    let t = z .before .before in
-    let s = t .before .before .before .before .before .args in
-    way-size (s .self) (s .message .now) (s .keys .now) (s .working .now) (s .report .now) (s .verdict) (le-ltb _ _ (t .if1 .left))
-    (sym (z .before .bad-size .ensures) ∙ z .if2 .taken) _ (c .refuse2 .ensures)
+    way-size _ _ _ _ _ _ (le-ltb _ _ (z .before .before .if1 .left)) (sym (z .before .bad-size .ensures) ∙ z .if2 .taken) _ (c .refuse2 .ensures)
 
 returns-3 : tie.Need-returns-3
 returns-3 c =
     let n = c .before .before in
     let r = n .before .before .before .before in
     let z = r .before .before in
-    let t = z .before .before in
-    let s = t .before .before .before .before .before .args in
-    way-refused (s .self) (s .message .now) (s .keys .now) (s .working .now) (s .report .now) (s .verdict) (le-ltb _ _ (t .if1 .left))
-    (sym (z .before .bad-size .ensures) ∙ z .if2 .left) _ (r .read .ensures .1) _ (sym (r .read .ensures .0) ∙ n .n .given .1) _
-    (c .refuse3 .ensures)
+    way-refused _ _ _ _ _ _ (le-ltb _ _ (z .before .before .if1 .left)) (sym (z .before .bad-size .ensures) ∙ z .if2 .left) _
+    (r .read .ensures .1) _ (sym (r .read .ensures .0) ∙ n .n .given .1) _ (c .refuse3 .ensures)
 
 returns-4 : tie.Need-returns-4
 returns-4 c =
@@ -38,16 +29,13 @@ returns-4 c =
     let n = p .before .before .before in
     let r = n .before .before .before .before in
     let z = r .before .before in
-    let t = z .before .before in
-    let s = t .before .before .before .before .before .args in
-    way-read (s .self) (s .message .now) (s .keys .now) (s .working .now) (s .report .now) (s .verdict) (le-ltb _ _ (t .if1 .left))
-    (sym (z .before .bad-size .ensures) ∙ z .if2 .left) _ (r .read .ensures .1) _ _ _ _
-    (sym (r .read .ensures .0) ∙ n .header .given .1) _ _
+    way-read _ _ _ _ _ _ (le-ltb _ _ (z .before .before .if1 .left)) (sym (z .before .bad-size .ensures) ∙ z .if2 .left) _
+    (r .read .ensures .1) _ _ _ _ (sym (r .read .ensures .0) ∙ n .header .given .1) _ _
     (rw (← (p .payload .ensures)) (a .hear .ensures))
 
 pub step-spec : {M : Type 1} → statement M
 step-spec =
     tie.close (tie.spec
-    (λ c κs. search needs) returns (λ c κs. search needs) (λ c κs. search needs) returns-2 (λ c κs. search needs)
-    (λ c. search needs) (λ c κs. search needs) (λ c. search needs) (λ c κs. search needs) (λ c κs. search needs)
+    _ returns _ _ returns-2 _
+    (λ c. search needs) _ (λ c. search needs) _ _
     (λ c. search needs) returns-3 (λ c. search needs) (λ c. search needs) returns-4)

@@ -26,5 +26,5 @@ returns c = c .digest .ensures ∙ rw (add-sub-cancel-left, c .before .before .b
 pub certificate-digest-spec : {M : Type 1} → statement M
 certificate-digest-spec =
     tie.close (tie.spec
-    (λ c κs. search needs) add-end (λ c. search needs) (λ c. search needs) part-digest-end (λ c κs. search needs)
+    _ add-end (λ c. search needs) (λ c. search needs) part-digest-end _
     returns)

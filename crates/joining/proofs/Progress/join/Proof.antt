@@ -8,7 +8,7 @@ use Rattle.joining.specs.Heard.{tally}
 use Rattle.joining.specs.Join.{Fitting}
 use Rattle.wire.specs.Fields.{mostPieces}
 use Rattle.joining.proofs.Refusals.{fitting}
-use Rattle.joining.proofs.Ways.{way-refused, way-repeat, way-new}
+use Rattle.joining.proofs.JoinWays.{way-refused, way-repeat, way-new}
 use Rattle.joining.proofs.Progress.join.Statement.{statement}
 use Rattle.joining.proofs.Progress.join.Tie as tie
 

@@ -8,7 +8,7 @@ use lib.ListN.{getD}
 use borrow.Author.Needs.{needs}
 use Rattle.joining.specs.Heard.{come}
 use Rattle.wire.specs.Fields.{mostPieces}
-use Rattle.joining.proofs.Heards.{come-suc, bit-byte}
+use Rattle.joining.proofs.HeardLaws.{come-suc, bit-byte}
 use Rattle.joining.proofs.heard.count_heard.Statement.{statement}
 use Rattle.joining.proofs.heard.count_heard.Tie as tie
 

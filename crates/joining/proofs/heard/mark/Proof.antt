@@ -12,8 +12,8 @@ use lib.Seq.{take-all}
 use borrow.Author.Needs.{needs}
 use Rattle.joining.specs.Heard.{most, has, mark, come, tally}
 use Rattle.wire.specs.Fields.{mostPieces}
-use Rattle.joining.proofs.Heards.{come-suc, come-le, bit-byte}
-use Rattle.joining.proofs.Marks.{marking, marking-none, marking-all, marking-at, marking-next}
+use Rattle.joining.proofs.HeardLaws.{come-suc, come-le, bit-byte}
+use Rattle.joining.proofs.MarkLoop.{marking, marking-none, marking-all, marking-at, marking-next}
 use Rattle.joining.proofs.heard.mark.Statement.{statement}
 use Rattle.joining.proofs.heard.mark.Tie as tie
 

@@ -2,12 +2,10 @@
 use Prim.Native.Nat.{ℕ, _≤_}
 use mathlib.Core.Path.{_≡_, refl, sym, _∙_}
 use mathlib.Core.List.{List}
-use mathlib.Core.Bool.{Bool, true, false, not, _&&_, true≢false}
+use mathlib.Core.Bool.{true, false}
 use native.Mathlib.Omega.{arith}
-use lib.Dec.{eqb}
-use borrow.Author.Tests.{eqb-true, eq-eqb, ne-eqb, le-leb}
+use borrow.Author.Tests.{eqb-true, eq-eqb, ne-eqb, le-leb, not-false}
 use Rattle.laws.specs.Same.{same}
-use Rattle.laws.proofs.Bools.{and-true}
 use Rattle.laws.proofs.Sames.{same-refl}
 use Rattle.wire.specs.Payload.{connectType, readRequest}
 use Rattle.wire.specs.declared.header.Header.{Header}
@@ -18,12 +16,13 @@ use Rattle.joining.specs.Cut.{badSize}
 use Rattle.joining.specs.Join.{join}
 use Rattle.hub.specs.declared.Connection.{Connection}
 use Rattle.hub.specs.declared.Stepped.{Stepped}
-use Rattle.hub.specs.declared.Answer.the-variants.{Refused, Reply, Again, Failure, Taken, Repeat, Complete}
+use Rattle.hub.specs.declared.Answer.the-variants.{Reply, Again}
 use Rattle.hub.specs.Answers.{answerOf}
-use Rattle.hub.specs.Host.{hostRows, host, refuse, stepped, requested, judged, knows}
+use Rattle.hub.specs.Host.{host, stepped, requested, judged, knows}
 use Rattle.hub.specs.Hear.{certificate, connect, pieceIn, isForeign, heard}
-use Rattle.promises.proofs.Ways.{first-has, heard-has}
-use Rattle.promises.proofs.Keeping.{Keeps}
+use Rattle.hub.proofs.HostWays.{refuses, repeats, requests, passes, fails, finishes}
+use Rattle.hub.proofs.StepCases.{Connects, connect-way, heard-cases}
+use Rattle.promises.proofs.StateKept.{Keeps}
 
 -- An answer that is no reply and no Failure.
 other-reply : (a : Arrival) (t : ℕ) → answerOf a ≡ Reply t → ⊥
@@ -85,87 +84,35 @@ module _ (c : Connection) (sized : badSize (c .size) ≡ false) (h : Header) (p 
   abbrev Replied : Stepped → Type 0
   Replied s = (t : ℕ) → s .answer ≡ Reply t → Known (s .connection) h p t
 
-  never : (s : Stepped) → ((t : ℕ) → s .answer ≡ Reply t → ⊥) → Replied s
-  never s n t e = absurd (n t e)
-
-  refused-replied : (n : ℕ) → Replied (refuse c n)
-  refused-replied n = never (refuse c n) (λ t e. let z : _≡_ {A = ℕ} 0 1 = cc in omega arith)
-
-  again-replied : (k : ℕ) → Replied (stepped c (Again k))
-  again-replied k = never (stepped c (Again k)) (λ t e. let z : _≡_ {A = ℕ} 0 1 = cc in omega arith)
-
-  failed-replied : (d : Connection) → Replied (stepped d Failure)
-  failed-replied d = never (stepped d Failure) (λ t e. let z : _≡_ {A = ℕ} 0 1 = cc in omega arith)
-
   as-told : (d : Connection) (k : ℕ) → Known d h p k → Replied (stepped d (Reply k))
   as-told d k w t e = let z : k ≡ t = cc in rw (← z) w
 
   module _ (near : isForeign c h ≡ false) (kind : h .kind ≡ 2) where
     ours : 1 ≤ c .state → h .session ≡ c .session
-    ours l =
-        eqb-true (h .session) (c .session)
-        (by (eqb (h .session) (c .session)) (rw (kind, ne-eqb (c .state) 0 (λ z. omega arith)) at near))
-      where
-        by : (b : Bool) → not b ≡ false → b ≡ true
-        by true e = refl
-        by false e = absurd (true≢false e)
+    ours l = eqb-true (h .session) (c .session) (not-false _ (rw (kind, ne-eqb (c .state) 0 (λ z. omega arith)) at near))
 
-    connect-replied : Replied (connect c (h .session) p v)
-    unfolding connect host
-    connect-replied =
-        first-has c Replied refused-replied (hostRows c (connectType p) (h .session) (readRequest p) (digest (certificate p)) v) (refuse c 15) (
-          (λ e. as-told (requested c (h .session) (readRequest p)) 1
-              (record {
-                sized = sized;
-                kind = kind;
-                session = refl;
-                low = omega arith;
-                high = omega arith;
-                compared = request (eqb-true (connectType p) 0 (and-true (eqb (connectType p) 0) (eqb (c .state) 0) e .0))
-                    (rw (same-refl (readRequest p .nonce), same-refl (readRequest p .x), same-refl (readRequest p .y)));
-              })),
-          (
-            (λ e. again-replied 1),
-            (
-              (λ e.
-                  let a = and-true (eqb (connectType p) 2) (eqb (c .state) 1) (and-true (eqb (connectType p) 2 && eqb (c .state) 1) (eqb v 1) e .0) in
-                  let z = eqb-true (c .state) 1 (a .1) in
-                  as-told (judged c (digest (certificate p)) 2) 3
-                  (record {
-                    sized = sized;
-                    kind = kind;
-                    session = ours (omega arith);
-                    low = omega arith;
-                    high = omega arith;
-                    compared = device (eqb-true (connectType p) 2 (a .0)) (omega arith) (same-refl (digest (certificate p)));
-                  })),
-              (
-                (λ e. failed-replied (judged c (digest (certificate p)) 4)),
-                (
-                  (λ e. again-replied 3),
-                  (
-                    (λ e.
-                        let a = and-true (eqb (connectType p) 6) (eqb (c .state) 2) e in
-                        let z = eqb-true (c .state) 2 (a .1) in
-                        as-told (judged c (c .digest) 3) 7
-                        (record {
-                          sized = sized;
-                          kind = kind;
-                          session = ours (omega arith);
-                          low = omega arith;
-                          high = omega arith;
-                          compared = finish (eqb-true (connectType p) 6 (a .0)) refl;
-                        })),
-                    ((λ e. again-replied 7), tt),
-                  ),
-                ),
-              ),
-            ),
-          ),
-        )
-        (refused-replied 15)
+    -- In this session, in a state of 1 to 3.
+    known : (d : Connection) (t : ℕ) → d .size ≡ c .size → h .session ≡ d .session → 1 ≤ d .state → d .state ≤ 3 → Compared d p t → Known d h p t
+    known d t z s l u w = record { sized = rw z sized; kind = kind; session = s; low = l; high = u; compared = w }
+
+    connect-replied : (s : Stepped) → Connects c (h .session) p v s → Replied s
+    connect-replied _ (refuses n) t e = let z : _≡_ {A = ℕ} 0 1 = cc in absurd (omega arith)
+    connect-replied _ (repeats k) t e = let z : _≡_ {A = ℕ} 0 1 = cc in absurd (omega arith)
+    connect-replied _ (fails z) t e = let z : _≡_ {A = ℕ} 0 1 = cc in absurd (omega arith)
+    connect-replied _ (requests k s) t e =
+        let r = readRequest p in
+        as-told (requested c (h .session) r) 1
+        (known _ 1 refl refl (omega arith) (omega arith)
+        (request k (rw (same-refl (r .nonce), same-refl (r .x), same-refl (r .y))))) t e
+    connect-replied _ (passes k s) t e =
+        let d = digest (certificate p) in
+        as-told (judged c d 2) 3 (known _ 3 refl (ours (omega arith)) (omega arith) (omega arith) (device k (omega arith) (same-refl d))) t e
+    connect-replied _ (finishes k s) t e =
+        as-told (judged c (c .digest) 3) 7 (known _ 7 refl (ours (omega arith)) (omega arith) (omega arith) (finish k refl)) t e
 
   pub heard-replied : Replied (heard c h p report v)
   heard-replied =
-      heard-has c Replied refused-replied h p report v (λ f k. connect-replied f (eqb-true (h .kind) 2 k))
-      (λ t e. absurd (other-reply (join (c .size) (c .progress) (pieceIn h) p report .answer) t e))
+      heard-cases c h p report v (λ (s : Stepped) (b : List ℕ). Replied s) (λ f t e. absurd (other-reply (arrival.Refused 16) t e))
+      (λ f k. connect-replied f (eqb-true (h .kind) 2 k) _ (connect-way c (h .session) p v))
+      (λ f j t e. absurd (other-reply (join (c .size) (c .progress) (pieceIn h) p report .answer) t e))
+      (λ f k j t e. absurd (other-reply (arrival.Refused 15) t e))

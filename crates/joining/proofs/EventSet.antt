@@ -9,18 +9,21 @@ use lib.Dec.{eqb}
 use lib.ListN.{length, length-set, length-replicate}
 use lib.Seq.{getD-set-same, getD-set-other, ext-getD}
 use borrow.Author.Tests.{eq-eqb, ne-eqb}
+use Rattle.laws.specs.Courses.{final}
 use Rattle.joining.specs.Heard.{most, has, mark, none}
-use Rattle.joining.proofs.Heards.{has-none}
-use Rattle.joining.proofs.Coming.{Start, Fair, Lawful, none-lawful}
-use Rattle.joining.proofs.Arriving.{mark-lawful}
+use Rattle.joining.proofs.HeardLaws.{has-none}
+use Rattle.joining.proofs.Snapshot.{Start, Startable, Lawful}
 use Rattle.joining.specs.Events.{Event, piece, between, came}
 use Rattle.laws.proofs.Bools.{or-true, or-none, or-assoc}
 
--- The set of those that have come, from S on.
-abbrev pub marks : List Bool → List Event → List Bool
-marks S [] = S
-marks S (piece i ∷ es) = marks (mark S i) es
-marks S (between ∷ es) = marks S es
+-- What an event does to the set of those that have come.
+abbrev pub heardWith : List Bool → Event → List Bool
+heardWith S (piece i) = mark S i
+heardWith S between = S
+
+-- The set of what has come.
+abbrev pub setOf : List Event → List Bool
+setOf es = final heardWith (none most) es
 
 -- Every piece named is one of n.
 abbrev pub Under : ℕ → List Event → Type 0
@@ -36,7 +39,7 @@ mark-has S i j l = go (ℕ-discrete j i)
     go (no d) = rw (ne-eqb j i d) (getD-set-other S i j true false d ∙ sym (or-none (has S j)))
 
 -- The set has what it had and what has come.
-marks-has : (n : ℕ) (S : List Bool) (es : List Event) → n ≤ length S → Under n es → (j : ℕ) → has (marks S es) j ≡ (has S j || came j es)
+marks-has : (n : ℕ) (S : List Bool) (es : List Event) → n ≤ length S → Under n es → (j : ℕ) → has (final heardWith S es) j ≡ (has S j || came j es)
 marks-has n S [] m u j = sym (or-none (has S j))
 marks-has n S (piece i ∷ es) m u j =
     marks-has n (mark S i) es (rw (length-set S i true) m) (u .1) j
@@ -44,30 +47,17 @@ marks-has n S (piece i ∷ es) m u j =
     ∙ or-assoc (has S j) (eqb j i) (came j es)
 marks-has n S (between ∷ es) m u j = marks-has n S es m u j
 
-marks-lawful : (s : Start) (f : Fair s) (S : List Bool) → Lawful s S → (es : List Event) → Under (s .count) es → Lawful s (marks S es)
-marks-lawful s f S w [] u = w
-marks-lawful s f S w (piece i ∷ es) u = marks-lawful s f (mark S i) (mark-lawful s f S w i (u .0)) es (u .1)
-marks-lawful s f S w (between ∷ es) u = marks-lawful s f S w es u
-
--- The set of what has come.
-abbrev pub setOf : List Event → List Bool
-setOf es = marks (none most) es
-
-module _ (s : Start) (f : Fair s) where
-  pub set-lawful : (es : List Event) → Under (s .count) es → Lawful s (setOf es)
-  set-lawful es u = marks-lawful s f (none most) (none-lawful s f) es u
-
+module _ (s : Start) (f : Startable s) where
   pub set-has : (es : List Event) → Under (s .count) es → (j : ℕ) → has (setOf es) j ≡ came j es
   set-has es u j =
       marks-has (s .count) (none most) es (rw (length-replicate most false) (f .cut .most)) u j
       ∙ ap (λ (b : Bool). b || came j es) (has-none most j)
 
   -- The set depends on nothing but what has come.
-  pub set-only : (es es′ : List Event) → Under (s .count) es → Under (s .count) es′ → ((j : ℕ) → j < s .count → came j es ≡ came j es′)
-      → setOf es ≡ setOf es′
-  set-only es es′ u u′ e =
-      ext-getD false (setOf es) (setOf es′) (set-lawful es u .long ∙ sym (set-lawful es′ u′ .long)) (λ j h. go j (decLt j (s .count)))
+  pub set-only : (es es′ : List Event) → Under (s .count) es → Under (s .count) es′ → Lawful s (setOf es) → Lawful s (setOf es′)
+      → ((j : ℕ) → j < s .count → came j es ≡ came j es′) → setOf es ≡ setOf es′
+  set-only es es′ u u′ w w′ e = ext-getD false (setOf es) (setOf es′) (w .long ∙ sym (w′ .long)) (λ j h. go j (decLt j (s .count)))
     where
       go : (j : ℕ) → Dec (j < s .count) → has (setOf es) j ≡ has (setOf es′) j
       go j (yes l) = set-has es u j ∙ e j l ∙ sym (set-has es′ u′ j)
-      go j (no l) = set-lawful es u .below j (omega arith) ∙ sym (set-lawful es′ u′ .below j (omega arith))
+      go j (no l) = w .below j (omega arith) ∙ sym (w′ .below j (omega arith))

@@ -2,19 +2,20 @@
 use Prim.Native.Nat.{ℕ, zero, suc, _+_, _≤_, _<_}
 use mathlib.Core.Path.{_≡_, refl, sym, ap, _∙_}
 use mathlib.Core.List.{List, [], _∷_}
-use mathlib.Core.Bool.{Bool, true, false, _||_, true≢false}
+use mathlib.Core.Bool.{Bool, true, false, _||_, true≢false, or-comm}
 use native.Mathlib.Omega.{arith}
 use lib.Dec.{eqb}
 use lib.ListN.{length}
 use lib.Seq.{getD-set-other}
 use borrow.Author.Tests.{eq-eqb, ne-eqb}
+use Rattle.laws.specs.Courses.{final}
 use Rattle.joining.specs.declared.Arrival.the-variants.{Taken, Repeat}
 use Rattle.joining.specs.Heard.{most, bit, tally, come, has, mark}
-use Rattle.joining.proofs.Heards.{come-next, come-mark, come-full, full-come, tally-mark}
-use Rattle.joining.proofs.Coming.{Start, Fair, Lawful, pieceOf, bytesOf}
-use Rattle.joining.proofs.Arriving.{mark-known, mark-lawful}
-use Rattle.joining.proofs.Come.{setOf, set-has, set-lawful, mark-has}
-use Rattle.joining.proofs.Courses.{Machine, final, Course, under, began, says-here}
+use Rattle.joining.proofs.HeardLaws.{mark-known, come-suc, come-mark, come-full, tally-mark}
+use Rattle.joining.proofs.Snapshot.{Start, Startable, Lawful, pieceOf, pieceBytes}
+use Rattle.joining.proofs.SnapshotBuffer.{mark-lawful}
+use Rattle.joining.proofs.EventSet.{setOf, set-has, mark-has}
+use Rattle.joining.proofs.DemandThree.{Machine, CourseOf, under, began, ends-at, all-come, says-here}
 use Rattle.joining.specs.Events.{Event, piece, came, LastMissing, howMany}
 
 -- A set that has what has come has as many.
@@ -22,7 +23,7 @@ pub come-came : (S : List Bool) (es : List Event) (n : ℕ) → n ≤ length S �
 come-came S es zero l e = refl
 come-came S es (suc n) l e =
     let b : bit (has S n) ≡ bit (came n es) = ap bit (e n) in
-    omega (arith, come-next S n (omega arith), come-came S es n (omega arith) e)
+    omega (arith, come-suc S n, come-came S es n (omega arith) e)
 
 -- Nothing stands in a set behind its first n indexes: they are all that is counted.
 pub tally-come : (n : ℕ) (S : List Bool) → ((j : ℕ) → n ≤ j → has S j ≡ false) → tally S ≡ come n S
@@ -33,19 +34,13 @@ tally-come zero (b ∷ bs) e =
     omega (arith, tally-come zero bs (λ j l. e (suc j) (omega arith)))
 tally-come (suc n) (b ∷ bs) e = omega (arith, tally-come n bs (λ j l. e (suc j) (omega arith)))
 
-pub or-swap : (a b : Bool) → (a || b) ≡ (b || a)
-or-swap true true = refl
-or-swap true false = refl
-or-swap false true = refl
-or-swap false false = refl
-
-module _ (s : Start) (f : Fair s) (m : Machine (s .size)) {xs : List (m .X)} {es : List Event} (r : Course s m (began s f m) xs es) (i : ℕ)
+module _ (s : Start) (f : Startable s) (m : Machine (s .size)) {xs : List (m .X)} {es : List Event} (r : CourseOf s m (began s f m) xs es) (i : ℕ)
     (l : i < s .count) where
   abbrev S : List Bool
   S = setOf es
 
   w : Lawful s S
-  w = set-lawful s f es (under r)
+  w = ends-at s f m r .0
 
   room : i < length S
   room = omega (arith, w .long, f .cut .most)
@@ -57,7 +52,7 @@ module _ (s : Start) (f : Fair s) (m : Machine (s .size)) {xs : List (m .X)} {es
   come-here : come (s .count) (mark S i) ≡ howMany (s .count) (piece i ∷ es)
   come-here =
       come-came (mark S i) (piece i ∷ es) (s .count) (omega (arith, mark-lawful s f S w i l .long, f .cut .most))
-      (λ j. mark-has S i j room ∙ or-swap (has S j) (eqb j i) ∙ ap (λ (b : Bool). eqb j i || b) (has-came j))
+      (λ j. mark-has S i j room ∙ or-comm (has S j) (eqb j i) ∙ ap (λ (b : Bool). eqb j i || b) (has-came j))
 
   tally-here : tally (mark S i) ≡ howMany (s .count) (piece i ∷ es)
   tally-here = tally-come (s .count) (mark S i) (mark-lawful s f S w i l .below) ∙ come-here
@@ -68,17 +63,12 @@ module _ (s : Start) (f : Fair s) (m : Machine (s .size)) {xs : List (m .X)} {es
 
   -- When the last missing one comes, all have come.
   pub all-told : LastMissing (s .count) i es → s .count ≡ howMany (s .count) (piece i ∷ es)
-  all-told d =
-      sym (full-come (s .count) (mark S i) (omega (arith, mark-lawful s f S w i l .long, f .cut .most)) (λ j k. heard j (eqb j i) refl k)) ∙ come-here
-    where
-      heard : (j : ℕ) (t : Bool) → eqb j i ≡ t → j < s .count → has (mark S i) j ≡ true
-      heard j true e k = mark-has S i j room ∙ rw e (or-swap (has S j) true)
-      heard j false e k = mark-has S i j room ∙ rw e (or-swap (has S j) false ∙ has-came j ∙ d .1 j k (λ z. true≢false (sym (eq-eqb j i z) ∙ e)))
+  all-told d = sym (all-come s f m r i l d) ∙ come-here
 
-  module _ (x : m .X) (h : m .Brings (pieceOf s i) (bytesOf s i) x) where
+  module _ (x : m .X) (h : m .Brings (pieceOf s i) (pieceBytes s i) x) where
     -- A piece that has come, while one is missing.
     pub told-again : came i es ≡ true → (j : ℕ) → j < s .count → came j es ≡ false
-        → m .says (final m (began s f m) xs) x ≡ m .answer (Repeat (howMany (s .count) (piece i ∷ es)))
+        → m .says (final (m .next) (began s f m) xs) x ≡ m .answer (Repeat (howMany (s .count) (piece i ∷ es)))
     told-again a j k c =
         let e : tally S ≡ howMany (s .count) (piece i ∷ es) = ap tally (sym (mark-known S i (has-came i ∙ a))) ∙ tally-here in
         says-here s f m r i l x h
@@ -86,7 +76,7 @@ module _ (s : Start) (f : Fair s) (m : Machine (s .size)) {xs : List (m .X)} {es
 
     -- A piece that had not, while another is missing.
     pub told-taken : came i es ≡ false → (j : ℕ) → j < s .count → (j ≡ i → ⊥) → came j es ≡ false
-        → m .says (final m (began s f m) xs) x ≡ m .answer (Taken (howMany (s .count) (piece i ∷ es)))
+        → m .says (final (m .next) (began s f m) xs) x ≡ m .answer (Taken (howMany (s .count) (piece i ∷ es)))
     told-taken a j k n c =
         let u : has S i ≡ false = has-came i ∙ a in
         let e : tally S + 1 ≡ howMany (s .count) (piece i ∷ es) = sym (tally-mark S i room u) ∙ tally-here in

@@ -8,17 +8,16 @@ use lib.Dec.{eqb}
 use lib.ListN.{length}
 use lib.Seq.{getD-set-same, getD-set-other}
 use borrow.Author.Tests.{eq-eqb, ne-eqb, eqb-true, eqb-false}
+use Rattle.laws.proofs.Cases.{on}
 use Rattle.joining.specs.declared.Arrival.{Arrival}
 use Rattle.joining.specs.declared.Arrival.the-variants.{Refused, Taken, Repeat, Complete}
 use Rattle.joining.specs.Heard.{tally, come, has, mark}
 use Rattle.joining.specs.Join.{lastOf, taken, join, reportAfter}
-use Rattle.joining.proofs.Heards.{tally-mark, come-mark, come-full}
-pub use Rattle.joining.proofs.Heards.{mark-known}
+use Rattle.joining.proofs.HeardLaws.{mark-known, tally-mark, come-mark, come-full}
 use Rattle.joining.proofs.Cuts.{begins, remainder}
-use Rattle.joining.proofs.Coming.{Start, Fair, Lawful, pieceOf, bytesOf, lastSize, partHeld, heldAt, bufferAt}
-use Rattle.joining.proofs.Buffers.{in-set, put-buffer}
-pub use Rattle.joining.proofs.Buffers.{mark-lawful}
-use Rattle.joining.proofs.Passing.{unrefused, late}
+use Rattle.joining.proofs.Snapshot.{Start, Startable, Lawful, pieceOf, pieceBytes, lastSize, partHeld, heldAt, bufferAt}
+use Rattle.joining.proofs.SnapshotBuffer.{in-set, put-buffer}
+use Rattle.joining.proofs.PieceAllowed.{unrefused, late}
 
 -- What is answered to piece i where S has come.
 abbrev pub answerAt : Start → List Bool → ℕ → Arrival
@@ -27,9 +26,9 @@ answerAt s S i =
     (cond (has S i) (Repeat (tally S))
     (cond (eqb (come (s .count) S + 1) (s .count)) (Complete (length (s .report)) (s .count)) (Taken (tally S + 1))))
 
-module _ (s : Start) (f : Fair s) (S : List Bool) (w : Lawful s S) (i : ℕ) (l : i < s .count) where
+module _ (s : Start) (f : Startable s) (S : List Bool) (w : Lawful s S) (i : ℕ) (l : i < s .count) where
   abbrev bytes : List ℕ
-  bytes = bytesOf s i
+  bytes = pieceBytes s i
 
   abbrev at : ℕ
   at = s .size * i
@@ -57,17 +56,15 @@ module _ (s : Start) (f : Fair s) (S : List Bool) (w : Lawful s S) (i : ℕ) (l 
 
   -- The remembered length, with this piece too.
   last-more : lastOf (partHeld s S) (pieceOf s i) (length bytes) ≡ cond (has (mark S i) (s .count - 1)) (lastSize s) (s .held .last)
-  last-more = go (eqb (i + 1) (s .count)) refl
-    where
-      go : (t : Bool) → eqb (i + 1) (s .count) ≡ t
-          → lastOf (partHeld s S) (pieceOf s i) (length bytes) ≡ cond (has (mark S i) (s .count - 1)) (lastSize s) (s .held .last)
-      go true e =
-          let m : i + 1 ≡ s .count = eqb-true (i + 1) (s .count) e in
-          let p : s .count - 1 ≡ i = omega arith in
-          rw (e, p, getD-set-same S i true false (in-set s f S w i l)) (remainder (s .report) (f .cut) i l m)
-      go false e =
-          let m : s .count - 1 ≡ i → ⊥ = λ z. omega (arith, eqb-false (i + 1) (s .count) e) in
-          rw (e, getD-set-other S i (s .count - 1) true false m)
+  last-more =
+      on (eqb (i + 1) (s .count))
+      (λ e.
+      let m : i + 1 ≡ s .count = eqb-true (i + 1) (s .count) e in
+      let p : s .count - 1 ≡ i = omega arith in
+      rw (e, p, getD-set-same S i true false (in-set s f S w i l)) (remainder (s .report) (f .cut) i l m))
+      (λ e.
+      let m : s .count - 1 ≡ i → ⊥ = λ z. omega (arith, eqb-false (i + 1) (s .count) e) in
+      rw (e, getD-set-other S i (s .count - 1) true false m))
 
   -- What joining does with a new piece.
   new : (come (s .count) S ≡ s .count → ⊥) → has S i ≡ false
@@ -113,16 +110,11 @@ module _ (s : Start) (f : Fair s) (S : List Bool) (w : Lawful s S) (i : ℕ) (l 
 
   -- Piece i, at any set.
   pub arrives : Arrives
-  arrives = all (eqb (come (s .count) S) (s .count)) refl
-    where
-      missing : (come (s .count) S ≡ s .count → ⊥) → has S i ≡ false → (t : Bool) → eqb (come (s .count) S + 1) (s .count) ≡ t → Arrives
-      missing m h true e = when-last h (eqb-true (come (s .count) S + 1) (s .count) e)
-      missing m h false e = when-missing m h (eqb-false (come (s .count) S + 1) (s .count) e)
-
-      heard : (come (s .count) S ≡ s .count → ⊥) → (t : Bool) → has S i ≡ t → Arrives
-      heard m true h = when-heard m h
-      heard m false h = missing m h (eqb (come (s .count) S + 1) (s .count)) refl
-
-      all : (t : Bool) → eqb (come (s .count) S) (s .count) ≡ t → Arrives
-      all true e = when-all (eqb-true (come (s .count) S) (s .count) e)
-      all false e = heard (eqb-false (come (s .count) S) (s .count) e) (has S i) refl
+  arrives =
+      on (eqb (come (s .count) S) (s .count)) (λ e. when-all (eqb-true (come (s .count) S) (s .count) e))
+      (λ e.
+      let m = eqb-false (come (s .count) S) (s .count) e in
+      on (has S i) (when-heard m)
+      (λ h.
+      on (eqb (come (s .count) S + 1) (s .count)) (λ a. when-last h (eqb-true (come (s .count) S + 1) (s .count) a))
+      (λ a. when-missing m h (eqb-false (come (s .count) S + 1) (s .count) a))))

@@ -2,28 +2,27 @@
 use Prim.Native.Nat.{ℕ, _≤_}
 use mathlib.Core.Path.{_≡_, refl, ap}
 use mathlib.Core.List.{List}
-use mathlib.Core.Bool.{Bool, true, false, cond, _||_}
+use mathlib.Core.Bool.{Bool, true, false}
 use lib.ListN.{length}
 use lib.Dec.{ltb, eqb}
 use borrow.Author.Tests.{le-ltb, eq-eqb}
 use Rattle.wire.specs.declared.header.Header.{Header}
 use Rattle.message.specs.Reading.{readMessage, workingAfter}
 use Rattle.message.specs.Handed.{payload}
-use Rattle.message.specs.declared.reading.MessageRead.{MessageRead}
-use Rattle.message.specs.declared.reading.MessageRead.the-variants.{Refused, Read}
+use Rattle.message.specs.declared.reading.MessageRead.the-variants.{Read}
 use Rattle.joining.specs.declared.Progress.{Progress}
 use Rattle.joining.specs.declared.Piece.{Piece}
 use Rattle.joining.specs.Cut.{badSize}
 use Rattle.joining.specs.Join.{join, reportAfter}
-use Rattle.joining.proofs.Courses.{Machine}
+use Rattle.joining.proofs.DemandThree.{Machine}
 use Rattle.hub.specs.declared.Connection.{Connection}
 use Rattle.hub.specs.declared.Stepped.{Stepped}
 use Rattle.hub.specs.declared.Answer.{Answer}
 use Rattle.hub.specs.Answers.{answerOf, isQuiet, isComplete}
 use Rattle.hub.specs.Hear.{pieceIn, withProgress, joined, joins, heard, reportHeard}
-use Rattle.hub.specs.Step.{afterRead, reportRead, step, reportStepped}
-use Rattle.hub.proofs.Quiet.{Still, heard-still}
-use Rattle.hub.specs.Calls.{Call, Standing}
+use Rattle.hub.specs.Step.{step, reportStepped}
+use Rattle.hub.specs.Calls.{Call, Standing, after, answer}
+use Rattle.hub.proofs.QuietKeeps.{step-still}
 
 -- The call's verdict is 0 or 1, and its message is read as a Session message of this connection's session that brings the piece.
 pub record Brings (c : Connection) (p : Piece) (bytes : List ℕ) (x : Call) : Type 0 where
@@ -37,24 +36,6 @@ pub record Brings (c : Connection) (p : Piece) (bytes : List ℕ) (x : Call) : T
   pub session : header .session ≡ c .session
   pub piece : pieceIn header ≡ p
   pub payload : payload (x .message) (workingAfter (x .message) (x .keys) (x .working)) sealed from size ≡ bytes
-
--- A quiet answer leaves connection and report buffer alone, on any connection.
-module _ (c : Connection) (m k w b : List ℕ) (v : ℕ) where
-  read-still : (w′ : List ℕ) (r : MessageRead) → Still c b (afterRead c m w′ b v r) (reportRead c m w′ b r)
-  read-still w′ (Refused n) = λ e. (refl, refl)
-  read-still w′ (Read h sealed from size) = heard-still c b h (payload m w′ sealed from size) v
-
-  ways : (t z : Bool) (x y r : Stepped) (b′ : List ℕ) → Still c b x b → Still c b y b → Still c b r b′
-      → Still c b (cond {A = Stepped} t x (cond {A = Stepped} z y r)) (cond (t || z) b b′)
-  ways true z x y r b′ p q s = p
-  ways false true x y r b′ p q s = q
-  ways false false x y r b′ p q s = s
-
-  pub step-still : Still c b (step c m k w b v) (reportStepped c m k w b v)
-  unfolding step reportStepped
-  step-still =
-      ways (ltb 1 v) (badSize (c .size)) _ _ _ _ (λ e. (refl, refl)) (λ e. (refl, refl))
-      (read-still (workingAfter m k w) (readMessage m k (length w)))
 
 -- A piece is joined, on a Ready connection.
 module _ (c : Connection) (ready : c .state ≡ 3) (sized : badSize (c .size) ≡ false) (h : Progress) (b : List ℕ) (p : Piece)
@@ -70,33 +51,24 @@ module _ (c : Connection) (ready : c .state ≡ 3) (sized : badSize (c .size) �
         rw (t, sized, i .reads, i .kind, ready, q, i .piece, i .payload),
       )
 
+pub place : {c c′ : Connection} {b b′ : List ℕ} → c ≡ c′ → b ≡ b′ → _≡_ {A = Standing} (record { connection = c; report = b })
+    (record { connection = c′; report = b′ })
+place p q = λ i. record { connection = p i; report = q i }
+
+-- A quiet call changes nothing, on any connection.
+pub still : (s : Standing) (x : Call) → isQuiet (answer s x) ≡ true → after s x ≡ s
+still s x e = let k = step-still (s .connection) (s .report) (x .message) (x .keys) (x .working) (x .verdict) e in place (k .0) (k .1)
+
 -- The machine.
 module _ (c : Connection) (ready : c .state ≡ 3) (sized : badSize (c .size) ≡ false) where
-  abbrev pub next : Standing → Call → Standing
-  next s x =
-      record {
-        connection = step (s .connection) (x .message) (x .keys) (x .working) (s .report) (x .verdict) .connection;
-        report = reportStepped (s .connection) (x .message) (x .keys) (x .working) (s .report) (x .verdict);
-      }
-
-  abbrev pub says : Standing → Call → Answer
-  says s x = step (s .connection) (x .message) (x .keys) (x .working) (s .report) (x .verdict) .answer
-
-  pub place : {c c′ : Connection} {b b′ : List ℕ} → c ≡ c′ → b ≡ b′ → _≡_ {A = Standing} (record { connection = c; report = b })
-      (record { connection = c′; report = b′ })
-  place p q = λ i. record { connection = p i; report = q i }
-
-  pub still : (s : Standing) (x : Call) → isQuiet (says s x) ≡ true → next s x ≡ s
-  still s x e = let k = step-still (s .connection) (x .message) (x .keys) (x .working) (s .report) (x .verdict) e in place (k .0) (k .1)
-
   abbrev pub hub : Machine (c .size)
   hub =
       record {
         C = Standing;
         X = Call;
         A = Answer;
-        next = next;
-        says = says;
+        next = after;
+        says = answer;
         Brings = Brings c;
         Quiet = λ a. isQuiet a ≡ true;
         seat = λ h b. record { connection = withProgress c h; report = b };

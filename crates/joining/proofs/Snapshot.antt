@@ -15,7 +15,7 @@ use Rattle.joining.specs.declared.Piece.{Piece}
 use Rattle.joining.specs.Heard.{most, tally, come, has, none}
 use Rattle.joining.specs.Report.{part}
 use Rattle.joining.specs.Join.{expecting}
-use Rattle.joining.proofs.Heards.{tally-none, come-none, has-none, come-full}
+use Rattle.joining.proofs.HeardLaws.{tally-none, come-none, has-none, come-full}
 use Rattle.joining.proofs.Cuts.{Cut}
 
 -- A report, how it was cut, and how what is remembered and the report buffer began.
@@ -28,7 +28,7 @@ pub record Start : Type 0 where
   pub buffer : List ℕ
 
 -- It was cut by the rules, its number is the expected one and may be used, nothing of it is heard, and the buffer has room for it.
-pub record Fair (s : Start) : Type 0 where
+pub record Startable (s : Start) : Type 0 where
   pub small : s .size ≤ 16384
   pub cut : Cut (s .size) most (s .count) (length (s .report))
   pub number : s .held .expected < 4294967295
@@ -39,8 +39,8 @@ pub record Fair (s : Start) : Type 0 where
 abbrev pub pieceOf : Start → ℕ → Piece
 pieceOf s i = record { sequence = s .held .expected; channel = s .channel; count = s .count; index = i }
 
-abbrev pub bytesOf : Start → ℕ → List ℕ
-bytesOf s i = part (s .report) (s .size * i) (s .size)
+abbrev pub pieceBytes : Start → ℕ → List ℕ
+pieceBytes s i = part (s .report) (s .size * i) (s .size)
 
 -- A set of pieces of this report.
 pub record Lawful (s : Start) (S : List Bool) : Type 0 where
@@ -96,7 +96,7 @@ held-from : (s : Start) (N : ℕ) → 0 < s .count → s .held .heard ≡ none N
 held-from s N p e =
     rw (come-none (s .count) N, ne-eqb 0 (s .count) (λ z. omega arith), tally-none N, has-none N (s .count - 1), ← e)
 
-module _ (s : Start) (f : Fair s) where
+module _ (s : Start) (f : Startable s) where
   pub none-lawful : Lawful s (none most)
   none-lawful = record { long = length-replicate most false; below = λ j h. has-none most j }
 

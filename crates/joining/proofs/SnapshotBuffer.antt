@@ -12,11 +12,11 @@ use Rattle.joining.specs.Heard.{has, mark}
 use Rattle.joining.specs.Report.{part, put}
 use Rattle.joining.proofs.Places.{put-length, put-before, put-in, put-after}
 use Rattle.joining.proofs.Cuts.{part-length, inside, not-over, piece-at, not-before, ends-within}
-use Rattle.joining.proofs.Coming.{Start, Fair, Lawful, bytesOf, byteAt, bufferAt, listed-length, listed-at}
+use Rattle.joining.proofs.Snapshot.{Start, Startable, Lawful, pieceBytes, byteAt, bufferAt, listed-length, listed-at}
 
-module _ (s : Start) (f : Fair s) (S : List Bool) (w : Lawful s S) (i : ℕ) (l : i < s .count) where
+module _ (s : Start) (f : Startable s) (S : List Bool) (w : Lawful s S) (i : ℕ) (l : i < s .count) where
   abbrev bytes : List ℕ
-  bytes = bytesOf s i
+  bytes = pieceBytes s i
 
   abbrev at : ℕ
   at = s .size * i

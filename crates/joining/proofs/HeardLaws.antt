@@ -25,9 +25,6 @@ come-suc [] (suc i) = refl
 come-suc (b ∷ bs) zero = omega arith
 come-suc (b ∷ bs) (suc i) = omega (arith, come-suc bs i)
 
-pub come-next : (h : List Bool) (i : ℕ) → i < length h → come (suc i) h ≡ come i h + bit (has h i)
-come-next h i l = come-suc h i
-
 pub come-le : (n : ℕ) (h : List Bool) → come n h ≤ n
 come-le zero h = zero-le
 come-le (suc n) [] = zero-le

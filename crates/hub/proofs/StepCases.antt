@@ -1,0 +1,85 @@
+-- A property of what a step answers and leaves, by the way that it went: a law of all steps is one of these cases.
+use Prim.Native.Nat.{ℕ}
+use mathlib.Core.Path.{_≡_, refl}
+use mathlib.Core.List.{List}
+use mathlib.Core.Bool.{Bool, true, false}
+use lib.Dec.{eqb, ltb}
+use lib.ListN.{length}
+use borrow.Author.Tests.{eqb-true}
+use Rattle.laws.proofs.Cases.{on}
+use Rattle.wire.specs.Payload.{connectType, readRequest}
+use Rattle.wire.specs.declared.header.Header.{Header}
+use Rattle.sha256.specs.Digests.{digest}
+use Rattle.message.specs.Reading.{readMessage, workingAfter}
+use Rattle.message.specs.Handed.{payload}
+use Rattle.message.specs.declared.reading.MessageRead.{MessageRead}
+use Rattle.message.specs.declared.reading.MessageRead.the-variants.{Refused, Read}
+use Rattle.joining.specs.declared.Joined.{Joined}
+use Rattle.joining.specs.Cut.{badSize}
+use Rattle.joining.specs.Join.{join, reportAfter}
+use Rattle.hub.specs.declared.Connection.{Connection}
+use Rattle.hub.specs.declared.Stepped.{Stepped}
+use Rattle.hub.specs.Host.{refuse}
+use Rattle.hub.specs.Hear.{certificate, connect, pieceIn, joined, isForeign, joins, heard, reportHeard}
+use Rattle.hub.specs.Step.{afterRead, reportRead, step, reportStepped}
+use Rattle.hub.proofs.HostWays.{Hosts, host-way}
+
+-- A Connect message is not joined.
+pub connect-apart : (c : Connection) (h : Header) → eqb (h .kind) 2 ≡ true → joins c h ≡ false
+connect-apart c h e = rw (eqb-true (h .kind) 2 e)
+
+-- The ways of a Connect message.
+abbrev pub Connects : Connection → ℕ → List ℕ → ℕ → Stepped → Type 0
+Connects c session p v = Hosts c (connectType p) session (readRequest p) (digest (certificate p)) v
+
+pub connect-way : (c : Connection) (session : ℕ) (p : List ℕ) (v : ℕ) → Connects c session p v (connect c session p v)
+unfolding connect
+connect-way c session p v = host-way c (connectType p) session (readRequest p) (digest (certificate p)) v
+
+-- A message that was read: 16 applies; it is Connect; it is joined; 15 applies.
+module _ (c : Connection) (h : Header) (p b : List ℕ) (v : ℕ) (G : Stepped → List ℕ → Type 0) where
+  pub heard-cases : (isForeign c h ≡ true → G (refuse c 16) b)
+      → (isForeign c h ≡ false → eqb (h .kind) 2 ≡ true → G (connect c (h .session) p v) b)
+      → (isForeign c h ≡ false → joins c h ≡ true
+      → G (joined c (join (c .size) (c .progress) (pieceIn h) p b)) (reportAfter (c .size) (c .progress) (pieceIn h) p b))
+      → (isForeign c h ≡ false → eqb (h .kind) 2 ≡ false → joins c h ≡ false → G (refuse c 15) b)
+      → G (heard c h p b v) (reportHeard c h p b)
+  unfolding heard reportHeard
+  heard-cases foreign connects session other =
+      on (isForeign c h) (λ f. rw f (foreign f))
+      (λ f.
+      on (eqb (h .kind) 2) (λ k. rw (f, k, connect-apart c h k) (connects f k))
+      (λ k. on (joins c h) (λ j. rw (f, k, j) (session f j)) (λ j. rw (f, k, j) (other f k j))))
+
+-- A step: 25 applies; 24 applies; what was read.
+module _ (c : Connection) (m k w b : List ℕ) (v : ℕ) (G : Stepped → List ℕ → Type 0) where
+  pub step-tests : (ltb 1 v ≡ true → G (refuse c 25) b) → (ltb 1 v ≡ false → badSize (c .size) ≡ true → G (refuse c 24) b)
+      → (ltb 1 v ≡ false → badSize (c .size) ≡ false
+      → G (afterRead c m (workingAfter m k w) b v (readMessage m k (length w))) (reportRead c m (workingAfter m k w) b (readMessage m k (length w))))
+      → G (step c m k w b v) (reportStepped c m k w b v)
+  unfolding step reportStepped
+  step-tests verdict size read =
+      on (ltb 1 v) (λ t. rw t (verdict t)) (λ t. on (badSize (c .size)) (λ z. rw (t, z) (size t z)) (λ z. rw (t, z) (read t z)))
+
+  -- It is enough that refusals have it and what is heard.
+  pub step-cases : ((n : ℕ) → G (refuse c n) b)
+      → ((h : Header) (s : Bool) (from size : ℕ) → readMessage m k (length w) ≡ Read h s from size
+      → G (heard c h (payload m (workingAfter m k w) s from size) b v) (reportHeard c h (payload m (workingAfter m k w) s from size) b))
+      → G (step c m k w b v) (reportStepped c m k w b v)
+  step-cases refused read = step-tests (λ t. refused 25) (λ t z. refused 24) (λ t z. by (readMessage m k (length w)) refl)
+    where
+      by : (r : MessageRead) → readMessage m k (length w) ≡ r → G (afterRead c m (workingAfter m k w) b v r) (reportRead c m (workingAfter m k w) b r)
+      by (Refused n) e = refused n
+      by (Read h s from size) e = read h s from size e
+
+-- Of answer and connection alone: refusals have it, each way of a Connect message, and every piece that is joined.
+module _ (c : Connection) (m k w b : List ℕ) (v : ℕ) (G : Stepped → Type 0) where
+  pub step-has : ((n : ℕ) → G (refuse c n)) → ((session : ℕ) (p : List ℕ) (s : Stepped) → Connects c session p v s → G s)
+      → ((j : Joined) → G (joined c j)) → G (step c m k w b v)
+  step-has refused connects joining =
+      step-cases c m k w b v (λ (s : Stepped) (b′ : List ℕ). G s) refused
+      (λ h s from size e.
+      let p = payload m (workingAfter m k w) s from size in
+      heard-cases c h p b v (λ (s : Stepped) (b′ : List ℕ). G s) (λ f. refused 16)
+      (λ f t. connects (h .session) p (connect c (h .session) p v) (connect-way c (h .session) p v))
+      (λ f j. joining (join (c .size) (c .progress) (pieceIn h) p b)) (λ f t j. refused 15))
