@@ -14,8 +14,7 @@ use Rattle.laws.proofs.Cases.{on, neither}
 use Rattle.joining.specs.declared.Progress.{Progress}
 use Rattle.joining.specs.declared.Piece.{Piece}
 use Rattle.joining.specs.Heard.{most}
-use Rattle.joining.specs.Cut.{badSize}
-use Rattle.joining.specs.Join.{badIndex, unlike, isLast, misfit, turnRows, placeRows, joinRefusal, Fitting}
+use Rattle.joining.specs.Join.{isLast, misfit, turnRows, placeRows, joinRefusal, Fitting}
 use Rattle.joining.proofs.Cuts.{good-size}
 
 -- The piece is one of the expected message.
