@@ -52,8 +52,8 @@ abbrev pub knows : Connection → Request → Bool
 knows c r = same (c .nonce) (r .nonce) && same (c .x) (r .x) && same (c .y) (r .y)
 
 -- One of the states from a to b.
-abbrev pub within : ℕ → ℕ → Connection → Bool
-within a b c = leb a (c .state) && leb (c .state) b
+abbrev pub inStates : ℕ → ℕ → Connection → Bool
+inStates a b c = leb a (c .state) && leb (c .state) b
 
 -- What a Connect message does, sentence by sentence of "Host states"; the rows exclude each other. A Connection Request, type 0:
 abbrev pub requestRows : Connection → ℕ → Request → List (Bool × Stepped)
@@ -61,7 +61,7 @@ requestRows c session r =
     -- State 0, type 0: remember SessionID, nonce, X, Y; go to 1; reply Connection Response.
     (eqb (c .state) 0, stepped (requested c session r) (Reply 1))
     -- States 1 to 3, type 0 with the same nonce, X and Y: Again, same reply.
-    ∷ (within 1 3 c && knows c r, stepped c (Again 1))
+    ∷ (inStates 1 3 c && knows c r, stepped c (Again 1))
     ∷ []
 
 -- A Device Authentication Request, type 2:
@@ -72,7 +72,7 @@ deviceRows c digest verdict =
     -- verdict 0 goes to 4 and names Failure.
     ∷ (eqb (c .state) 1 && eqb verdict 0, stepped (judged c digest 4) Failure)
     -- States 2 and 3, type 2 with the same certificate digest: Again, reply type 3, whatever the verdict.
-    ∷ (within 2 3 c && same (c .digest) digest, stepped c (Again 3))
+    ∷ (inStates 2 3 c && same (c .digest) digest, stepped c (Again 3))
     ∷ []
 
 -- An Authentication Done Request, type 6:

@@ -1,7 +1,7 @@
 -- Demand 3 in the abstract: over any machine that joins the pieces of a report and leaves all alone at what comes between, and over any
 -- course of pieces, in any order, with repeats.
 use Prim.Native.Nat.{ℕ, _+_, _<_}
-use mathlib.Core.Path.{_≡_, refl, sym, ap, ap₂, _∙_}
+use mathlib.Core.Path.{_≡_, sym, ap, ap₂, _∙_}
 use mathlib.Core.List.{List}
 use mathlib.Core.Bool.{Bool, true, false, true≢false}
 use native.Mathlib.Omega.{arith}
@@ -144,8 +144,8 @@ module _ (s : Start) (f : Startable s) (m : Machine (s .size)) where
 
       -- "whole, exactly as sent"; what is remembered is then that nothing is heard of the next number
       pub as-sent : LastMissing (s .count) i es
-          → (b : List ℕ) × (m .next (final (m .next) began xs) x ≡ m .seat (expecting (s .held .expected + 1)) b) × (take (length (s .report)) b ≡ s .report)
-          × (length b ≡ length (s .buffer))
+          → (b : List ℕ) × (m .next (final (m .next) began xs) x ≡ m .seat (expecting (s .held .expected + 1)) b)
+          × (take (length (s .report)) b ≡ s .report) × (length b ≡ length (s .buffer))
       as-sent d =
           let t : come (s .count) (mark S i) ≡ s .count = all-come d in (
             bufferAt s (mark S i),

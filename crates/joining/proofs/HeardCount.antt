@@ -7,7 +7,7 @@ use native.Mathlib.Omega.{arith}
 use lib.Dec.{eqb}
 use lib.ListN.{length}
 use lib.Seq.{getD-set-other}
-use borrow.Author.Tests.{eq-eqb, ne-eqb}
+use borrow.Author.Tests.{ne-eqb}
 use Rattle.laws.specs.Courses.{final}
 use Rattle.joining.specs.declared.Arrival.the-variants.{Taken, Repeat}
 use Rattle.joining.specs.Heard.{most, bit, tally, come, has, mark}

@@ -2,7 +2,7 @@
 use Prim.Native.Nat.{ℕ, _+_, _-_, _*_, _<_}
 use mathlib.Core.Path.{_≡_, refl}
 use mathlib.Core.List.{List}
-use mathlib.Core.Bool.{Bool, true, false, cond, _&&_, and-false}
+use mathlib.Core.Bool.{Bool, true, false, cond, and-false}
 use native.Mathlib.Omega.{arith}
 use lib.Dec.{eqb, ltb}
 use lib.ListN.{length}
@@ -41,8 +41,8 @@ module _ (s : Start) (f : Startable s) (S : List Bool) (w : Lawful s S) (i : ℕ
   full : eqb (i + 1) (s .count) ≡ false → length bytes ≡ s .size
   full e = filled (s .report) (f .cut) i l (omega (arith, eqb-false (i + 1) (s .count) e))
 
-  fitting : misfit (s .size) (pieceOf s i) (length bytes) ≡ false
-  fitting =
+  fits : misfit (s .size) (pieceOf s i) (length bytes) ≡ false
+  fits =
       on (eqb (i + 1) (s .count))
       (λ e.
       rw (e, le-ltb (s .size) (length bytes) (not-over (s .report) (f .cut) i l))
@@ -75,7 +75,7 @@ module _ (s : Start) (f : Startable s) (S : List Bool) (w : Lawful s S) (i : ℕ
         numbered,
         le-ltb (s .held .expected) (s .held .expected) (omega arith),
         like,
-        fitting,
+        fits,
         le-ltb (length (bufferAt s S)) (at + length bytes) (room s f S w i l),
         agreed,
       )

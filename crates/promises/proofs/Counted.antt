@@ -1,6 +1,6 @@
 -- Demand 2's count: joining counts the indexes accepted, and nothing but joining touches what is remembered of them.
 use Prim.Native.Nat.{ℕ}
-use mathlib.Core.Path.{_≡_, refl, sym, ap, _∙_}
+use mathlib.Core.Path.{refl, sym, ap, _∙_}
 use mathlib.Core.List.{List, [], _∷_}
 use Rattle.laws.specs.Bytes.{be16}
 use Rattle.wire.specs.declared.header.Header.{Header}

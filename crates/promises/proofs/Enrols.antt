@@ -5,13 +5,13 @@ use mathlib.Core.List.{List, [], _∷_, _++_}
 use mathlib.Core.Bool.{false, not, and-false}
 use native.Mathlib.Omega.{arith}
 use lib.ListN.{length, replicate}
+use borrow.Author.Tests.{eq-eqb, le-ltb}
 use Rattle.wire.specs.Fields.{badKind, badFlags, badPiece, mostPieces, isSealed}
-use Rattle.wire.specs.Chain.{entryOf, chain, mostEntries, readChain, badChain}
 use Rattle.wire.specs.Payload.{starts, exchanges, isConnectionRequest, isDeviceAuthentication, isDoneRequest, isShaped, badPayload, readRequest}
 use Rattle.wire.specs.declared.header.Header.{Header}
 use Rattle.sha256.specs.Digests.{digest}
 use Rattle.seal.specs.Padding.{padding, sealedSize}
-use Rattle.message.specs.Writing.{finishedLength, lengthOf, writeRefusal, messageBytes}
+use Rattle.message.specs.Writing.{lengthOf, writeRefusal, messageBytes}
 use Rattle.joining.specs.Cut.{badSize}
 use Rattle.hub.specs.declared.Connection.{Connection}
 use Rattle.hub.specs.declared.Stepped.{Stepped}
@@ -24,7 +24,7 @@ use Rattle.promises.specs.Written.{Wrote}
 use Rattle.promises.specs.Met.{Enrolled, CanEnrol}
 use Rattle.promises.proofs.ReadBack.{steps-by-state}
 use Rattle.promises.proofs.Writes.{wrote}
-use Rattle.promises.proofs.Witness.{are-bytes}
+use Rattle.promises.proofs.Witness.{are-bytes, end-allowed}
 use Rattle.message.specs.Widths.{InWidth}
 use Rattle.hub.specs.Calls.{Call, Standing, after, answer}
 
@@ -84,17 +84,26 @@ module _ (keys report : List ℕ) (of-keys : AreBytes keys) (whole : length keys
       let q = s .1 ∙ unjoined c flags bytes in
       (ap (λ (s : Stepped). s .answer) p, λ i. record { connection = p i .connection; report = q i })
 
-  request-allowed : writeRefusal (header 0) end requestBytes (length keys) (lengthOf (header 0) end requestBytes) ≡ 0
-  unfolding writeRefusal badKind badFlags isSealed badPiece mostPieces badChain readChain mostEntries chain entryOf badPayload isShaped isConnectionRequest starts exchanges finishedLength
-  request-allowed = refl
+  -- A message whose flags and payload are not refused is written.
+  written : (flags : ℕ) (bytes : List ℕ) → flags < 65536 → AreBytes bytes → badFlags 2 flags ≡ false → badPayload 2 (isSealed flags) bytes ≡ false
+      → Wrote (header flags) end bytes keys (messageBytes (header flags) end bytes keys)
+  unfolding writeRefusal badKind badPiece mostPieces
+  written flags bytes l b f p =
+      let n = lengthOf (header flags) end bytes in
+      wrote (header flags) end bytes keys (widths flags l) (are-bytes end refl) b of-keys
+      (rw (f, end-allowed, eq-eqb (length keys) 64 whole, and-false (isSealed flags), p, le-ltb n n (omega arith)))
 
-  device-allowed : writeRefusal (header 6) end deviceBytes (length keys) (lengthOf (header 6) end deviceBytes) ≡ 0
-  unfolding writeRefusal badKind badFlags isSealed badPiece mostPieces badChain readChain mostEntries chain entryOf badPayload isShaped isDeviceAuthentication starts finishedLength sealedSize padding
-  device-allowed = rw whole
+  request-written : Wrote (header 0) end requestBytes keys (messageBytes (header 0) end requestBytes keys)
+  unfolding badFlags isSealed badPayload isShaped isConnectionRequest starts exchanges
+  request-written = written 0 requestBytes (omega arith) (are-bytes requestBytes refl) refl refl
 
-  finish-allowed : writeRefusal (header 6) end finishBytes (length keys) (lengthOf (header 6) end finishBytes) ≡ 0
-  unfolding writeRefusal badKind badFlags isSealed badPiece mostPieces badChain readChain mostEntries chain entryOf badPayload isShaped isDeviceAuthentication isDoneRequest starts finishedLength sealedSize padding
-  finish-allowed = rw whole
+  device-written : Wrote (header 6) end deviceBytes keys (messageBytes (header 6) end deviceBytes keys)
+  unfolding badFlags isSealed badPayload isShaped isDeviceAuthentication starts
+  device-written = written 6 deviceBytes (omega arith) (are-bytes deviceBytes refl) refl refl
+
+  finish-written : Wrote (header 6) end finishBytes keys (messageBytes (header 6) end finishBytes keys)
+  unfolding badFlags isSealed badPayload isShaped isDeviceAuthentication isDoneRequest starts
+  finish-written = written 6 finishBytes (omega arith) (are-bytes finishBytes refl) refl refl
 
   module _ (F : ℕ) (sized : badSize F ≡ false) where
     abbrev waiting : Connection
@@ -124,18 +133,12 @@ module _ (keys report : List ℕ) (of-keys : AreBytes keys) (whole : length keys
 
     enrolled : Enrolled F keys report
     enrolled =
-        let a = wrote (header 0) end requestBytes keys (widths 0 (omega arith)) (are-bytes end refl)
-        (are-bytes requestBytes refl) of-keys request-allowed in
-        let b = wrote (header 6) end deviceBytes keys (widths 6 (omega arith)) (are-bytes end refl)
-        (are-bytes deviceBytes refl) of-keys device-allowed in
-        let d = wrote (header 6) end finishBytes keys (widths 6 (omega arith)) (are-bytes end refl)
-        (are-bytes finishBytes refl) of-keys finish-allowed in
         let x = callWith 0 requestBytes in
         let y = callWith 6 deviceBytes in
         let z = callWith 6 finishBytes in
-        let p = enrols (blank F) waiting 0 requestBytes 1 sized a (fits .0) requests in
-        let q = enrols waiting passed 6 deviceBytes 3 sized b (fits .1) authenticates in
-        let r = enrols passed ready 6 finishBytes 7 sized d (fits .2) finishes in
+        let p = enrols (blank F) waiting 0 requestBytes 1 sized request-written (fits .0) requests in
+        let q = enrols waiting passed 6 deviceBytes 3 sized device-written (fits .1) authenticates in
+        let r = enrols passed ready 6 finishBytes 7 sized finish-written (fits .2) finishes in
         record {
           request = x;
           device = y;

@@ -1,8 +1,8 @@
 -- Demand 2's messages: what the writer's answer and output say gives message's theorems their premises.
 use Prim.Native.Nat.{ℕ, _+_, _≤_}
-use mathlib.Core.Path.{_≡_, refl, _∙_}
+use mathlib.Core.Path.{_≡_, _∙_}
 use mathlib.Core.List.{List}
-use mathlib.Core.Bool.{Bool, true, false}
+use mathlib.Core.Bool.{true, false}
 use native.Mathlib.Omega.{arith}
 use lib.ListN.{length, drop}
 use lib.Seq.{take-at}
@@ -44,8 +44,11 @@ module _ (h : Header) (chain bytes keys message : List ℕ) (w : Wrote h chain b
       (length-messageBytes h chain bytes keys ∙ passed .1))
 
   module _ (working : List ℕ) (room : LongEnough h bytes working) where
-    by-seal : (t : Bool) → isSealed (h .flags) ≡ t → ReadAs h bytes (messageBytes h chain bytes keys) keys working
-    by-seal true s =
+    read-written : ReadAs h bytes message keys working
+    read-written =
+        rw is-message
+        (on (isSealed (h .flags))
+        (λ s.
         let a = all-bytes (w .of-keys) in
         let b = all-bytes (w .of-chain) in
         let c = all-bytes (w .of-payload) in
@@ -55,18 +58,15 @@ module _ (h : Header) (chain bytes keys message : List ℕ) (w : Wrote h chain b
           size = length bytes;
           reads = read-sealed h chain bytes keys (length working) (length (w .output)) (passed .0) s a b c (w .widths) (room s);
           handed = handed-sealed h chain bytes keys working (length (w .output)) (passed .0) s a b c (w .widths) (room s);
-        }
-    by-seal false s =
+        })
+        (λ s.
         record {
           sealed = false;
           from = 40 + length chain;
           size = length bytes;
           reads = read-plain h chain bytes keys (length working) (length (w .output)) (passed .0) s;
           handed = handed-plain h chain bytes keys working (length (w .output)) (passed .0) s;
-        }
-
-    read-written : ReadAs h bytes message keys working
-    read-written = rw is-message (by-seal (isSealed (h .flags)) refl)
+        }))
 
 pub reads-back : ReadsBack
 reads-back h chain payload keys message w working room = read-written h chain payload keys message w working room

@@ -2,7 +2,7 @@
 use Prim.Native.Nat.{ℕ, _<_}
 use mathlib.Core.Path.{_≡_, refl, sym, ap, _∙_}
 use mathlib.Core.List.{List}
-use mathlib.Core.Bool.{true, false, true≢false}
+use mathlib.Core.Bool.{true≢false}
 use lib.ListN.{length, take}
 use borrow.Author.Tests.{lt-leb}
 use Rattle.laws.proofs.Courses.{end, goes}
@@ -17,7 +17,7 @@ use Rattle.hub.proofs.StepMachine.{Brings, hub}
 use Rattle.promises.specs.Reports.{Sending, began, fragments, Fair, fragment, headerFor, Sent, Course, done, brings, rests, OnlyWhatCame, HandedOut, Brought, DemandThree, NotBetween}
 use Rattle.promises.proofs.ReadBack.{reads-back}
 use Rattle.joining.specs.Events.{Event, piece, LastMissing}
-use Rattle.hub.specs.Calls.{Call, Standing, after, answer, afterAll}
+use Rattle.hub.specs.Calls.{Call, Standing}
 
 -- What the cutter does not refuse at piece 0 it refuses at no piece under the count.
 module _ (F L : ℕ) (e : cutRefusal F L 0 ≡ 0) where

@@ -3,7 +3,7 @@
 use Prim.Native.Nat.{ℕ, zero, suc, _≤_, _<_}
 use mathlib.Core.Path.{_≡_, refl}
 use mathlib.Core.List.{List, [], _∷_}
-use mathlib.Core.Bool.{Bool, true, false, cond, _&&_}
+use mathlib.Core.Bool.{Bool, true, false, _&&_}
 use native.Mathlib.Omega.{arith}
 use lib.ListN.{length, replicate}
 use lib.Dec.{ltb}
@@ -16,12 +16,11 @@ use Rattle.message.specs.Reading.{readMessage}
 use Rattle.seal.specs.Padding.{padding, sealedSize}
 use Rattle.laws.proofs.ByteLists.{AllBytes, nil-bytes, cons-bytes}
 use Rattle.joining.specs.Join.{expecting}
-use Rattle.joining.specs.Cut.{badSize, cutRefusal}
+use Rattle.joining.specs.Cut.{cutRefusal}
 use Rattle.hub.specs.declared.Connection.{Connection}
 use Rattle.hub.specs.declared.Stepped.{Stepped}
 use Rattle.hub.specs.Answers.{isQuiet}
-use Rattle.hub.specs.Host.{refuse}
-use Rattle.hub.specs.Step.{step}
+use Rattle.hub.proofs.StepCases.{step-tests}
 use Rattle.promises.specs.Refusals.{AreBytes}
 use Rattle.promises.specs.Reports.{Sending, began, fragments, fragment, Fair, Sent, Course, done, brings, rests, HandedOut}
 use Rattle.promises.specs.Met.{Typed, Choice, Good, callFor}
@@ -83,55 +82,55 @@ sixteen (suc zero) l = omega arith
 sixteen (suc (suc zero)) l = omega arith
 sixteen (suc (suc (suc i))) l = absurd (omega arith)
 
-choice-good : Good tenBytes choice
+pub end-allowed : badChain (0 ∷ 0 ∷ []) ≡ false
 unfolding badChain readChain mostEntries chain entryOf
+end-allowed = refl
+
+choice-good : Good tenBytes choice
 choice-good =
     record {
       request = omega arith;
       of-chain = are-bytes (0 ∷ 0 ∷ []) refl;
-      chained = refl;
+      chained = end-allowed;
       room = λ i l. sixteen i l;
       verdict = omega arith;
     }
 
 -- Something between: no bytes at all are refused, on every connection.
-abbrev pub nothing : Call
-nothing = record { message = []; keys = []; working = []; verdict = 0 }
+abbrev pub emptyCall : Call
+emptyCall = record { message = []; keys = []; working = []; verdict = 0 }
 
-refused : (c : Connection) (t : Bool) → isQuiet (cond {A = Stepped} t (refuse c 24) (refuse c 1) .answer) ≡ true
-refused c true = refl
-refused c false = refl
-
-nothing-refused : (p : Standing) → isQuiet (answer p nothing) ≡ true
-unfolding step readMessage readHeader refusalOf refusalWith rowsOf headerRows
-nothing-refused p = refused (p .connection) (badSize (p .connection .size))
+nothing-refused : (p : Standing) → isQuiet (answer p emptyCall) ≡ true
+unfolding readMessage readHeader refusalOf refusalWith rowsOf headerRows
+nothing-refused p =
+    step-tests (p .connection) [] [] [] (p .report) 0 (λ (s : Stepped) (b : List ℕ). isQuiet (s .answer) ≡ true) (λ t. refl) (λ t z. refl) (λ t z. refl)
 
 -- Fragment 2, something between, then 0 and 2 again.
 abbrev pub before : List Call
-before = callFor tenBytes 2 choice ∷ nothing ∷ callFor tenBytes 0 choice ∷ callFor tenBytes 2 choice ∷ []
+before = callFor tenBytes 2 choice ∷ emptyCall ∷ callFor tenBytes 0 choice ∷ callFor tenBytes 2 choice ∷ []
 
-abbrev pub brought : List Event
-brought = piece 2 ∷ between ∷ piece 0 ∷ piece 2 ∷ []
+abbrev pub eventsBefore : List Event
+eventsBefore = piece 2 ∷ between ∷ piece 0 ∷ piece 2 ∷ []
 
 sent : (i : ℕ) → i < 3 → Sent tenBytes i (callFor tenBytes i choice)
 sent i l = can-be-sent tenBytes ten-bytes-fair ten-bytes-typed i l choice choice-good
 
-ten-bytes-course : Course tenBytes (began tenBytes) before brought
+ten-bytes-course : Course tenBytes (began tenBytes) before eventsBefore
 ten-bytes-course =
     brings {i = 2} (omega arith) (sent 2 (omega arith))
     (rests (nothing-refused _) (brings {i = 0} (omega arith) (sent 0 (omega arith)) (brings {i = 2} (omega arith) (sent 2 (omega arith)) done)))
 
-last-missing : LastMissing (fragments tenBytes) 1 brought
+last-missing : LastMissing (fragments tenBytes) 1 eventsBefore
 last-missing = (refl, others)
   where
-    others : (j : ℕ) → j < 3 → (j ≡ 1 → ⊥) → came j brought ≡ true
+    others : (j : ℕ) → j < 3 → (j ≡ 1 → ⊥) → came j eventsBefore ≡ true
     others zero l n = refl
     others (suc zero) l n = absurd (n refl)
     others (suc (suc zero)) l n = refl
     others (suc (suc (suc j))) l n = absurd (omega arith)
 
 -- Fragment 1 brings the report.
-pub ten-bytes-handed-out : HandedOut tenBytes before brought 1 (callFor tenBytes 1 choice)
+pub ten-bytes-handed-out : HandedOut tenBytes before eventsBefore 1 (callFor tenBytes 1 choice)
 ten-bytes-handed-out =
-    demand-three tenBytes ten-bytes-fair .each before brought ten-bytes-course 1 (omega arith) (callFor tenBytes 1 choice) (sent 1 (omega arith))
+    demand-three tenBytes ten-bytes-fair .each before eventsBefore ten-bytes-course 1 (omega arith) (callFor tenBytes 1 choice) (sent 1 (omega arith))
     .last last-missing

@@ -1,5 +1,4 @@
 -- By what `expecting` gives; all else is written out.
-use borrow.Author.Needs.{needs}
 use Rattle.hub.proofs.Connection.blank.Statement.{statement}
 use Rattle.hub.proofs.Connection.blank.Tie as tie
 

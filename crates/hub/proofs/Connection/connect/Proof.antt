@@ -1,7 +1,6 @@
 -- The row is that of the payload's type: 0, 2, 6, or none.
 use mathlib.Core.Path.{sym, _∙_}
 use borrow.Author.Tests.{ne-eqb}
-use borrow.Author.Needs.{needs}
 use Rattle.hub.specs.Host.{host}
 use Rattle.hub.specs.Hear.{connect}
 use Rattle.hub.proofs.Connection.connect.Statement.{statement}

@@ -1,6 +1,5 @@
 -- Row by row: state 2, state 3, all else.
 use borrow.Author.Tests.{eq-eqb, ne-eqb}
-use borrow.Author.Needs.{needs}
 use Rattle.hub.proofs.Connection.finish.Statement.{statement}
 use Rattle.hub.proofs.Connection.finish.Tie as tie
 

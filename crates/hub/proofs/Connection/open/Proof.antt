@@ -1,5 +1,4 @@
 -- The fragment size is one of document 01 or not.
-use borrow.Author.Needs.{needs}
 use Rattle.hub.specs.Opening.{opened}
 use Rattle.hub.proofs.Connection.open.Statement.{statement}
 use Rattle.hub.proofs.Connection.open.Tie as tie

@@ -1,6 +1,5 @@
 -- Row by row: state 0, a request that is known, all else.
 use borrow.Author.Tests.{eq-eqb, ne-eqb}
-use borrow.Author.Needs.{needs}
 use Rattle.hub.proofs.Connection.request.Statement.{statement}
 use Rattle.hub.proofs.Connection.request.Tie as tie
 

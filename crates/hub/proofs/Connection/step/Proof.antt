@@ -1,37 +1,48 @@
--- By the way through the tests (proofs/Stepping): 25, 24, the reader's refusal, and what is heard of a message that was read.
+-- By the tests: 25, 24, the reader's refusal, and what is heard of a message that was read.
 use mathlib.Core.Path.{sym, _∙_}
 use borrow.Author.Tests.{lt-ltb, le-ltb}
 use borrow.Author.Needs.{needs}
-use Rattle.hub.proofs.Stepping.{way-verdict, way-size, way-refused, way-read}
+use Rattle.hub.specs.Step.{step, reportStepped, workingStepped}
 use Rattle.hub.proofs.Connection.step.Statement.{statement}
 use Rattle.hub.proofs.Connection.step.Tie as tie
 
 returns : tie.Need-returns
-returns c = way-verdict _ _ _ _ _ _ (lt-ltb _ _ (c .before .if1 .taken)) _ (c .refuse .ensures)
+unfolding step reportStepped workingStepped
+returns c = let t = lt-ltb _ _ (c .before .if1 .taken) in (rw t (c .refuse .ensures), (rw t, rw t))
 
 returns-2 : tie.Need-returns-2
+unfolding step reportStepped workingStepped
 returns-2 c =
-    let z = c .before in
-    way-size _ _ _ _ _ _ (le-ltb _ _ (z .before .before .if1 .left)) (sym (z .before .bad-size .ensures) ∙ z .if2 .taken) _ (c .refuse2 .ensures)
+    let q = c .before in
+    let t = le-ltb _ _ (q .before .before .if1 .left) in
+    let z = sym (q .before .bad-size .ensures) ∙ q .if2 .taken in
+    (rw (t, z) (c .refuse2 .ensures), (rw (t, z), rw (t, z)))
 
 returns-3 : tie.Need-returns-3
+unfolding step reportStepped workingStepped
 returns-3 c =
     let n = c .before .before in
     let r = n .before .before .before .before in
-    let z = r .before .before in
-    way-refused _ _ _ _ _ _ (le-ltb _ _ (z .before .before .if1 .left)) (sym (z .before .bad-size .ensures) ∙ z .if2 .left) _
-    (r .read .ensures .1) _ (sym (r .read .ensures .0) ∙ n .n .given .1) _ (c .refuse3 .ensures)
+    let q = r .before .before in
+    let t = le-ltb _ _ (q .before .before .if1 .left) in
+    let z = sym (q .before .bad-size .ensures) ∙ q .if2 .left in
+    let e = sym (r .read .ensures .0) ∙ n .n .given .1 in
+    (rw (t, z, e) (c .refuse3 .ensures), (rw (t, z, e), rw (t, z) (r .read .ensures .1)))
 
 returns-4 : tie.Need-returns-4
+unfolding step reportStepped workingStepped
 returns-4 c =
     let a = c .before .before in
     let p = a .before .before in
     let n = p .before .before .before in
     let r = n .before .before .before .before in
-    let z = r .before .before in
-    way-read _ _ _ _ _ _ (le-ltb _ _ (z .before .before .if1 .left)) (sym (z .before .bad-size .ensures) ∙ z .if2 .left) _
-    (r .read .ensures .1) _ _ _ _ (sym (r .read .ensures .0) ∙ n .header .given .1) _ _
-    (rw (← (p .payload .ensures)) (a .hear .ensures))
+    let q = r .before .before in
+    let t = le-ltb _ _ (q .before .before .if1 .left) in
+    let z = sym (q .before .bad-size .ensures) ∙ q .if2 .left in
+    let e = sym (r .read .ensures .0) ∙ n .header .given .1 in
+    let w = r .read .ensures .1 in
+    let h = a .hear .ensures in
+    (rw (t, z, e, ← w, ← (p .payload .ensures)) (h .0), (rw (t, z, e, ← w, ← (p .payload .ensures)) (h .1), rw (t, z) w))
 
 pub step-spec : {M : Type 1} → statement M
 step-spec =
