@@ -46,7 +46,8 @@ loop-again c =
     let at-add = c .before .before .before .before .before .before in
     let l = at-add .before .before .before .before .before .loop in (
       encrypt-more _ _ _ _ _ _ (l .inv .0) (omega arith) _ _ _ _ _ (at-add .before .words-from .ensures) (at-add .add .ensures)
-          (c .before .before .before .before .before .encrypt .ensures) (c .before .before .before .bytes-of .ensures) (c .before .before .put .ensures),
+          (c .before .before .before .before .before .encrypt .ensures) (c .before .before .before .bytes-of .ensures)
+          (c .before .before .put .ensures),
       l .inv .1,
     )
 

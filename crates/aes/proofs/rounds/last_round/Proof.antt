@@ -8,19 +8,13 @@ use Rattle.aes.proofs.rounds.last_round.Tie as tie
 returns : tie.Need-returns
 unfolding xor
 returns c =
-    let four = c .before in
-    let three = four .before .before in
-    let two = three .before .before in
-    let one = two .before .before in
-    let a = one .before in
+    let z = c .before in
+    let y = z .before .before in
+    let x = y .before .before in
+    let w = x .before .before in
+    let a = w .before in
     shifted-round (a .args .s) (a .args .k) _ _ _ _ _ (a .pre)
-    (record {
-      one = one .look-bytes .ensures;
-      two = two .look-bytes2 .ensures;
-      three =
-          three .look-bytes3 .ensures;
-      four = four .look-bytes4 .ensures;
-    })
+    (record { one = w .look-bytes .ensures; two = x .look-bytes2 .ensures; three = y .look-bytes3 .ensures; four = z .look-bytes4 .ensures })
 
 pub last-round-spec : {M : Type 1} → statement M
 last-round-spec =

@@ -8,13 +8,13 @@ use Rattle.aes.proofs.rounds.round.Tie as tie
 returns : tie.Need-returns
 unfolding xor
 returns c =
-    let four = c .before in
-    let three = four .before .before in
-    let two = three .before .before in
-    let one = two .before .before in
-    let a = one .before in
+    let z = c .before in
+    let y = z .before .before in
+    let x = y .before .before in
+    let w = x .before .before in
+    let a = w .before in
     mixed-round (a .args .s) (a .args .k) _ _ _ _ _ (a .pre)
-    (record { one = one .look .ensures; two = two .look2 .ensures; three = three .look3 .ensures; four = four .look4 .ensures })
+    (record { one = w .look .ensures; two = x .look2 .ensures; three = y .look3 .ensures; four = z .look4 .ensures })
 
 pub round-spec : {M : Type 1} → statement M
 round-spec =
