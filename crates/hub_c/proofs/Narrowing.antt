@@ -1,18 +1,19 @@
 -- A field that is brought into its room changes nothing that the writer answers or writes: a number that has no room is refused by the row that
 -- tests its field, before and after.
 use Prim.Native.Nat.{ℕ, _≤_, _<_}
-use mathlib.Core.Path.{_≡_, refl, sym, ap, _∙_}
+use mathlib.Core.Path.{_≡_, refl, ap}
 use mathlib.Core.Logic.{_⊎_, inl, inr}
-use mathlib.Core.List.{List}
-use mathlib.Core.Bool.{Bool, true, false, _||_}
+use mathlib.Core.List.{List, _++_}
+use mathlib.Core.Bool.{Bool, true, false, cond, _||_}
 use native.Mathlib.Omega.{arith}
 use lib.Dec.{eqb, ltb}
-use lib.ListN.{length}
+use lib.ListN.{length, drop}
 use borrow.Author.Tests.{lt-ltb, ltb-true, ltb-false, le-leb, ne-eqb}
 use Rattle.laws.proofs.Bools.{or-true}
 use Rattle.wire.specs.Fields.{badKind, badFlags, badPiece, mostPieces}
 use Rattle.wire.specs.declared.header.Header.{Header}
-use Rattle.message.specs.Writing.{writeRefusal, writeAnswer, writtenInto}
+use Rattle.writer.specs.declared.Written.the-variants.{Refused, Bytes}
+use Rattle.message.specs.Writing.{lengthOf, messageBytes, writeRefusal, writeAnswer, writtenInto}
 use Rattle.hub_c.specs.Written.{narrow, narrowed}
 
 -- What has room stays as it is.
@@ -24,134 +25,105 @@ pub narrow-over : (most x : ℕ) → ltb most x ≡ true → narrow most x ≡ m
 unfolding narrow
 narrow-over most x e = rw e
 
--- The tests of numbers that have no room.
-kind-over : (k : ℕ) → 255 < k → badKind k ≡ true
+-- The tests of numbers that have no room, or are the greatest that has.
+kind-over : (k : ℕ) → 255 ≤ k → badKind k ≡ true
 unfolding badKind
 kind-over k h = rw (ne-eqb k 1 (λ e. omega arith), ne-eqb k 2 (λ e. omega arith), ne-eqb k 4 (λ e. omega arith))
 
-flags-over : (k f : ℕ) → 15 < f → badFlags k f ≡ true
+flags-over : (k f : ℕ) → 65535 ≤ f → badFlags k f ≡ true
 unfolding badFlags
-flags-over k f h = rw (lt-ltb 15 f h)
+flags-over k f h = rw (lt-ltb 15 f (omega arith))
 
-count-over : (k i c : ℕ) → 64 < c → badPiece k i c ≡ true
+count-over : (k i c : ℕ) → 65535 ≤ c → badPiece k i c ≡ true
 unfolding badPiece mostPieces
-count-over k i c h = rw (lt-ltb 64 c h, ne-eqb c 0 (λ e. omega arith))
+count-over k i c h = rw (lt-ltb mostPieces c (omega arith), ne-eqb c 0 (λ e. omega arith))
 
 index-over : (k i c : ℕ) → c ≤ i → badPiece k i c ≡ true
-unfolding badPiece mostPieces
-index-over k i c h = rw (le-leb c i h, or-true (eqb c 0 || ltb 64 c))
+unfolding badPiece
+index-over k i c h = rw (le-leb c i h, or-true (eqb c 0 || ltb mostPieces c))
+
+-- A number of the first three rows is not 0.
+sixth : (a : Bool) → eqb (cond a 5 6) 0 ≡ false
+sixth true = refl
+sixth false = refl
+
+seventh : (a b : Bool) → eqb (cond a 5 (cond b 6 7)) 0 ≡ false
+seventh true b = refl
+seventh false true = refl
+seventh false false = refl
 
 module _ (chain payload : List ℕ) (keys room : ℕ) where
   abbrev R : Header → ℕ
   R h = writeRefusal h chain payload keys room
 
-  -- The first three rows.
-  five : (h : Header) → badKind (h .kind) ≡ true → R h ≡ 5
-  unfolding writeRefusal
-  five h e = rw e
-
-  six : (h : Header) → badKind (h .kind) ≡ false → badFlags (h .kind) (h .flags) ≡ true → R h ≡ 6
-  unfolding writeRefusal
-  six h a e = rw (a, e)
-
-  seven : (h : Header) → badKind (h .kind) ≡ false → badFlags (h .kind) (h .flags) ≡ false → badPiece (h .kind) (h .index) (h .count) ≡ true → R h ≡ 7
-  unfolding writeRefusal
-  seven h a b e = rw (a, b, e)
-
   -- Two headers are the same, or the same row refuses both.
   abbrev Alike : Header → Header → Type 0
   Alike g h = (g ≡ h) ⊎ ((R g ≡ R h) × (eqb (R h) 0 ≡ false))
 
-  refused : (g h : Header) (n : ℕ) → R g ≡ n → R h ≡ n → eqb n 0 ≡ false → Alike g h
-  refused g h n p q e = inr (p ∙ sym q, ap (λ (k : ℕ). eqb k 0) q ∙ e)
-
   module _ (h : Header) (s : ltb 4294967295 (h .sequence) ≡ false) where
-    -- Kind and flags have room and pass their rows: the piece is left.
-    module _ (a : ltb 255 (h .kind) ≡ false) (p : badKind (h .kind) ≡ false) (b : ltb 65535 (h .flags) ≡ false)
-        (q : badFlags (h .kind) (h .flags) ≡ false) where
-      kind-told : badKind (narrowed h .kind) ≡ false
-      kind-told = ap badKind (narrow-fits 255 (h .kind) a) ∙ p
-
-      flags-told : badFlags (narrowed h .kind) (narrowed h .flags) ≡ false
-      flags-told = rw (narrow-fits 255 (h .kind) a, narrow-fits 65535 (h .flags) b) q
-
-      indexes : ltb 65535 (h .count) ≡ false → (t : Bool) → ltb 65535 (h .index) ≡ t → Alike (narrowed h) h
-      indexes c true e =
-          let u = ltb-false 65535 (h .count) c in
-          let v = ltb-true 65535 (h .index) e in
-          refused (narrowed h) h 7
-          (seven (narrowed h) kind-told flags-told
-          (rw (narrow-fits 65535 (h .count) c, narrow-over 65535 (h .index) e) (index-over (narrow 255 (h .kind)) 65535 (h .count) u)))
-          (seven h p q (index-over (h .kind) (h .index) (h .count) (omega arith))) refl
-      indexes c false e =
-          inl
-          (rw (
-            narrow-fits 255 (h .kind) a,
-            narrow-fits 65535 (h .flags) b,
-            narrow-fits 4294967295 (h .sequence) s,
-            narrow-fits 65535 (h .index) e,
-            narrow-fits 65535 (h .count) c,
-          ))
-
-      counts : (t : Bool) → ltb 65535 (h .count) ≡ t → Alike (narrowed h) h
-      counts true e =
-          let v = ltb-true 65535 (h .count) e in
-          refused (narrowed h) h 7
-          (seven (narrowed h) kind-told flags-told
-          (rw (narrow-over 65535 (h .count) e) (count-over (narrow 255 (h .kind)) (narrow 65535 (h .index)) 65535 (omega arith))))
-          (seven h p q (count-over (h .kind) (h .index) (h .count) (omega arith))) refl
-      counts false e = indexes e (ltb 65535 (h .index)) refl
-
-    -- The kind has room and passes its row: the flags are next.
-    module _ (a : ltb 255 (h .kind) ≡ false) (p : badKind (h .kind) ≡ false) where
-      told : badKind (narrowed h .kind) ≡ false
-      told = ap badKind (narrow-fits 255 (h .kind) a) ∙ p
-
-      bad-flags : ltb 65535 (h .flags) ≡ false → (t : Bool) → badFlags (h .kind) (h .flags) ≡ t → Alike (narrowed h) h
-      bad-flags b true e =
-          refused (narrowed h) h 6
-          (six (narrowed h) told (rw (narrow-fits 255 (h .kind) a, narrow-fits 65535 (h .flags) b) e)) (six h p e) refl
-      bad-flags b false e = counts a p b e (ltb 65535 (h .count)) refl
-
-      flags : (t : Bool) → ltb 65535 (h .flags) ≡ t → Alike (narrowed h) h
-      flags true e =
-          let v = ltb-true 65535 (h .flags) e in
-          refused (narrowed h) h 6
-          (six (narrowed h) told (rw (narrow-over 65535 (h .flags) e) (flags-over (narrow 255 (h .kind)) 65535 (omega arith))))
-          (six h p (flags-over (h .kind) (h .flags) (omega arith))) refl
-      flags false e = bad-flags e (badFlags (h .kind) (h .flags)) refl
-
-    bad-kind : ltb 255 (h .kind) ≡ false → (t : Bool) → badKind (h .kind) ≡ t → Alike (narrowed h) h
-    bad-kind a true e =
-        refused (narrowed h) h 5 (five (narrowed h) (ap badKind (narrow-fits 255 (h .kind) a) ∙ e)) (five h e) refl
-    bad-kind a false e = flags a e (ltb 65535 (h .flags)) refl
-
-    kinds : (t : Bool) → ltb 255 (h .kind) ≡ t → Alike (narrowed h) h
-    unfolding badKind
-    kinds true e =
-        let v = ltb-true 255 (h .kind) e in
-        refused (narrowed h) h 5 (five (narrowed h) (ap badKind (narrow-over 255 (h .kind) e))) (five h (kind-over (h .kind) v)) refl
-    kinds false e = bad-kind e (badKind (h .kind)) refl
+    -- The first field that has no room: its row refuses both, and the rows above it test the same.
+    by : (k f c i : Bool) → ltb 255 (h .kind) ≡ k → ltb 65535 (h .flags) ≡ f → ltb 65535 (h .count) ≡ c → ltb 65535 (h .index) ≡ i
+        → Alike (narrowed h) h
+    unfolding writeRefusal
+    by true f c i k′ f′ c′ i′ =
+        let l = ltb-true 255 (h .kind) k′ in
+        let e = kind-over (h .kind) (omega arith) in
+        inr (rw (narrow-over 255 (h .kind) k′, kind-over 255 (omega arith), e), rw e)
+    by false true c i k′ f′ c′ i′ =
+        let l = ltb-true 65535 (h .flags) f′ in
+        let e = flags-over (h .kind) (h .flags) (omega arith) in
+        let g = flags-over (h .kind) 65535 (omega arith) in
+        inr (rw (narrow-fits 255 (h .kind) k′, narrow-over 65535 (h .flags) f′, g, e), rw e (sixth (badKind (h .kind))))
+    by false false true i k′ f′ c′ i′ =
+        let l = ltb-true 65535 (h .count) c′ in
+        let e = count-over (h .kind) (h .index) (h .count) (omega arith) in
+        let g = count-over (h .kind) (narrow 65535 (h .index)) 65535 (omega arith) in
+        inr (
+          rw (narrow-fits 255 (h .kind) k′, narrow-fits 65535 (h .flags) f′, narrow-over 65535 (h .count) c′, g, e),
+          rw e (seventh (badKind (h .kind)) (badFlags (h .kind) (h .flags))),
+        )
+    by false false false true k′ f′ c′ i′ =
+        let l = ltb-true 65535 (h .index) i′ in
+        let m = ltb-false 65535 (h .count) c′ in
+        let e = index-over (h .kind) (h .index) (h .count) (omega arith) in
+        let g = index-over (h .kind) 65535 (h .count) m in
+        inr (
+          rw (narrow-fits 255 (h .kind) k′, narrow-fits 65535 (h .flags) f′, narrow-fits 65535 (h .count) c′, narrow-over 65535 (h .index) i′, g, e),
+          rw e (seventh (badKind (h .kind)) (badFlags (h .kind) (h .flags))),
+        )
+    by false false false false k′ f′ c′ i′ =
+        inl
+        (rw (
+          narrow-fits 255 (h .kind) k′,
+          narrow-fits 65535 (h .flags) f′,
+          narrow-fits 4294967295 (h .sequence) s,
+          narrow-fits 65535 (h .index) i′,
+          narrow-fits 65535 (h .count) c′,
+        ))
 
     alike : Alike (narrowed h) h
-    alike = kinds (ltb 255 (h .kind)) refl
+    alike = by (ltb 255 (h .kind)) (ltb 65535 (h .flags)) (ltb 65535 (h .count)) (ltb 65535 (h .index)) refl refl refl refl
 
-    by-answer : Alike (narrowed h) h → writeAnswer (narrowed h) chain payload keys room ≡ writeAnswer h chain payload keys room
-    unfolding writeAnswer
-    by-answer (inl e) = ap (λ (g : Header). writeAnswer g chain payload keys room) e
-    by-answer (inr e) = rw (e .0, e .1)
+    -- What is answered by the refusal is the same.
+    module _ {A : Type 0} (done : Header → A) (refused : ℕ → A) where
+      abbrev given : Header → A
+      given g = cond (eqb (R g) 0) (done g) (refused (R g))
 
-    -- The writer's answer.
-    pub narrow-answer : writeAnswer (narrowed h) chain payload keys room ≡ writeAnswer h chain payload keys room
-    narrow-answer = by-answer alike
+      same : Alike (narrowed h) h → given (narrowed h) ≡ given h
+      same (inl e) = ap given e
+      same (inr e) = rw (e .0, e .1)
 
--- The output that the writer leaves.
-module _ (chain payload keys out : List ℕ) (h : Header) (s : ltb 4294967295 (h .sequence) ≡ false) where
-  by-output : Alike chain payload (length keys) (length out) (narrowed h) h
-      → writtenInto (narrowed h) chain payload keys out ≡ writtenInto h chain payload keys out
+      pub narrow-same : given (narrowed h) ≡ given h
+      narrow-same = same alike
+
+module _ (chain payload : List ℕ) (h : Header) (s : ltb 4294967295 (h .sequence) ≡ false) where
+  -- The writer's answer, and the output that it leaves.
+  pub narrow-answer : (keys room : ℕ) → writeAnswer (narrowed h) chain payload keys room ≡ writeAnswer h chain payload keys room
+  unfolding writeAnswer
+  narrow-answer keys room = narrow-same chain payload keys room h s (λ g. Bytes (lengthOf g chain payload)) Refused
+
+  pub narrow-output : (keys out : List ℕ) → writtenInto (narrowed h) chain payload keys out ≡ writtenInto h chain payload keys out
   unfolding writtenInto
-  by-output (inl e) = ap (λ (g : Header). writtenInto g chain payload keys out) e
-  by-output (inr e) = rw (e .0, e .1)
-
-  pub narrow-output : writtenInto (narrowed h) chain payload keys out ≡ writtenInto h chain payload keys out
-  narrow-output = by-output (alike chain payload (length keys) (length out) h s)
+  narrow-output keys out =
+      narrow-same chain payload (length keys) (length out) h s
+      (λ g. messageBytes g chain payload keys ++ drop (lengthOf g chain payload) out) (λ n. out)

@@ -7,9 +7,10 @@ use lib.ListN.{length}
 use Rattle.hub.specs.declared.Answer.{Answer}
 use Rattle.hub.specs.declared.Answer.the-variants.{Refused, Reply, Again, Failure, Taken, Repeat, Complete}
 use Rattle.hub.specs.declared.Stepped.{Stepped}
+use Rattle.state.specs.Layout.{stateSize}
+use Rattle.state.specs.State.{stateBytes}
 use Rattle.hub_c.specs.declared.connection.Said.{Said}
-use Rattle.hub_c.specs.Sizes.{stateSize, tripleSize}
-use Rattle.hub_c.specs.State.{stateBytes}
+use Rattle.hub_c.specs.Sizes.{tripleSize}
 
 -- The words of an answer that is no refusal.
 abbrev pub words : (kind value length : ℕ) → Said

@@ -47,7 +47,7 @@ handed f words = cond (eqb (f .refusal) 0) (foundWords f) words
 abbrev pub wrongPlace : (header place : List ℕ) → Bool
 wrongPlace header place = not (eqb (length header) headerSize) || not (eqb (length place) tripleSize)
 
--- The numbers of a header say that this buffer, of so many bytes, holds the payload: 0 is the message, 1 the working buffer.
+-- The numbers of a header say that this buffer, of `room` bytes, holds the payload: 0 is the message, 1 the working buffer.
 abbrev pub holds : (buffer room which from size : ℕ) → Bool
 holds buffer room which from size = eqb which buffer && not (ltb room (from + size))
 

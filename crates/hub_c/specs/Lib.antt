@@ -4,5 +4,4 @@ pub mod Headers
 pub mod Written
 pub mod Pieces
 pub mod Line
-pub mod State
 pub mod Answered

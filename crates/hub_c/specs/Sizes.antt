@@ -29,10 +29,6 @@ tripleSize = 3
 abbrev pub lineSize : ℕ
 lineSize = 64
 
--- The bytes of a connection's state.
-abbrev pub stateSize : ℕ
-stateSize = 151
-
 -- The number where the buffer has its size, else that of a wrong buffer.
 abbrev pub sized : (size : ℕ) → (buffer : List ℕ) → ℕ → ℕ
 sized size buffer number = cond (eqb (length buffer) size) number wrongBuffer

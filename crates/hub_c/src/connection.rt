@@ -1,20 +1,22 @@
 // Opening a connection and stepping it, in its state buffer.
-use super::state::STATE;
-use super::state::decode;
-use super::state::encode;
 use super::words::TRIPLE;
 use super::words::WRONG_BUFFER;
+use super::words::fill;
 use super::words::put_triple;
 use hub::Answer;
 use hub::Connection;
 use hub::Stepped;
+use state::STATE;
+use state::decode;
+use state::encode;
 ghost use mathlib.Core.Path.{_≡_};
 ghost use mathlib.Core.Bool.{cond};
 ghost use lib.ListN.{length};
 ghost use Rattle.hub.specs.Opening.{opened};
 ghost use Rattle.hub.specs.Step.{step, reportStepped, workingStepped};
-ghost use Rattle.hub_c.specs.Sizes.{wrongBuffer, stateSize, tripleSize, sized, kept};
-ghost use Rattle.hub_c.specs.State.{connectionAt, stateBytes};
+ghost use Rattle.state.specs.Layout.{stateSize};
+ghost use Rattle.state.specs.State.{connectionAt, stateBytes};
+ghost use Rattle.hub_c.specs.Sizes.{wrongBuffer, tripleSize, sized, kept};
 ghost use Rattle.hub_c.specs.Answered.{words, said, stateAfter, answerAfter, wrongStep};
 
 // An answer in words; the refusal is 0 where there is none, and beside a refusal all is 0.
@@ -60,6 +62,25 @@ fn said_of(answer: Answer) -> Said
     }
 }
 
+// The connection in a state buffer.
+fn connection_of(state: &[u8]) -> Connection
+    requires { ⌜ length (now state) ≡ stateSize ⌝ }
+    ensures { λ r. ⌜ r ≡ connectionAt (now (state .entry)) ⌝ }
+{
+    let mut held = [0u8; STATE];
+    fill(&mut held, state);
+    decode(&held)
+}
+
+// Puts a connection into a state buffer.
+fn put_connection(state: &mut [u8], connection: Connection)
+    requires { ⌜ length (now state) ≡ stateSize ⌝ }
+    ensures { λ _. ⌜ now (state .exit) ≡ stateBytes connection ⌝ }
+{
+    let bytes = encode(connection);
+    fill(state, &bytes);
+}
+
 // Opens a connection of this fragment size into a state buffer. Refused with 24 the state is that of the connection that is all zero.
 #[no_mangle]
 pub extern "C" fn hub_open(fragment_size: u64, state: &mut [u8]) -> u8
@@ -72,11 +93,11 @@ pub extern "C" fn hub_open(fragment_size: u64, state: &mut [u8]) -> u8
     }
     let opened = Connection::open(fragment_size as usize);
     let connection = opened.connection;
-    encode(connection, state);
+    put_connection(state, connection);
     opened.refusal
 }
 
-// Hands out what a step came to: the next state and the answer's words, or the refusal's number.
+// Hands out what a step gives: the next state and the answer's words, or the refusal's number.
 fn settle(stepped: Stepped, state: &mut [u8], answer: &mut [u64]) -> u8
     requires { ⌜ (length (now state) ≡ stateSize) × (length (now answer) ≡ tripleSize) ⌝ }
     ensures { λ r. ⌜ r ≡ said (stepped .answer) .refusal ⌝ }
@@ -84,13 +105,13 @@ fn settle(stepped: Stepped, state: &mut [u8], answer: &mut [u64]) -> u8
     ensures { λ _. ⌜ now (answer .exit) ≡ answerAfter stepped (now (answer .entry)) ⌝ }
 {
     let given = stepped.answer;
-    let told = said_of(given);
-    if told.refusal != 0 {
-        return told.refusal;
+    let said = said_of(given);
+    if said.refusal != 0 {
+        return said.refusal;
     }
     let connection = stepped.connection;
-    encode(connection, state);
-    put_triple(answer, told.kind, told.value, told.length);
+    put_connection(state, connection);
+    put_triple(answer, said.kind, said.value, said.length);
     0
 }
 
@@ -124,7 +145,7 @@ pub extern "C" fn hub_step(
     if (state.len() != STATE) | (answer.len() != TRIPLE) {
         return WRONG_BUFFER;
     }
-    let connection = decode(state);
+    let connection = connection_of(state);
     let stepped = connection.step(message, keys, working, report, verdict);
     settle(stepped, state, answer)
 }

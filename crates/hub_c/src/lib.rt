@@ -6,7 +6,6 @@ pub mod cutting;
 pub mod digests;
 pub mod listing;
 pub mod reading;
-mod state;
 mod words;
 pub mod writing;
 

@@ -5,6 +5,7 @@
 //
 use super::words::TRIPLE;
 use super::words::WRONG_BUFFER;
+use super::words::put_three;
 use super::words::put_triple;
 use super::words::put_word;
 use super::words::word;
@@ -99,23 +100,17 @@ fn flag(b: bool) -> u64
 fn put_fields(h: Header, out: &mut [u64])
     ensures { λ _. ⌜ now (out .exit) ≡ sets (now (out .entry)) 0 (fieldWords h) ⌝ }
 {
-    put_word(out, 0, h.kind as u64);
-    put_word(out, 1, h.flags as u64);
-    put_word(out, 2, h.sequence as u64);
-    put_word(out, 3, h.request);
-    put_word(out, 4, h.index as u64);
-    put_word(out, 5, h.count as u64);
+    put_three(out, 0, h.kind as u64, h.flags as u64, h.sequence as u64);
+    put_three(out, 3, h.request, h.index as u64, h.count as u64);
     put_word(out, 6, h.session);
     put_word(out, 7, h.channel);
 }
 
-// Puts the place of a payload behind the fields.
+// Puts the place of a payload after the fields.
 fn put_place(sealed: bool, from: usize, size: usize, out: &mut [u64])
     ensures { λ _. ⌜ now (out .exit) ≡ sets (now (out .entry)) 8 (bit sealed ∷ from ∷ size ∷ []) ⌝ }
 {
-    put_word(out, 8, flag(sealed));
-    put_word(out, 9, from as u64);
-    put_word(out, 10, size as u64);
+    put_three(out, 8, flag(sealed), from as u64, size as u64);
 }
 
 // Hands out what was read: the words, or the refusal's number.
@@ -180,7 +175,7 @@ struct Place {
     size: usize,
 }
 
-// The place of a payload by the numbers of a header, in a message and a working buffer of so many bytes.
+// The place of a payload by the numbers of a header, in a message and a working buffer of these lengths.
 fn place_of(message: usize, working: usize, which: u64, from: usize, size: usize) -> Place
     ensures { λ r. ⌜ r .buffer ∷ r .from ∷ r .size ∷ [] ≡ placeOf message working which from size ⌝ }
 {

@@ -10,6 +10,14 @@ pub(crate) const WRONG_BUFFER: u8 = 255;
 // The words of a place, of a cut and of an answer.
 pub(crate) const TRIPLE: usize = 3;
 
+// Fills the whole of a buffer with bytes, as many as it has.
+pub(crate) fn fill(out: &mut [u8], bytes: &[u8])
+    requires { ⌜ length (now bytes) ≡ length (now out) ⌝ }
+    ensures { λ _. ⌜ now (out .exit) ≡ now (bytes .entry) ⌝ }
+{
+    bytes::copy(bytes, out);
+}
+
 // The word at a place; past the end it counts as 0.
 pub(crate) fn word(s: &[u64], at: usize) -> u64
     ensures { λ r. ⌜ r ≡ getD (now (s .entry)) at 0 ⌝ }
@@ -34,12 +42,20 @@ pub(crate) fn put_length(out: &mut [u64], x: u64)
     put_word(out, 0, x);
 }
 
-// Puts three words.
+// Puts three words from a place on.
+pub(crate) fn put_three(out: &mut [u64], at: u32, a: u64, b: u64, c: u64)
+    ensures { λ _. ⌜ now (out .exit) ≡ sets (now (out .entry)) at (a ∷ b ∷ c ∷ []) ⌝ }
+{
+    let from = at as usize;
+    put_word(out, from, a);
+    put_word(out, from + 1, b);
+    put_word(out, from + 2, c);
+}
+
+// Puts the three words of a buffer that has no more.
 pub(crate) fn put_triple(out: &mut [u64], a: u64, b: u64, c: u64)
     requires { ⌜ length (now out) ≡ 3 ⌝ }
     ensures { λ _. ⌜ now (out .exit) ≡ a ∷ b ∷ c ∷ [] ⌝ }
 {
-    put_word(out, 0, a);
-    put_word(out, 1, b);
-    put_word(out, 2, c);
+    put_three(out, 0, a, b, c);
 }

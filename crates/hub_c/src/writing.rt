@@ -7,7 +7,7 @@ use writer::Written;
 ghost use mathlib.Core.Path.{_≡_};
 ghost use mathlib.Core.Bool.{cond};
 ghost use Prim.Native.Nat.{_≤_};
-ghost use lib.ListN.{length};
+ghost use lib.ListN.{getD, length};
 ghost use Rattle.message.specs.Writing.{writeAnswer, writtenInto};
 ghost use Rattle.hub_c.specs.Sizes.{wrongBuffer};
 ghost use Rattle.hub_c.specs.Written.{narrow, narrowed, fieldsOf, ofWritten, lengthAfter, wrongFields};
@@ -36,10 +36,11 @@ fn of_written(written: Written) -> Wrote
     }
 }
 
-// A number that is at most `most`: one that is more becomes that.
-fn narrow(most: u64, x: u64) -> u64
-    ensures { λ r. ⌜ (r ≡ narrow most x) × (r ≤ most) ⌝ }
+// The word at a place, brought into the room of its field: one that is more than `most` becomes that.
+fn field(fields: &[u64], at: usize, most: u64) -> u64
+    ensures { λ r. ⌜ (r ≡ narrow most (getD (now (fields .entry)) at 0)) × (r ≤ most) ⌝ }
 {
+    let x = word(fields, at);
     if most < x {
         return most;
     }
@@ -51,12 +52,12 @@ fn header_of(fields: &[u64]) -> Header
     ensures { λ r. ⌜ r ≡ narrowed (fieldsOf (now (fields .entry))) ⌝ }
 {
     Header {
-        kind: narrow(255, word(fields, 0)) as u8,
-        flags: narrow(65535, word(fields, 1)) as u16,
-        sequence: narrow(MOST_SEQUENCE, word(fields, 2)) as u32,
+        kind: field(fields, 0, 255) as u8,
+        flags: field(fields, 1, 65535) as u16,
+        sequence: field(fields, 2, MOST_SEQUENCE) as u32,
         request: word(fields, 3),
-        index: narrow(65535, word(fields, 4)) as u16,
-        count: narrow(65535, word(fields, 5)) as u16,
+        index: field(fields, 4, 65535) as u16,
+        count: field(fields, 5, 65535) as u16,
         session: word(fields, 6),
         channel: word(fields, 7),
     }

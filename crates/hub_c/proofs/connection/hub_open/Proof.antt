@@ -1,23 +1,26 @@
 -- The state has its size or not.
-use Rattle.hub.specs.declared.Opened.{Opened}
-use Rattle.hub_c.specs.State.{stateBytes}
 use mathlib.Core.Path.{ap, _∙_}
 use borrow.Author.Tests.{eq-eqb, ne-eqb}
 use borrow.Author.Needs.{needs}
+use Rattle.wire.specs.Fields.{mostPieces}
+use Rattle.hub.specs.declared.Opened.{Opened}
+use Rattle.state.specs.State.{stateBytes}
 use Rattle.hub_c.proofs.connection.hub_open.Statement.{statement}
 use Rattle.hub_c.proofs.connection.hub_open.Tie as tie
 
 returns : tie.Need-returns
+unfolding mostPieces
 returns c = (rw (ne-eqb _ _ (c .if1 .taken)), rw (ne-eqb _ _ (c .if1 .taken)))
 
 returns-2 : tie.Need-returns-2
+unfolding mostPieces
 returns-2 c =
-    let at-encode = c .before .before in
-    let at-open = at-encode .before .before .before in
-    let at-if1 = at-open .before in
-    let k = eq-eqb _ _ (at-if1 .if1 .left) in
+    let at-put = c .before .before in
+    let at-open = at-put .before .before .before in
+    let k = eq-eqb _ _ (at-open .before .if1 .left) in
     let e = at-open .«open» .ensures in
-    (rw k (ap (λ (o : Opened). o .refusal) e), rw k (at-encode .encode .ensures ∙ ap (λ (o : Opened). stateBytes (o .connection)) e))
+    (rw k (ap (λ (o : Opened). o .refusal) e), rw k (at-put .put-connection .ensures ∙ ap (λ (o : Opened). stateBytes (o .connection)) e))
 
 pub hub-open-spec : {M : Type 1} → statement M
-hub-open-spec = tie.close (tie.spec returns (λ c κs. search needs) (λ c κs. search needs) (λ c. search needs) returns-2)
+unfolding mostPieces
+hub-open-spec = tie.close (tie.spec returns _ (λ c κs. search needs) (λ c. search needs) returns-2)

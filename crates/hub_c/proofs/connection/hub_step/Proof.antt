@@ -1,7 +1,9 @@
 -- The buffers have their sizes or not; the step is that of the connection in the state.
 use lib.ListN.{length}
+use Rattle.wire.specs.Fields.{mostPieces}
 use Rattle.hub.specs.declared.Connection.{Connection}
 use Rattle.hub.specs.declared.Stepped.{Stepped}
+use Rattle.state.specs.Layout.{stateSize}
 use Rattle.hub.specs.Step.{step, reportStepped, workingStepped}
 use Rattle.hub_c.specs.Answered.{said, stateAfter, answerAfter}
 use Rattle.hub_c.proofs.Sizing.{both-sized}
@@ -11,37 +13,38 @@ use Rattle.hub_c.proofs.connection.hub_step.Statement.{statement}
 use Rattle.hub_c.proofs.connection.hub_step.Tie as tie
 
 returns : tie.Need-returns
-returns c = (rw (c .if1 .taken), (rw (c .if1 .taken), (rw (c .if1 .taken), (rw (c .if1 .taken), rw (c .if1 .taken)))))
+unfolding mostPieces
+returns c = let e = c .if1 .taken in (rw e, (rw e, (rw e, (rw e, rw e))))
 
-decode-requires : tie.Need-decode-requires
-decode-requires c κs =
+connection-of-requires : tie.Need-connection-of-requires
+unfolding mostPieces
+connection-of-requires c κs =
     let at-if1 = c .before in
-    let start = at-if1 .before .before .before .before .before .before .before in
-    let s = start .args in
-    both-sized (length (s .state .now)) 151 (length (s .answer .now)) 3 (at-if1 .if1 .left) .0
+    let s = at-if1 .before .before .before .before .before .before .before .args in
+    both-sized (length (s .state .now)) stateSize (length (s .answer .now)) 3 (at-if1 .if1 .left) .0
 
 settle-requires : tie.Need-settle-requires
+unfolding mostPieces
 settle-requires c κs =
     let at-if1 = c .before .before .before .before .before .before .before .before .before .before .before in
-    let start = at-if1 .before .before .before .before .before .before .before in
-    let s = start .args in
-    both-sized (length (s .state .now)) 151 (length (s .answer .now)) 3 (at-if1 .if1 .left)
+    let s = at-if1 .before .before .before .before .before .before .before .args in
+    both-sized (length (s .state .now)) stateSize (length (s .answer .now)) 3 (at-if1 .if1 .left)
 
 returns-2 : tie.Need-returns-2
+unfolding mostPieces
 returns-2 c =
     let at-settle = c .before .before .before .before in
     let at-step = at-settle .before .before .before .before .before .before .before in
-    let at-decode = at-step .before .before .before in
-    let at-if1 = at-decode .before .before in
-    let start = at-if1 .before .before .before .before .before .before .before in
-    let s = start .args in
+    let at-connection = at-step .before .before .before in
+    let at-if1 = at-connection .before .before in
+    let s = at-if1 .before .before .before .before .before .before .before .args in
     let state = s .state .now in
     let message = s .message .now in
     let keys = s .keys .now in
     let working = s .working .now in
     let report = s .report .now in
     let verdict = s .verdict in
-    let d = at-decode .decode .ensures in
+    let d = at-connection .connection-of .ensures in
     let e = at-step .step .ensures .0 ∙ ap (λ (k : Connection). step k message keys working report verdict) d in
     let l = at-if1 .if1 .left in
     let next = at-settle .settle .ensures .1 .0 ∙ ap (λ (t : Stepped). stateAfter t state) e in
@@ -53,5 +56,4 @@ returns-2 c =
 pub hub-step-spec : {M : Type 1} → statement M
 hub-step-spec =
     tie.close (tie.spec
-    returns decode-requires (λ c κs. search needs) settle-requires (λ c. search needs) (λ c. search needs)
-    (λ c. search needs) (λ c. search needs) returns-2)
+    returns connection-of-requires _ settle-requires (λ c. search needs) (λ c. search needs) (λ c. search needs) (λ c. search needs) returns-2)

@@ -10,10 +10,10 @@ returns c = (rw (ne-eqb _ _ (c .if1 .taken)), rw (ne-eqb _ _ (c .if1 .taken)))
 
 returns-2 : tie.Need-returns-2
 returns-2 c =
-    let at-put-digest = c .before .before in
-    let at-hmac = at-put-digest .before .before in
-    let at-if1 = at-hmac .before in
-    (rw (eq-eqb _ _ (at-if1 .if1 .left)), rw (eq-eqb _ _ (at-if1 .if1 .left)) (at-put-digest .put-digest .ensures ∙ at-hmac .hmac .ensures))
+    let at-fill = c .before .before in
+    let at-hmac = at-fill .before .before .before in
+    let sized = eq-eqb _ _ (at-hmac .before .if1 .left) in
+    (rw sized, rw sized (at-fill .fill .ensures ∙ at-hmac .hmac .ensures))
 
 pub hub-hmac-spec : {M : Type 1} → statement M
-hub-hmac-spec = tie.close (tie.spec returns (λ c κs. search needs) (λ c κs. search needs) (λ c. search needs) returns-2)
+hub-hmac-spec = tie.close (tie.spec returns _ (λ c. search needs) (λ c κs. search needs) (λ c. search needs) returns-2)

@@ -10,27 +10,25 @@ returns : tie.Need-returns
 unfolding sameTag
 returns c = rw (c .if1 .taken)
 
-tag-of-requires : tie.Need-tag-of-requires
-tag-of-requires c κs =
-    let start = c .before .before .before in
-    let s = start .args in
-    both-sized (length (s .ours .now)) 32 (length (s .theirs .now)) 32 (c .if1 .left) .0
+fill-requires : tie.Need-fill-requires
+fill-requires c κs =
+    let at-if1 = c .before in
+    let s = at-if1 .before .before .before .args in
+    both-sized (length (s .ours .now)) 32 (length (s .theirs .now)) 32 (at-if1 .if1 .left) .0
 
 returns-2 : tie.Need-returns-2
 unfolding sameTag
 returns-2 c =
-    let at-same-tag = c .before in
-    let at-tag-of = at-same-tag .before in
-    let at-if1 = at-tag-of .before in
-    rw (at-if1 .if1 .left, ← at-tag-of .tag-of .ensures, ← at-same-tag .same-tag .ensures, c .if2 .taken)
+    let at-same = c .before in
+    let at-fill = at-same .before .before in
+    rw (at-fill .before .before .if1 .left, ← at-fill .fill .ensures, ← at-same .same-tag .ensures, c .if2 .taken)
 
 returns-3 : tie.Need-returns-3
 unfolding sameTag
 returns-3 c =
-    let at-same-tag = c .before in
-    let at-tag-of = at-same-tag .before in
-    let at-if1 = at-tag-of .before in
-    rw (at-if1 .if1 .left, ← at-tag-of .tag-of .ensures, ← at-same-tag .same-tag .ensures, c .if2 .left)
+    let at-same = c .before in
+    let at-fill = at-same .before .before in
+    rw (at-fill .before .before .if1 .left, ← at-fill .fill .ensures, ← at-same .same-tag .ensures, c .if2 .left)
 
 pub hub-same-tag-spec : {M : Type 1} → statement M
-hub-same-tag-spec = tie.close (tie.spec returns tag-of-requires (λ c κs. search needs) returns-2 returns-3)
+hub-same-tag-spec = tie.close (tie.spec returns (λ c. search needs) fill-requires _ returns-2 returns-3)

@@ -4,7 +4,7 @@ use Rattle.joining.specs.Heard.{bit}
 use Rattle.hub_c.specs.Headers.{fieldWords, foundWords, handed}
 use mathlib.Core.Path.{refl, sym, _∙_}
 use borrow.Author.Tests.{eq-eqb, ne-eqb}
-use Rattle.hub_c.proofs.Filling.{sets-whole}
+use Rattle.state.proofs.Listed.{sets-whole}
 use Rattle.laws.proofs.Stores.{stored-twice}
 use borrow.Author.Needs.{needs}
 use Rattle.hub_c.proofs.reading.hand.Statement.{statement}
@@ -21,12 +21,11 @@ returns-2 c =
     let at-put-fields = at-put-place .before .before .before .before in
     let at-if1 = at-put-fields .before .before .before in
     let start = at-if1 .before .before .before in
-    let s = start .args in
-    let f = s .found in
-    let l = s .out .now in
-    let stored = stored-twice (fieldWords (f .header)) (bit (f .sealed) ∷ f .from ∷ f .size ∷ []) l 0 8
-    (at-put-fields .put-fields .ensures) (at-put-place .put-place .ensures) refl in
+    let f = start .args .found in
+    let l = start .args .out .now in
+    let place = bit (f .sealed) ∷ f .from ∷ f .size ∷ [] in
+    let stored = stored-twice (fieldWords (f .header)) place l 0 8 (at-put-fields .put-fields .ensures) (at-put-place .put-place .ensures) refl in
     (sym (at-if1 .if1 .left), rw (eq-eqb _ _ (at-if1 .if1 .left)) (stored ∙ sets-whole (foundWords f) l (start .pre)))
 
 pub hand-spec : {M : Type 1} → statement M
-hand-spec = tie.close (tie.spec returns (λ c κs. search needs) (λ c κs. search needs) (λ c. search needs) returns-2)
+hand-spec = tie.close (tie.spec returns _ _ (λ c. search needs) returns-2)

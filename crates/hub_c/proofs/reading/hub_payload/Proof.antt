@@ -28,7 +28,4 @@ returns-2 c =
     )
 
 pub hub-payload-spec : {M : Type 1} → statement M
-hub-payload-spec =
-    tie.close (tie.spec
-    returns (λ c κs. search needs) (λ c κs. search needs) (λ c κs. search needs) (λ c κs. search needs)
-    put-triple-requires (λ c. search needs) returns-2)
+hub-payload-spec = tie.close (tie.spec returns _ _ _ _ put-triple-requires (λ c. search needs) returns-2)

@@ -16,16 +16,11 @@ returns-2 c =
     let at-of-message = at-hand .before .before in
     let at-read = at-of-message .before .before .before in
     let at-if1 = at-read .before .before in
-    let start = at-if1 .before .before .before .before .before in
-    let s = start .args in
+    let header = at-if1 .before .before .before .before .before .args .header .now in
     let e = at-of-message .of-message .ensures ∙ ap ofMessage (at-read .read .ensures .0) in
-    let k = eq-eqb _ _ (at-if1 .if1 .left) in (
-      rw k (at-hand .hand .ensures .0 ∙ ap (λ (f : Found). f .refusal) e),
-      (rw k (at-read .read .ensures .1), rw k (at-hand .hand .ensures .1 ∙ ap (λ (f : Found). handed f (s .header .now)) e)),
-    )
+    let k = eq-eqb _ _ (at-if1 .if1 .left) in
+    let words = at-hand .hand .ensures .1 ∙ ap (λ (f : Found). handed f header) e in
+    (rw k (at-hand .hand .ensures .0 ∙ ap (λ (f : Found). f .refusal) e), (rw k (at-read .read .ensures .1), rw k words))
 
 pub hub-read-spec : {M : Type 1} → statement M
-hub-read-spec =
-    tie.close (tie.spec
-    returns (λ c κs. search needs) (λ c κs. search needs) (λ c κs. search needs) (λ c. search needs)
-    (λ c. search needs) returns-2)
+hub-read-spec = tie.close (tie.spec returns _ _ (λ c κs. search needs) (λ c. search needs) (λ c. search needs) returns-2)

@@ -16,16 +16,11 @@ returns-2 c =
     let at-of-header = at-hand .before .before in
     let at-read-header = at-of-header .before in
     let at-if1 = at-read-header .before in
-    let start = at-if1 .before .before .before in
-    let s = start .args in
+    let header = at-if1 .before .before .before .args .header .now in
     let e = at-of-header .of-header .ensures ∙ ap ofHeader (at-read-header .read-header .ensures) in
-    let k = eq-eqb _ _ (at-if1 .if1 .left) in (
-      rw k (at-hand .hand .ensures .0 ∙ ap (λ (f : Found). f .refusal) e),
-      rw k
-          (at-hand .hand .ensures .1 ∙ ap (λ (f : Found). handed f (s .header .now)) e),
-    )
+    let k = eq-eqb _ _ (at-if1 .if1 .left) in
+    let words = at-hand .hand .ensures .1 ∙ ap (λ (f : Found). handed f header) e in
+    (rw k (at-hand .hand .ensures .0 ∙ ap (λ (f : Found). f .refusal) e), rw k words)
 
 pub hub-read-header-spec : {M : Type 1} → statement M
-hub-read-header-spec =
-    tie.close (tie.spec
-    returns (λ c κs. search needs) (λ c κs. search needs) (λ c κs. search needs) (λ c. search needs) returns-2)
+hub-read-header-spec = tie.close (tie.spec returns _ _ (λ c κs. search needs) (λ c. search needs) returns-2)

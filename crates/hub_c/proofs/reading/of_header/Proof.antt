@@ -11,6 +11,4 @@ returns-2 c =
     rw (c .is-sealed .ensures) (ap ofHeader (sym (at-read2 .read2 .given .1)))
 
 pub of-header-spec : {M : Type 1} → statement M
-of-header-spec =
-    tie.close (tie.spec
-    (λ c. search needs) (λ c κs. search needs) (λ c. search needs) (λ c κs. search needs) (λ c. cc) returns-2)
+of-header-spec = tie.close (tie.spec (λ c. search needs) _ (λ c. search needs) _ (λ c. cc) returns-2)

@@ -11,5 +11,4 @@ returns-2 c =
     ap ofMessage (sym (at-read2 .read2 .given .1))
 
 pub of-message-spec : {M : Type 1} → statement M
-of-message-spec =
-    tie.close (tie.spec (λ c. search needs) (λ c κs. search needs) (λ c. search needs) (λ c. cc) returns-2)
+of-message-spec = tie.close (tie.spec (λ c. search needs) _ (λ c. search needs) (λ c. cc) returns-2)

@@ -1,6 +1,5 @@
 -- By the two tests of the definition.
 use Rattle.hub_c.specs.Headers.{placeOf}
-use borrow.Author.Needs.{needs}
 use Rattle.hub_c.proofs.reading.place_of.Statement.{statement}
 use Rattle.hub_c.proofs.reading.place_of.Tie as tie
 
@@ -21,4 +20,4 @@ returns-3 c =
     rw (← first .before .lacks .ensures, first .if1 .left, ← c .before .lacks2 .ensures, c .if2 .left)
 
 pub place-of-spec : {M : Type 1} → statement M
-place-of-spec = tie.close (tie.spec (λ c κs. search needs) returns (λ c κs. search needs) returns-2 returns-3)
+place-of-spec = tie.close (tie.spec _ returns _ returns-2 returns-3)

@@ -1,10 +1,12 @@
--- Three words behind the fields.
+-- Three words after the fields.
 use borrow.Author.Needs.{needs}
 use Rattle.hub_c.proofs.reading.put_place.Statement.{statement}
 use Rattle.hub_c.proofs.reading.put_place.Tie as tie
 
+returns : tie.Need-returns
+returns c =
+    let at-put = c .before .before in
+    rw (← at-put .before .flag .ensures) (at-put .put-three .ensures)
+
 pub put-place-spec : {M : Type 1} → statement M
-put-place-spec =
-    tie.close (tie.spec
-    (λ c κs. search needs) (λ c κs. search needs) (λ c κs. search needs) (λ c κs. search needs) (λ c. search needs)
-    (λ c. cc))
+put-place-spec = tie.close (tie.spec _ _ (λ c. search needs) returns)

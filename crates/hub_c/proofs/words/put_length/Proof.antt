@@ -1,7 +1,7 @@
 -- One word over the whole of the buffer.
 use mathlib.Core.List.{_∷_, []}
 use mathlib.Core.Path.{_∙_}
-use Rattle.hub_c.proofs.Filling.{sets-whole}
+use Rattle.state.proofs.Listed.{sets-whole}
 use borrow.Author.Needs.{needs}
 use Rattle.hub_c.proofs.words.put_length.Statement.{statement}
 use Rattle.hub_c.proofs.words.put_length.Tie as tie
@@ -14,4 +14,4 @@ returns c =
     at-put-word .put-word .ensures ∙ sets-whole (s .x ∷ []) (s .out .now) (start .pre)
 
 pub put-length-spec : {M : Type 1} → statement M
-put-length-spec = tie.close (tie.spec (λ c κs. search needs) (λ c. search needs) returns)
+put-length-spec = tie.close (tie.spec _ (λ c. search needs) returns)

@@ -16,15 +16,14 @@ use Rattle.hub_c.proofs.writing.hub_write.Tie as tie
 
 returns : tie.Need-returns
 returns c =
-    let at-word = c .before in
-    (rw (← at-word .word .ensures, c .if1 .taken), (rw (← at-word .word .ensures, c .if1 .taken), rw (← at-word .word .ensures, c .if1 .taken)))
+    let e = c .before .word .ensures in
+    (rw (← e, c .if1 .taken), (rw (← e, c .if1 .taken), rw (← e, c .if1 .taken)))
 
 tell-requires : tie.Need-tell-requires
 tell-requires c κs =
     let at-if1 = c .before .before .before .before .before .before .before in
     let at-word = at-if1 .before in
-    let start = at-word .before .before .before .before .before .before .before in
-    let s = start .args in
+    let s = at-word .before .before .before .before .before .before .before .args in
     let f = length (s .fields .now) in
     let z = length (s .size .now) in
     both-sized f 8 z 1 (or-false (not (eqb f 8) || not (eqb z 1)) (ltb 4294967295 (at-word .word .result)) (at-if1 .if1 .left) .0) .1
@@ -37,8 +36,7 @@ returns-2 c =
     let at-header-of = at-write .before .before in
     let at-if1 = at-header-of .before in
     let at-word = at-if1 .before in
-    let start = at-word .before .before .before .before .before .before .before in
-    let s = start .args in
+    let s = at-word .before .before .before .before .before .before .before .args in
     let w : wrongFields (s .fields .now) (s .size .now) ≡ false = rw (at-word .word .ensures) at (at-if1 .if1 .left) in
     let h = fieldsOf (s .fields .now) in
     let chain = s .chain .now in
@@ -46,17 +44,13 @@ returns-2 c =
     let keys = s .keys .now in
     let out = s .out .now in
     let fits = or-false (not (eqb (length (s .fields .now)) 8) || not (eqb (length (s .size .now)) 1)) (ltb 4294967295 (h .sequence)) w .1 in
-    let e = at-of-written .of-written .ensures ∙ ap ofWritten (at-write .write .ensures .0
-    ∙ ap (λ (g : Header). writeAnswer g chain payload (length keys) (length out)) (at-header-of .header-of .ensures)
-    ∙ narrow-answer chain payload (length keys) (length out) h fits) in
-    let o = at-write .write .ensures .1 ∙ ap (λ (g : Header). writtenInto g chain payload keys out) (at-header-of .header-of .ensures)
-    ∙ narrow-output chain payload keys out h fits in (
-      rw w (at-tell .tell .ensures .0 ∙ ap (λ (k : Wrote). k .refusal) e),
-      (rw w o, rw w (at-tell .tell .ensures .1 ∙ ap (λ (k : Wrote). lengthAfter k (s .size .now)) e)),
-    )
+    let g = at-header-of .header-of .ensures in
+    let answer = at-write .write .ensures .0 ∙ ap (λ (g : Header). writeAnswer g chain payload (length keys) (length out)) g
+    ∙ narrow-answer chain payload h fits (length keys) (length out) in
+    let e = at-of-written .of-written .ensures ∙ ap ofWritten answer in
+    let o = at-write .write .ensures .1 ∙ ap (λ (g : Header). writtenInto g chain payload keys out) g ∙ narrow-output chain payload h fits keys out in
+    let size = at-tell .tell .ensures .1 ∙ ap (λ (k : Wrote). lengthAfter k (s .size .now)) e in
+    (rw w (at-tell .tell .ensures .0 ∙ ap (λ (k : Wrote). k .refusal) e), (rw w o, rw w size))
 
 pub hub-write-spec : {M : Type 1} → statement M
-hub-write-spec =
-    tie.close (tie.spec
-    (λ c κs. search needs) returns (λ c κs. search needs) (λ c κs. search needs) (λ c κs. search needs) tell-requires
-    (λ c. search needs) (λ c. search needs) returns-2)
+hub-write-spec = tie.close (tie.spec _ returns _ _ _ tell-requires (λ c. search needs) (λ c. search needs) returns-2)

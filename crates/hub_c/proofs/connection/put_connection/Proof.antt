@@ -1,0 +1,15 @@
+-- The bytes of the connection fill the buffer.
+use mathlib.Core.Path.{_∙_}
+use borrow.Author.Needs.{needs}
+use Rattle.wire.specs.Fields.{mostPieces}
+use Rattle.hub_c.proofs.connection.put_connection.Statement.{statement}
+use Rattle.hub_c.proofs.connection.put_connection.Tie as tie
+
+returns : tie.Need-returns
+returns c =
+    let at-fill = c .before .before in
+    at-fill .fill .ensures ∙ at-fill .before .before .before .encode .ensures
+
+pub put-connection-spec : {M : Type 1} → statement M
+unfolding mostPieces
+put-connection-spec = tie.close (tie.spec _ (λ c. search needs) (λ c κs. search needs) (λ c. search needs) returns)

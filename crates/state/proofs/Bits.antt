@@ -1,0 +1,62 @@
+-- Eight indexes and their byte, both ways.
+use Prim.Native.Nat.{ℕ, zero, suc, _+_, _*_, _/_, _%_, _^_, _<_}
+use mathlib.Core.Path.{_≡_, refl, sym, ap, _∙_}
+use mathlib.Core.List.{List, [], _∷_}
+use mathlib.Core.Bool.{Bool, true, false}
+use native.Mathlib.Omega.{arith}
+use native.Mathlib.Nat.{zero-div, div-one, pow-succ', div-div-eq-div-mul}
+use lib.Dec.{eqb}
+use lib.ListN.{length, getD}
+use Rattle.joining.specs.Heard.{bit, has}
+use Rattle.joining.proofs.HeardLaws.{bit-le}
+use Rattle.state.specs.State.{listed, value, eight}
+use Rattle.state.proofs.Listed.{listed-at}
+
+-- Bit k of a number, and a number's half.
+abbrev bitOf : ℕ → ℕ → Bool
+bitOf n k = eqb (n / 2 ^ k % 2) 1
+
+half-bit : (n k : ℕ) → bitOf n (suc k) ≡ bitOf (n / 2) k
+half-bit n k = ap (λ (m : ℕ). eqb (m % 2) 1) (ap (λ (m : ℕ). n / m) (pow-succ' 2 k) ∙ sym (div-div-eq-div-mul n 2 (2 ^ k)))
+
+is-one : (b : Bool) → eqb (bit b) 1 ≡ b
+is-one true = refl
+is-one false = refl
+
+bit-one : (n : ℕ) → n < 2 → bit (eqb n 1) ≡ n
+bit-one zero l = refl
+bit-one (suc zero) l = refl
+bit-one (suc (suc n)) l = absurd (omega arith)
+
+-- The bits of a value are those that it was made of.
+picked : (bs : List Bool) (k : ℕ) → bitOf (value bs) k ≡ getD bs k false
+picked [] k = rw zero-div
+picked (b ∷ bs) zero =
+    let l = bit-le b in
+    let e : (bit b + 2 * value bs) / 1 % 2 ≡ bit b = rw div-one (omega arith) in
+    ap (λ (n : ℕ). eqb n 1) e ∙ is-one b
+picked (b ∷ bs) (suc k) =
+    let l = bit-le b in
+    let h : (bit b + 2 * value bs) / 2 ≡ value bs = omega arith in
+    half-bit (bit b + 2 * value bs) k ∙ ap (λ (n : ℕ). bitOf n k) h ∙ picked bs k
+
+-- The value of a number's bits is the number.
+weighed : (bs : List Bool) (n : ℕ) → n < 2 ^ length bs → ((k : ℕ) → k < length bs → getD bs k false ≡ bitOf n k) → value bs ≡ n
+weighed [] n l e = omega arith
+weighed (b ∷ bs) n l e =
+    let h : n < 2 * 2 ^ length bs = rw (pow-succ' 2 (length bs)) at l in
+    let low : bit b ≡ n % 2 = ap bit (e 0 (omega arith)) ∙ rw div-one (bit-one (n % 2) (omega arith)) in
+    let high : value bs ≡ n / 2 = weighed bs (n / 2) (omega arith) (λ k i. e (suc k) (omega arith) ∙ half-bit n k) in
+    omega arith
+
+-- Bit k of eight indexes is index k of them, and indexes that are the bits of a byte make the byte.
+pub eight-bit : (h : List Bool) (at k : ℕ) → k < 8 → bitOf (eight h at) k ≡ has h (at + k)
+eight-bit h at k l =
+    let f : ℕ → Bool = λ (i : ℕ). has h (at + i) in
+    picked (listed f 8) k ∙ listed-at f false 8 k l
+
+pub eight-bits : (h : List Bool) (at n : ℕ) → n < 256 → ((k : ℕ) → k < 8 → has h (at + k) ≡ eqb (n / 2 ^ k % 2) 1) → eight h at ≡ n
+unfolding listed
+eight-bits h at n l e =
+    let f : ℕ → Bool = λ (i : ℕ). has h (at + i) in
+    weighed (listed f 8) n l (λ k i. listed-at f false 8 k i ∙ e k i)

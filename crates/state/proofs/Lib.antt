@@ -1,0 +1,5 @@
+pub mod Listed
+pub mod Parted
+pub mod Bits
+pub mod StateBack
+pub mod StateWhole

@@ -1,0 +1,53 @@
+-- The first values of a function as a list: its elements, and the loops that fill an array and a buffer with it.
+use Prim.Native.Nat.{ℕ, zero, suc, _+_, _≤_, _<_}
+use mathlib.Core.Path.{_≡_, refl, sym, ap, _∙_}
+use mathlib.Core.Logic.{_⊎_, inl, inr}
+use mathlib.Core.List.{List, [], _∷_, _++_, append-assoc, append-nil}
+use native.Mathlib.Omega.{arith}
+use native.Mathlib.Numerals.{add-one}
+use lib.ListN.{length, getD, set, drop, length-append, drop-of-length-le, List·getD-append}
+use lib.Seq.{sets, drop-cons, drop-length, set-at, getD-at}
+use Rattle.laws.proofs.Order.{lt-or-ge}
+use Rattle.laws.proofs.Stores.{sets-start, stored-twice}
+use Rattle.state.specs.State.{listed}
+
+module _ {A : Type 0} (f : ℕ → A) where
+  pub length-listed : (n : ℕ) → length (listed f n) ≡ n
+  unfolding listed
+  length-listed zero = refl
+  length-listed (suc n) = rw length-append (omega (arith, length-listed n))
+
+  either : (d : A) (n i : ℕ) → (i < n → getD (listed f n) i d ≡ f i) → i < suc n → (i < n) ⊎ (n ≤ i) → getD (listed f n ++ (f n ∷ [])) i d ≡ f i
+  either d n i before l (inl p) = List·getD-append (listed f n) (f n ∷ []) d i (rw (length-listed n) p) ∙ before p
+  either d n i before l (inr p) =
+      let k : n ≡ i = omega arith in
+      getD-at (listed f n) (f n) [] d i (length-listed n ∙ k) ∙ ap f k
+
+  pub listed-at : (d : A) (n i : ℕ) → i < n → getD (listed f n) i d ≡ f i
+  unfolding listed
+  listed-at d zero i l = absurd (omega arith)
+  listed-at d (suc n) i l = either d n i (λ p. listed-at d n i p) l (lt-or-ge i n)
+
+  -- One value more in an array that holds the first i, and an array that holds as many as it is long.
+  pub listed-more : (l : List A) (i : ℕ) (b : A) → i < length l → b ≡ f i
+      → set (listed f i ++ drop i l) i b ≡ listed f (i + 1) ++ drop (i + 1) l
+  unfolding listed
+  listed-more l i b h e =
+      rw (add-one, drop-cons l i b h, set-at (listed f i) (getD l i b) (drop (suc i) l) b i (length-listed i), e)
+      (sym (append-assoc (listed f i) (f i ∷ []) (drop (suc i) l)))
+
+  pub listed-all : (l : List A) (i : ℕ) → i ≡ length l → listed f i ++ drop i l ≡ listed f (length l)
+  listed-all l i e = rw (e, drop-length l, append-nil)
+
+-- One value more after those that a buffer holds from a place on.
+pub listed-stored : (f : ℕ → ℕ) (l : List ℕ) (at i : ℕ) {m n : List ℕ} → m ≡ sets l at (listed f i) → n ≡ sets m (at + i) (f i ∷ [])
+    → n ≡ sets l at (listed f (i + 1))
+unfolding listed
+listed-stored f l at i p q = rw add-one (stored-twice (listed f i) (f i ∷ []) l at (at + i) p q (rw (length-listed f i)))
+
+-- Stores from the start over the whole of a list.
+pub sets-whole : (a l : List ℕ) → length l ≡ length a → sets l 0 a ≡ a
+sets-whole a l e =
+    let k : length a ≤ length l = omega arith in
+    let h : length l ≤ length a = omega arith in
+    sets-start a l k ∙ ap (λ (r : List ℕ). a ++ r) (drop-of-length-le l h) ∙ append-nil a

@@ -1,0 +1,48 @@
+-- The first i indexes are those of the state.
+use Prim.Native.Nat.{_≤_, _-_}
+use mathlib.Core.List.{_++_}
+use mathlib.Core.Path.{refl, ap, _∙_, _≡_}
+use native.Mathlib.Omega.{arith}
+use lib.ListN.{length, drop}
+use borrow.Author.Needs.{needs}
+use Rattle.wire.specs.Fields.{mostPieces}
+use Rattle.joining.specs.Heard.{most}
+use Rattle.state.specs.State.{listed, bitAt, heardAt}
+use Rattle.state.proofs.Listed.{listed-more, listed-all}
+use Rattle.state.proofs.heard_at.Statement.{statement}
+use Rattle.state.proofs.heard_at.Tie as tie
+
+abbrev Inv-loop : tie.InvT-loop
+Inv-loop s heard₀ i₀ heard i = (i ≤ most) × (length heard₀ ≡ most) × (heard ≡ heardAt s i ++ drop i heard₀)
+
+abbrev μ-loop : tie.MeasureT-loop
+μ-loop s heard₀ i₀ heard i = most - i
+
+loop-holds : tie.Need-loop-holds Inv-loop μ-loop
+unfolding listed mostPieces
+loop-holds c = (omega arith, refl, refl)
+
+loop-again : tie.Need-loop-again Inv-loop μ-loop
+unfolding mostPieces
+loop-again c =
+    let at-byte = c .before in
+    let at-loop = at-byte .before .before in
+    let s = at-loop .before .before .args .s .now in
+    let l = at-loop .loop in
+    let b = rw (at-byte .byte .ensures) at (c .bit-of .ensures) in
+    (omega arith, l .inv .1, rw (l .inv .2) (listed-more (bitAt s) _ (l .i) _ (omega (arith, l .inv .1)) b))
+
+returns : tie.Need-returns Inv-loop μ-loop
+unfolding mostPieces
+returns c =
+    let at-loop = c .before in
+    let s = at-loop .before .before .args .s .now in
+    let l = at-loop .loop in
+    l .inv .2 ∙ listed-all (bitAt s) _ (l .i) (omega (arith, l .inv .1)) ∙ ap (heardAt s) (l .inv .1)
+
+pub heard-at-spec : {M : Type 1} → statement M
+unfolding mostPieces
+heard-at-spec =
+    tie.close (tie.spec
+    Inv-loop μ-loop loop-holds (λ c. search needs) (λ c κs. search needs) (λ c. search needs) (λ c κs. search needs)
+    (λ c. search needs) (λ c. search needs) (λ c. search needs) loop-again returns)

@@ -1,0 +1,51 @@
+-- The first i bytes are put.
+use Prim.Native.Nat.{ℕ, _≤_, _-_, _+_}
+use mathlib.Core.List.{_∷_, []}
+use mathlib.Core.Path.{refl, ap, _∙_, _≡_}
+use native.Mathlib.Omega.{arith}
+use lib.ListN.{length}
+use lib.Seq.{sets}
+use borrow.Author.Needs.{needs}
+use Rattle.wire.specs.Fields.{mostPieces}
+use Rattle.state.specs.Layout.{heardPlace, heardSize}
+use Rattle.state.specs.State.{listed, heardByte, heardBytes}
+use Rattle.state.proofs.Listed.{listed-stored}
+use Rattle.state.proofs.put_heard.Statement.{statement}
+use Rattle.state.proofs.put_heard.Tie as tie
+
+abbrev Inv-loop : tie.InvT-loop
+Inv-loop out₀ heard i₀ out i = (i ≤ heardSize) × (length out ≡ length out₀) × (out ≡ sets out₀ heardPlace (heardBytes heard i))
+
+abbrev μ-loop : tie.MeasureT-loop
+μ-loop out₀ heard i₀ out i = heardSize - i
+
+loop-holds : tie.Need-loop-holds Inv-loop μ-loop
+unfolding listed mostPieces
+loop-holds c = (omega arith, refl, refl)
+
+loop-again : tie.Need-loop-again Inv-loop μ-loop
+unfolding mostPieces
+loop-again c =
+    let at-store8 = c .before .before in
+    let at-eight-of = at-store8 .before in
+    let at-loop = at-eight-of .before .before .before in
+    let s = at-loop .before .before .args in
+    let l = at-loop .loop in
+    let b = at-store8 .store8 .ensures ∙ ap (λ (k : ℕ). sets (l .out) (heardPlace + l .i) (k ∷ [])) (at-eight-of .eight-of .ensures) in
+    (omega arith, omega arith, listed-stored (heardByte (s .heard)) (s .out .now) heardPlace (l .i) (l .inv .2) b)
+
+returns : tie.Need-returns Inv-loop μ-loop
+unfolding mostPieces
+returns c =
+    let at-loop = c .before in
+    let s = at-loop .before .before .args in
+    let l = at-loop .loop in
+    let e : l .i ≡ heardSize = omega arith in
+    (l .inv .2 ∙ ap (λ (k : ℕ). sets (s .out .now) heardPlace (heardBytes (s .heard) k)) e, search needs)
+
+pub put-heard-spec : {M : Type 1} → statement M
+unfolding mostPieces
+put-heard-spec =
+    tie.close (tie.spec
+    Inv-loop μ-loop loop-holds (λ c. search needs) (λ c. search needs) (λ c κs. search needs) (λ c κs. search needs)
+    (λ c. search needs) (λ c. search needs) loop-again (λ c. search needs) returns)
