@@ -3,20 +3,12 @@ use joining::Arrival;
 use joining::Joined;
 use joining::Piece;
 use joining::Progress;
+use octets::bounds::lesser;
 ghost use mathlib.Core.Path.{_≡_};
-ghost use Prim.Native.Nat.{_*_, _≤_, _<_, min};
+ghost use Prim.Native.Nat.{_*_, _≤_, _<_};
 ghost use Rattle.joining.specs.Join.{join, reportAfter};
 ghost use Rattle.joining.specs.Report.{part};
 ghost use Rattle.bench_c.specs.Course.{pieceOf, lengthTold, course, notOne, joinedAll};
-
-fn lesser(a: usize, b: usize) -> usize
-    ensures { λ r. ⌜ r ≡ min a b ⌝ }
-{
-    if a < b {
-        return a;
-    }
-    b
-}
 
 // The bytes of a source from a place on, as many as there are of those that are wanted.
 fn part_at(source: &[u8], at: usize, wanted: usize) -> &[u8]

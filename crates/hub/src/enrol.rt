@@ -9,7 +9,7 @@ use super::READY;
 use super::REQUESTED;
 use super::Stepped;
 use super::WAITING;
-use joining::compare::alike;
+use octets::compare::alike;
 use wire::payload::CONNECTION_RESPONSE;
 use wire::payload::DEVICE_RESPONSE;
 use wire::payload::DONE_RESPONSE;

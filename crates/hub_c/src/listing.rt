@@ -3,7 +3,7 @@ use super::reading::of_header;
 use super::words::WRONG_BUFFER;
 use super::words::put_length;
 use lines::listing::LINE;
-use wire::numbers::number16;
+use octets::numbers::number16;
 ghost use mathlib.Core.Path.{_≡_};
 ghost use mathlib.Core.List.{_∷_, []};
 ghost use mathlib.Core.Bool.{cond};

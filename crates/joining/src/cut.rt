@@ -1,9 +1,10 @@
 // The cutter: which bytes of a report stand in piece i.
 ghost use mathlib.Core.Path.{_≡_};
-ghost use Prim.Native.Nat.{_<_, _+_, min};
+ghost use Prim.Native.Nat.{_<_, _+_};
 ghost use lib.ListN.{length};
 ghost use Rattle.joining.specs.Cut.{badSize, pieceCount, cutRefusal, cutCount, cutPiece};
 use super::heard::PIECES;
+use octets::bounds::lesser;
 use rows::next;
 use wire::refusals::WRONG_FRAGMENT_SIZE;
 use wire::refusals::WRONG_PIECE;
@@ -22,15 +23,6 @@ pub fn bad_size(size: usize) -> bool
     ensures { λ r. ⌜ r ≡ badSize size ⌝ }
 {
     (size == 0) | (LARGEST < size)
-}
-
-fn lesser(a: usize, b: usize) -> usize
-    ensures { λ r. ⌜ r ≡ min a b ⌝ }
-{
-    if a < b {
-        return a;
-    }
-    b
 }
 
 // How many pieces a report of so many bytes makes.

@@ -1,5 +1,4 @@
 // Cutting a report into pieces and joining them again: document 01, "Cutting and joining".
-pub mod compare;
 pub mod cut;
 mod heard;
 
@@ -13,6 +12,7 @@ ghost use Rattle.joining.specs.Heard.{come, mark, most, tally};
 ghost use Rattle.joining.specs.Join.{badIndex, unlike, misfit, conflict, join, reportAfter, expecting, turnRows, placeRows, joinRefusal, taken, isLast, Fitting};
 ghost use Rattle.joining.specs.Report.{put};
 use heard::PIECES;
+use octets::compare::alike;
 use rows::next;
 use wire::refusals::FUTURE_SEQUENCE;
 use wire::refusals::LAST_SEQUENCE;
@@ -126,7 +126,7 @@ fn conflict(
     }
     let start = size * index;
     let end = start + payload.len();
-    !compare::alike(&report[start..end], payload)
+    !alike(&report[start..end], payload)
 }
 
 // The first refusal of a piece that is not one of the expected message, 0 where none applies.

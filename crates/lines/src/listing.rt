@@ -1,9 +1,9 @@
 // The listing of document 01: a line for each message of a stream, as far as the stream and the output reach.
 use super::stream::Next;
 use super::stream::ahead;
-use super::text::lacks;
 use super::text::put_field;
 use super::text::put_name;
+use octets::bounds::lacks;
 use wire::header::Header;
 use wire::header::HeaderRead;
 use wire::header::read_header;

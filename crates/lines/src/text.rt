@@ -1,28 +1,15 @@
 // Text that is put into a buffer at a place: numbers in decimal, and a name with a number.
 use super::places::places;
-use writer::stores::store_bytes;
+use octets::bounds::lacks;
+use octets::stores::store_bytes;
 ghost use mathlib.Core.Path.{_≡_};
 ghost use Prim.Native.Nat.{_+_, _%_, _≤_};
 ghost use lib.ListN.{length};
-ghost use lib.Dec.{ltb};
 ghost use lib.Seq.{sets};
 ghost use Rattle.lines.specs.Text.{digits, field, named, putEnd, put};
 
 // The most bytes that a number and the byte behind it take.
 pub const FIELD: usize = 11;
-
-// Whether a buffer of so many bytes lacks room for `need` bytes from a place on.
-pub fn lacks(length: usize, at: usize, need: usize) -> bool
-    ensures { λ r. ⌜ r ≡ ltb length (at + need) ⌝ }
-{
-    if length < need {
-        return true;
-    }
-    if length - need < at {
-        return true;
-    }
-    false
-}
 
 // Puts the last `count` digits of a number at a place, the last one first.
 fn put_digits(number: u32, count: usize, out: &mut [u8], at: usize)

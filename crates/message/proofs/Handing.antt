@@ -1,24 +1,13 @@
 -- The part that the choosing function hands out, by whether the numbers fit.
-use Prim.Native.Nat.{ℕ, _+_, _-_, _≤_, _<_}
-use mathlib.Core.Path.{_≡_, refl, sym, _∙_}
+use Prim.Native.Nat.{ℕ, _+_, _-_, _≤_}
+use mathlib.Core.Path.{_≡_, sym, _∙_}
 use mathlib.Core.List.{List, []}
 use mathlib.Core.Bool.{Bool, true, false}
 use native.Mathlib.Omega.{arith}
 use lib.ListN.{length, take, drop}
 use lib.Dec.{ltb}
-use borrow.Author.Tests.{lt-ltb, le-ltb, ltb-true, ltb-false}
+use borrow.Author.Tests.{ltb-false}
 use Rattle.message.specs.Handed.{partOf, payload}
-
--- Past the end at once, or by what is left.
-pub outside-early : (l from size : ℕ) → l < from → true ≡ ltb l (from + size)
-outside-early l from size h = sym (lt-ltb l (from + size) (omega arith))
-
-pub outside-late : (l from size : ℕ) → from ≤ l → ltb (l - from) size ≡ ltb l (from + size)
-outside-late l from size h = by (ltb l (from + size)) refl
-  where
-    by : (t : Bool) → ltb l (from + size) ≡ t → ltb (l - from) size ≡ ltb l (from + size)
-    by true e = rw e (lt-ltb (l - from) size (omega (arith, ltb-true l (from + size) e)))
-    by false e = rw e (le-ltb (l - from) size (omega (arith, ltb-false l (from + size) e)))
 
 module _ (s : List ℕ) (from size : ℕ) (r : Bool) (e : r ≡ ltb (length s) (from + size)) where
   pub within : r ≡ false → from + size ≤ length s

@@ -1,10 +1,10 @@
 // Reading a message: the header and its chain (1 to 9), a sealed part opened into the working buffer (10 to 13), the payload's shape (14).
+use octets::numbers::number32;
 use rows::next;
 use wire::header::Header;
 use wire::header::HeaderRead;
 use wire::header::is_sealed;
 use wire::header::read_header;
-use wire::numbers::number32;
 use wire::payload::bad_payload;
 use wire::refusals::WRONG_PAYLOAD;
 ghost use mathlib.Core.Path.{_≡_};

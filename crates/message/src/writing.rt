@@ -3,6 +3,7 @@
 //     | header | chain | payload, or sealed part and tag |
 //     0        40    start                          length
 //
+use octets::stores::store_bytes;
 use rows::next;
 use seal::padding::sealed_size;
 use wire::chain::bad_chain;
@@ -24,7 +25,6 @@ use wire::refusals::WRONG_PIECE_SIZE;
 use wire::refusals::WRONG_TYPE;
 use writer::Written;
 use writer::header::write_header;
-use writer::stores::store_bytes;
 ghost use mathlib.Core.Path.{_≡_};
 ghost use mathlib.Core.List.{_++_};
 ghost use Prim.Native.Nat.{_+_, _≤_};

@@ -1,9 +1,9 @@
 // The line of an answer: its name and its number.
 use hub::Answer;
 use lines::listing::LINE;
-use lines::text::lacks;
 use lines::text::put_named;
 use lines::text::put_text;
+use octets::bounds::lacks;
 ghost use mathlib.Core.Path.{_≡_};
 ghost use Prim.Native.Nat.{_+_, _≤_};
 ghost use lib.ListN.{length};

@@ -2,7 +2,7 @@
 //
 //     | size, 4 bytes | payload, size bytes | padding, each byte the number of padding bytes |
 //
-use wire::numbers::number32;
+use octets::numbers::number32;
 ghost use mathlib.Core.Path.{_≡_};
 ghost use mathlib.Core.Bool.{not};
 ghost use Prim.Native.Nat.{_≤_, _-_};

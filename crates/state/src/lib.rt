@@ -7,16 +7,16 @@
 // report may have, here 64. Any bytes of this number are a connection, and any connection is this number of bytes.
 use hub::Connection;
 use joining::Progress;
+use octets::numbers::byte;
+use octets::numbers::number16;
+use octets::numbers::number32;
+use octets::numbers::number64;
+use octets::stores::store_bytes;
+use octets::stores::store8;
+use octets::stores::store16;
+use octets::stores::store32;
+use octets::stores::store64;
 use wire::header::MOST_PIECES;
-use wire::numbers::byte;
-use wire::numbers::number16;
-use wire::numbers::number32;
-use wire::numbers::number64;
-use writer::stores::store_bytes;
-use writer::stores::store8;
-use writer::stores::store16;
-use writer::stores::store32;
-use writer::stores::store64;
 ghost use mathlib.Core.Path.{_≡_};
 ghost use Prim.Native.Nat.{_≤_, _<_, _+_, _*_, _/_, _%_, _^_};
 ghost use lib.Dec.{eqb};

@@ -2,6 +2,5 @@
 // numbers of the refusals. Nothing here knows keys or remembers anything.
 pub mod chain;
 pub mod header;
-pub mod numbers;
 pub mod payload;
 pub mod refusals;

@@ -10,9 +10,9 @@
 //
 use super::header::CONNECT;
 use super::header::DISCOVERY;
-use super::numbers::byte;
-use super::numbers::number16;
-use super::numbers::number32;
+use octets::numbers::byte;
+use octets::numbers::number16;
+use octets::numbers::number32;
 ghost use mathlib.Core.Path.{_≡_};
 ghost use Prim.Native.Nat.{_+_, _<_, _^_};
 ghost use lib.ListN.{length, getD};

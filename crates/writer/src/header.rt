@@ -1,10 +1,10 @@
 // The common header written, down document 01's table "The message on the wire".
 use crate::Written;
-use crate::stores::store8;
-use crate::stores::store16;
-use crate::stores::store32;
-use crate::stores::store64;
 use crate::write_refusal;
+use octets::stores::store8;
+use octets::stores::store16;
+use octets::stores::store32;
+use octets::stores::store64;
 use wire::header::Header;
 ghost use mathlib.Core.Path.{_≡_};
 ghost use mathlib.Core.Bool.{false};

@@ -2,7 +2,6 @@
 // puts its bytes at the start of an output, or refuses and leaves it as it was.
 pub mod header;
 pub mod payload;
-pub mod stores;
 
 use wire::refusals::NO_ROOM;
 use wire::refusals::WRONG_PAYLOAD;

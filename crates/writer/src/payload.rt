@@ -1,10 +1,10 @@
 // The payloads of Discovery and Connect written, each at the start of its output.
 use crate::Written;
-use crate::stores::store_bytes;
-use crate::stores::store8;
-use crate::stores::store16;
-use crate::stores::store32;
 use crate::write_refusal;
+use octets::stores::store_bytes;
+use octets::stores::store8;
+use octets::stores::store16;
+use octets::stores::store32;
 use wire::payload::CONNECTION_REQUEST;
 use wire::payload::CONNECTION_RESPONSE;
 use wire::payload::DEVICE_REQUEST;

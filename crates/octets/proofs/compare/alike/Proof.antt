@@ -11,8 +11,8 @@ use lib.Seq.{take-all, take-suc, length-take-le}
 use borrow.Author.Needs.{needs}
 use Rattle.laws.specs.Same.{same}
 use Rattle.laws.proofs.Sames.{same-length, same-snoc}
-use Rattle.joining.proofs.compare.alike.Statement.{statement}
-use Rattle.joining.proofs.compare.alike.Tie as tie
+use Rattle.octets.proofs.compare.alike.Statement.{statement}
+use Rattle.octets.proofs.compare.alike.Tie as tie
 
 -- One byte more.
 more : (xs ys : List ℕ) (t : Bool) (i : ℕ) → i < length xs → i < length ys → t ≡ same (take i xs) (take i ys)

@@ -6,8 +6,8 @@ use lib.ListN.{length, take, length-take}
 use Rattle.laws.proofs.Lent.{lent-stores}
 use Rattle.laws.proofs.Stores.{sets-past, sets-cut}
 use borrow.Author.Needs.{needs}
-use Rattle.writer.proofs.stores.store_bytes.Statement.{statement}
-use Rattle.writer.proofs.stores.store_bytes.Tie as tie
+use Rattle.octets.proofs.stores.store_bytes.Statement.{statement}
+use Rattle.octets.proofs.stores.store_bytes.Tie as tie
 
 returns : tie.Need-returns
 returns c = let s = c .before .before .before .args in sym (sets-past (s .bytes .now) (s .out .now) (s .at) (omega arith))

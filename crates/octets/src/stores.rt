@@ -1,5 +1,5 @@
 // Big-endian numbers, and runs of bytes, put at a place of a slice. A byte past the end is dropped: whether there is room is judged by
-// lengths. The wider the number, the narrower the type of its place, as in wire's numbers.
+// lengths. The wider the number, the narrower the type of its place, as in numbers.
 ghost use mathlib.Core.Path.{_≡_};
 ghost use mathlib.Core.List.{_∷_, []};
 ghost use lib.Seq.{sets};

@@ -4,8 +4,8 @@ use mathlib.Core.List.{[], _∷_}
 use native.Mathlib.Omega.{arith}
 use Rattle.laws.proofs.Stores.{stored-twice}
 use borrow.Author.Needs.{needs}
-use Rattle.writer.proofs.stores.store16.Statement.{statement}
-use Rattle.writer.proofs.stores.store16.Tie as tie
+use Rattle.octets.proofs.stores.store16.Statement.{statement}
+use Rattle.octets.proofs.stores.store16.Tie as tie
 
 returns : tie.Need-returns
 returns c =

@@ -2,8 +2,8 @@
 use mathlib.Core.Path.{sym}
 use lib.Seq.{set-out}
 use borrow.Author.Needs.{needs}
-use Rattle.writer.proofs.stores.store8.Statement.{statement}
-use Rattle.writer.proofs.stores.store8.Tie as tie
+use Rattle.octets.proofs.stores.store8.Statement.{statement}
+use Rattle.octets.proofs.stores.store8.Tie as tie
 
 returns-2 : tie.Need-returns-2
 returns-2 c = sym (set-out (c .before .args .out .now) (c .before .args .at) (c .before .args .x) (c .if1 .left))

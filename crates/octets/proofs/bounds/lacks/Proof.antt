@@ -1,0 +1,23 @@
+-- Past the end at once, or by what is left.
+use Prim.Native.Nat.{ℕ, _+_, _-_, _≤_}
+use mathlib.Core.Path.{_≡_, sym}
+use native.Mathlib.Omega.{arith}
+use lib.Dec.{ltb}
+use borrow.Author.Tests.{lt-ltb, le-ltb, ltb-true, ltb-false}
+use Rattle.laws.proofs.Cases.{on}
+use Rattle.octets.proofs.bounds.lacks.Statement.{statement}
+use Rattle.octets.proofs.bounds.lacks.Tie as tie
+
+late : (length at need : ℕ) → at ≤ length → ltb (length - at) need ≡ ltb length (at + need)
+late length at need h =
+    on (ltb length (at + need)) (λ e. rw e (lt-ltb (length - at) need (omega (arith, ltb-true length (at + need) e))))
+    (λ e. rw e (le-ltb (length - at) need (omega (arith, ltb-false length (at + need) e))))
+
+returns : tie.Need-returns
+returns c = let a = c .before .args in sym (lt-ltb (a .length) (a .at + a .need) (omega arith))
+
+returns-2 : tie.Need-returns-2
+returns-2 c = late _ _ _ (c .if1 .left)
+
+pub lacks-spec : {M : Type 1} → statement M
+lacks-spec = tie.close (tie.spec returns returns-2)
