@@ -9,7 +9,7 @@ use lib.Dec.{eqb}
 use borrow.Author.Tests.{eqb-true, eq-eqb, le-ltb}
 use Rattle.laws.specs.Bytes.{be8, be16, be32}
 use Rattle.laws.specs.Rows.{first, orElse}
-use Rattle.laws.proofs.Firsts.{first-quiet}
+use Rattle.laws.proofs.Firsts.{first-quiet, neither}
 use Rattle.wire.specs.Fields.{isSealed}
 use Rattle.wire.specs.Chain.{leaves}
 use Rattle.wire.specs.Payload.{badPayload}
@@ -18,7 +18,7 @@ use Rattle.wire.specs.declared.header.Header.{Header}
 use Rattle.wire.proofs.Reading.{read-good}
 use Rattle.seal.specs.Padding.{payloadOf}
 use Rattle.seal.specs.Opening.{sealedPart, noPart, partRefusal, openRefusal, openedInto}
-use Rattle.seal.proofs.Accepted.{neither, accepted}
+use Rattle.seal.proofs.Accepted.{accepted}
 use Rattle.message.specs.Reading.{opened, unless, plainRead, sealedRead, readMessage, workingAfter}
 use Rattle.message.specs.Handed.{partOf, payload}
 use Rattle.message.specs.declared.reading.MessageRead.{MessageRead}
