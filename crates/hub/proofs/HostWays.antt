@@ -11,7 +11,7 @@ use Rattle.wire.specs.declared.payload.Request.{Request}
 use Rattle.hub.specs.declared.Connection.{Connection}
 use Rattle.hub.specs.declared.Stepped.{Stepped}
 use Rattle.hub.specs.declared.Answer.the-variants.{Reply, Again, Failure}
-use Rattle.hub.specs.Host.{stepped, refuse, requested, judged, requestRows, deviceRows, doneRows, ofType, hostRows, firstRow, host}
+use Rattle.hub.specs.Host.{stepped, refuse, requested, withDigestAndState, requestRows, deviceRows, doneRows, ofType, hostRows, firstRow, host}
 
 -- Cases one after the other, a line each as the rows.
 infixr 5 _also_
@@ -43,9 +43,9 @@ module _ (c : Connection) (type session : ℕ) (r : Request) (d : List ℕ) (v :
     refuses : (n : ℕ) → Hosts (refuse c n)
     repeats : (t : ℕ) → Hosts (stepped c (Again t))
     requests : type ≡ 0 → c .state ≡ 0 → Hosts (stepped (requested c session r) (Reply 1))
-    passes : type ≡ 2 → c .state ≡ 1 → Hosts (stepped (judged c d 2) (Reply 3))
-    fails : v ≡ 0 → Hosts (stepped (judged c d 4) Failure)
-    finishes : type ≡ 6 → c .state ≡ 2 → Hosts (stepped (judged c (c .digest) 3) (Reply 7))
+    passes : type ≡ 2 → c .state ≡ 1 → Hosts (stepped (withDigestAndState c d 2) (Reply 3))
+    fails : v ≡ 0 → Hosts (stepped (withDigestAndState c d 4) Failure)
+    finishes : type ≡ 6 → c .state ≡ 2 → Hosts (stepped (withDigestAndState c (c .digest) 3) (Reply 7))
 
   pub host-way : Hosts (host c type session r d v)
   unfolding host

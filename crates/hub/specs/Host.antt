@@ -34,8 +34,8 @@ requested c session r =
     }
 
 -- "remember the SHA-256 of the certificate", and go to a state
-abbrev pub judged : Connection → List ℕ → ℕ → Connection
-judged c digest state =
+abbrev pub withDigestAndState : Connection → List ℕ → ℕ → Connection
+withDigestAndState c digest state =
     record {
       size = c .size;
       state = state;
@@ -68,9 +68,9 @@ requestRows c session r =
 abbrev pub deviceRows : Connection → List ℕ → ℕ → List (Bool × Stepped)
 deviceRows c digest verdict =
     -- State 1, type 2: remember the SHA-256 of the certificate; verdict 1 goes to 2 and replies type 3,
-    (eqb (c .state) 1 && eqb verdict 1, stepped (judged c digest 2) (Reply 3))
+    (eqb (c .state) 1 && eqb verdict 1, stepped (withDigestAndState c digest 2) (Reply 3))
     -- verdict 0 goes to 4 and names Failure.
-    ∷ (eqb (c .state) 1 && eqb verdict 0, stepped (judged c digest 4) Failure)
+    ∷ (eqb (c .state) 1 && eqb verdict 0, stepped (withDigestAndState c digest 4) Failure)
     -- States 2 and 3, type 2 with the same certificate digest: Again, reply type 3, whatever the verdict.
     ∷ (inStates 2 3 c && same (c .digest) digest, stepped c (Again 3))
     ∷ []
@@ -79,7 +79,7 @@ deviceRows c digest verdict =
 abbrev pub doneRows : Connection → List (Bool × Stepped)
 doneRows c =
     -- State 2, type 6: go to 3, reply type 7 with Status 0.
-    (eqb (c .state) 2, stepped (judged c (c .digest) 3) (Reply 7))
+    (eqb (c .state) 2, stepped (withDigestAndState c (c .digest) 3) (Reply 7))
     -- State 3, type 6: Again, same reply.
     ∷ (eqb (c .state) 3, stepped c (Again 7))
     ∷ []

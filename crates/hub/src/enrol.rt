@@ -1,6 +1,6 @@
 // Enrolment: what a Connect message does in each state.
 ghost use mathlib.Core.Path.{_≡_};
-ghost use Rattle.hub.specs.Host.{requestRows, deviceRows, doneRows, hosted, knows, refuse, requested, judged};
+ghost use Rattle.hub.specs.Host.{requestRows, deviceRows, doneRows, hosted, knows, refuse, requested, withDigestAndState};
 use super::Answer;
 use super::Connection;
 use super::FAILED;
@@ -44,8 +44,8 @@ impl Connection {
     }
 
     // The certificate's digest is remembered, in this state.
-    fn judged(self, digest: [u8; 32], state: u8) -> Connection
-        ensures { λ r. ⌜ r ≡ judged self digest state ⌝ }
+    fn with_digest_and_state(self, digest: [u8; 32], state: u8) -> Connection
+        ensures { λ r. ⌜ r ≡ withDigestAndState self digest state ⌝ }
     {
         let mut next = self;
         next.digest = digest;
@@ -93,13 +93,13 @@ impl Connection {
         let state = self.state;
         if (state == REQUESTED) & (verdict == 1) {
             return Stepped {
-                connection: self.judged(digest, PASSED),
+                connection: self.with_digest_and_state(digest, PASSED),
                 answer: Answer::Reply(DEVICE_RESPONSE),
             };
         }
         if (state == REQUESTED) & (verdict == 0) {
             return Stepped {
-                connection: self.judged(digest, FAILED),
+                connection: self.with_digest_and_state(digest, FAILED),
                 answer: Answer::Failure,
             };
         }
@@ -121,7 +121,7 @@ impl Connection {
         if state == PASSED {
             let digest = self.digest;
             return Stepped {
-                connection: self.judged(digest, READY),
+                connection: self.with_digest_and_state(digest, READY),
                 answer: Answer::Reply(DONE_RESPONSE),
             };
         }

@@ -36,14 +36,14 @@ impl Connection {
     fn connect(self, session: u64, payload: &[u8], verdict: u8) -> Stepped
         ensures { λ r. ⌜ r ≡ connect self session (now (payload .entry)) verdict ⌝ }
     {
-        let kind = connect_type(payload);
-        if kind == CONNECTION_REQUEST {
+        let requested = connect_type(payload);
+        if requested == CONNECTION_REQUEST {
             return self.request(session, read_request(payload));
         }
-        if kind == DEVICE_REQUEST {
+        if requested == DEVICE_REQUEST {
             return self.authenticate(certificate_digest(payload), verdict);
         }
-        if kind == DONE_REQUEST {
+        if requested == DONE_REQUEST {
             return self.finish();
         }
         self.refuse(refusals::NOT_ALLOWED)

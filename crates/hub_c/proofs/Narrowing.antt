@@ -10,7 +10,7 @@ use lib.Dec.{eqb, ltb}
 use lib.ListN.{length, drop}
 use borrow.Author.Tests.{lt-ltb, ltb-true, ltb-false, le-leb, ne-eqb}
 use Rattle.laws.proofs.Bools.{or-true}
-use Rattle.wire.specs.Fields.{badKind, badFlags, badPiece, mostPieces}
+use Rattle.wire.specs.Fields.{badType, badFlags, badPiece, mostPieces}
 use Rattle.wire.specs.declared.header.Header.{Header}
 use Rattle.writer.specs.declared.Written.the-variants.{Refused, Bytes}
 use Rattle.message.specs.Writing.{lengthOf, messageBytes, writeRefusal, writeAnswer, writtenInto}
@@ -26,9 +26,9 @@ unfolding narrow
 narrow-over most x e = rw e
 
 -- The tests of numbers that have no room, or are the greatest that has.
-kind-over : (k : ℕ) → 255 ≤ k → badKind k ≡ true
-unfolding badKind
-kind-over k h = rw (ne-eqb k 1 (λ e. omega arith), ne-eqb k 2 (λ e. omega arith), ne-eqb k 4 (λ e. omega arith))
+type-over : (k : ℕ) → 255 ≤ k → badType k ≡ true
+unfolding badType
+type-over k h = rw (ne-eqb k 1 (λ e. omega arith), ne-eqb k 2 (λ e. omega arith), ne-eqb k 4 (λ e. omega arith))
 
 flags-over : (k f : ℕ) → 65535 ≤ f → badFlags k f ≡ true
 unfolding badFlags
@@ -67,20 +67,20 @@ module _ (chain payload : List ℕ) (keys room : ℕ) where
     unfolding writeRefusal
     by true f c i k′ f′ c′ i′ =
         let l = ltb-true 255 (h .kind) k′ in
-        let e = kind-over (h .kind) (omega arith) in
-        inr (rw (narrow-over 255 (h .kind) k′, kind-over 255 (omega arith), e), rw e)
+        let e = type-over (h .kind) (omega arith) in
+        inr (rw (narrow-over 255 (h .kind) k′, type-over 255 (omega arith), e), rw e)
     by false true c i k′ f′ c′ i′ =
         let l = ltb-true 65535 (h .flags) f′ in
         let e = flags-over (h .kind) (h .flags) (omega arith) in
         let g = flags-over (h .kind) 65535 (omega arith) in
-        inr (rw (narrow-fits 255 (h .kind) k′, narrow-over 65535 (h .flags) f′, g, e), rw e (sixth (badKind (h .kind))))
+        inr (rw (narrow-fits 255 (h .kind) k′, narrow-over 65535 (h .flags) f′, g, e), rw e (sixth (badType (h .kind))))
     by false false true i k′ f′ c′ i′ =
         let l = ltb-true 65535 (h .count) c′ in
         let e = count-over (h .kind) (h .index) (h .count) (omega arith) in
         let g = count-over (h .kind) (narrow 65535 (h .index)) 65535 (omega arith) in
         inr (
           rw (narrow-fits 255 (h .kind) k′, narrow-fits 65535 (h .flags) f′, narrow-over 65535 (h .count) c′, g, e),
-          rw e (seventh (badKind (h .kind)) (badFlags (h .kind) (h .flags))),
+          rw e (seventh (badType (h .kind)) (badFlags (h .kind) (h .flags))),
         )
     by false false false true k′ f′ c′ i′ =
         let l = ltb-true 65535 (h .index) i′ in
@@ -89,7 +89,7 @@ module _ (chain payload : List ℕ) (keys room : ℕ) where
         let g = index-over (h .kind) 65535 (h .count) m in
         inr (
           rw (narrow-fits 255 (h .kind) k′, narrow-fits 65535 (h .flags) f′, narrow-fits 65535 (h .count) c′, narrow-over 65535 (h .index) i′, g, e),
-          rw e (seventh (badKind (h .kind)) (badFlags (h .kind) (h .flags))),
+          rw e (seventh (badType (h .kind)) (badFlags (h .kind) (h .flags))),
         )
     by false false false false k′ f′ c′ i′ =
         inl

@@ -8,7 +8,7 @@ use lib.ListN.{length, set, length-append}
 use lib.Seq.{sets, set-comm}
 use Rattle.laws.proofs.Firsts.{first-upTo}
 use Rattle.laws.proofs.Stores.{sets-sets}
-use Rattle.lines.specs.Text.{digits, placeRows, places, field}
+use Rattle.lines.specs.Text.{digits, digitRows, digitCount, field}
 
 pub length-digits : (k n : ℕ) → length (digits k n) ≡ k
 unfolding digits
@@ -38,10 +38,10 @@ put-last out at k n d h e =
     (sets-sets ds ((48 + n % 10) ∷ []) out at (at + (k - 1)) (omega arith))
 
 -- A number below 2^32 has at most ten digits.
-pub few-places : (n : ℕ) → places n ≤ 10
-unfolding places
-few-places n = first-upTo 10 (placeRows n) refl
+pub few-digits : (n : ℕ) → digitCount n ≤ 10
+unfolding digitCount
+few-digits n = first-upTo 10 (digitRows n) refl
 
-pub length-field : (n b : ℕ) → length (field n b) ≡ places n + 1
+pub length-field : (n b : ℕ) → length (field n b) ≡ digitCount n + 1
 unfolding field
-length-field n b = rw length-append (omega (arith, length-digits (places n) n))
+length-field n b = rw length-append (omega (arith, length-digits (digitCount n) n))

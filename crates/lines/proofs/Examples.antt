@@ -4,16 +4,16 @@ use mathlib.Core.List.{[]}
 use mathlib.Core.Bool.{true}
 use Rattle.wire.specs.Examples.{p1}
 use Rattle.wire.specs.Chain.{entryOf, chain, mostEntries, readChain}
-use Rattle.wire.specs.Fields.{badKind, badFlags, badPiece, mostPieces, isSealed, tagSize}
+use Rattle.wire.specs.Fields.{badType, badFlags, badPiece, mostPieces, isSealed, tagSize}
 use Rattle.wire.specs.Reader.{roomOf, chainOf, headerRows, rowsOf, refusalWith, refusalOf, readHeader, wanted}
-use Rattle.lines.specs.Text.{digits, places, field}
+use Rattle.lines.specs.Text.{digits, digitCount, field}
 use Rattle.lines.specs.Stream.{ahead}
 use Rattle.lines.specs.Listing.{headerLine, lineOf, turnAt, turn, manyTurns, list}
 use Rattle.lines.specs.Examples.{p1Line, ended, outputRoom}
 
 -- "For the message of P1 the whole output is `1 0 0 1 43` and a newline".
 pub p1-listed : list p1 true outputRoom ≡ ended 43 p1Line
-unfolding list manyTurns turn turnAt ahead wanted lineOf headerLine field places digits readHeader refusalOf refusalWith rowsOf headerRows chainOf roomOf readChain mostEntries chain entryOf badKind badFlags badPiece mostPieces isSealed tagSize
+unfolding list manyTurns turn turnAt ahead wanted lineOf headerLine field digitCount digits readHeader refusalOf refusalWith rowsOf headerRows chainOf roomOf readChain mostEntries chain entryOf badType badFlags badPiece mostPieces isSealed tagSize
 p1-listed = refl
 
 -- "for no input, nothing".

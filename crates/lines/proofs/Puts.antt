@@ -6,7 +6,7 @@ use borrow.Author.Tests.{lt-ltb, le-ltb}
 use lib.ListN.{length, set}
 use lib.Seq.{sets}
 use Rattle.laws.proofs.Stores.{stored-twice}
-use Rattle.lines.specs.Text.{digits, places, field, put, putEnd}
+use Rattle.lines.specs.Text.{digits, digitCount, field, put, putEnd}
 use Rattle.lines.proofs.Digits.{length-digits}
 
 module _ (need at : ℕ) (text out : List ℕ) where
@@ -19,7 +19,7 @@ module _ (need at : ℕ) (text out : List ℕ) where
   room h = (rw (le-ltb (length out) (at + need) h), rw (le-ltb (length out) (at + need) h))
 
 -- The digits of a number, then the byte behind them.
-pub field-put : (out mid : List ℕ) (at n b count : ℕ) → count ≡ places n → mid ≡ sets out at (digits count n)
+pub field-put : (out mid : List ℕ) (at n b count : ℕ) → count ≡ digitCount n → mid ≡ sets out at (digits count n)
     → set mid (at + count) b ≡ sets out at (field n b)
 unfolding field
 field-put out mid at n b count e p =

@@ -14,8 +14,8 @@ digits zero n = []
 digits (suc k) n = digits k (n / 10) ++ ((48 + n % 10) ∷ [])
 
 -- The number of digits, and the power of ten that a number of so many digits does not reach.
-abbrev pub placeRows : ℕ → List (ℕ × Bool)
-placeRows n =
+abbrev pub digitRows : ℕ → List (ℕ × Bool)
+digitRows n =
     (1, ltb n 10)
     ∷ (2, ltb n 100)
     ∷ (3, ltb n 1000)
@@ -29,12 +29,12 @@ placeRows n =
     ∷ []
 
 -- How many digits a number below 2^32 has.
-unfoldable pub places : ℕ → ℕ
-places n = first (placeRows n)
+unfoldable pub digitCount : ℕ → ℕ
+digitCount n = first (digitRows n)
 
 -- A number in decimal, with no digit too many.
 abbrev pub decimal : ℕ → List ℕ
-decimal n = digits (places n) n
+decimal n = digits (digitCount n) n
 
 -- A number in decimal, and a byte behind it.
 unfoldable pub field : ℕ → ℕ → List ℕ

@@ -1,5 +1,5 @@
 // Text that is put into a buffer at a place: numbers in decimal, and a name with a number.
-use super::places::places;
+use super::digit_count::digit_count;
 use octets::bounds::lacks;
 use octets::stores::store_bytes;
 ghost use mathlib.Core.Path.{_≡_};
@@ -39,7 +39,7 @@ pub(crate) fn put_field(number: u32, behind: u8, out: &mut [u8], at: usize) -> u
     ensures { λ r. ⌜ r ≡ at + length (field number behind) ⌝ }
     ensures { λ _. ⌜ now (out .exit) ≡ sets (now (out .entry)) at (field number behind) ⌝ }
 {
-    let count = places(number);
+    let count = digit_count(number);
     put_digits(number, count, out, at);
     let end = at + count;
     out[end] = behind;

@@ -11,7 +11,7 @@ use Rattle.laws.proofs.Bools.{and-false-right}
 use Rattle.laws.specs.Rows.{testOf}
 use Rattle.laws.proofs.Firsts.{row-false}
 use Rattle.wire.specs.Refusals.{wrongType, wrongFlags, wrongPiece, wrongChain, wrongKeys, wrongPayload, wrongPieceSize, noRoom}
-use Rattle.wire.specs.Fields.{badKind, badFlags, badPiece, isSealed}
+use Rattle.wire.specs.Fields.{badType, badFlags, badPiece, isSealed}
 use Rattle.wire.specs.Chain.{badChain}
 use Rattle.wire.specs.Payload.{badPayload}
 use Rattle.writer.specs.Header.{headerBytes}
@@ -27,7 +27,7 @@ use Rattle.message.proofs.WrittenSizes.{payload-short}
 
 -- What the table leaves.
 pub record Allowed (h : Header) (chain payload : List ℕ) (keys room : ℕ) : Type 0 where
-  pub kind : badKind (h .kind) ≡ false
+  pub kind : badType (h .kind) ≡ false
   pub flags : badFlags (h .kind) (h .flags) ≡ false
   pub piece : badPiece (h .kind) (h .index) (h .count) ≡ false
   pub chained : badChain chain ≡ false

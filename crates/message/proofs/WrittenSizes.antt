@@ -10,7 +10,7 @@ use lib.ListN.{length, drop, length-drop}
 use lib.Dec.{ltb, leb, eqb}
 use Rattle.laws.specs.Bytes.{be8, be16, be32}
 use Rattle.laws.proofs.Bools.{or-false, and-true, and-false-right}
-use Rattle.wire.specs.Fields.{badKind}
+use Rattle.wire.specs.Fields.{badType}
 use Rattle.wire.specs.Chain.{entryOf, follow, chain, readChain, mostEntries, leaves, isBroken, badChain}
 use Rattle.wire.specs.Payload.{starts, exchanges, isPresenceRequest, isConnectionRequest, isConnectionResponse, isDeviceAuthentication, isDoneRequest, isDoneResponse, hasShape, shapes, isShaped, sealedAs, badPayload}
 use Rattle.wire.specs.declared.chain.Chain.{Chain}
@@ -92,14 +92,14 @@ module _ (p : List ℕ) where
       by (inl a) = omega (arith, exchange-size (and-true (eqb (be8 p 3) 1) (exchanges p) a .1))
       by (inr a) = omega (arith, eqb-true (length p) 4 (and-true (not (eqb (be8 p 3) 1) && leb (be8 p 3) 3) (eqb (length p) 4) a .1))
 
-  device-short : (kind : ℕ) → isDeviceAuthentication kind p ≡ true → length p ≤ 16384
+  device-short : (connect : ℕ) → isDeviceAuthentication connect p ≡ true → length p ≤ 16384
   unfolding isDeviceAuthentication
-  device-short kind e =
+  device-short connect e =
       let c = be16 p 3 in
       let t = be16 p (5 + be16 p 3) in
-      let a = and-true (starts kind p && leb 1 c && leb c 2048 && leb t 512) (eqb (length p) (7 + c + t)) e in
-      let b = and-true (starts kind p && leb 1 c && leb c 2048) (leb t 512) (a .0) in
-      let d = and-true (starts kind p && leb 1 c) (leb c 2048) (b .0) in
+      let a = and-true (starts connect p && leb 1 c && leb c 2048 && leb t 512) (eqb (length p) (7 + c + t)) e in
+      let b = and-true (starts connect p && leb 1 c && leb c 2048) (leb t 512) (a .0) in
+      let d = and-true (starts connect p && leb 1 c) (leb c 2048) (b .0) in
       let l = eqb-true (length p) (7 + c + t) (a .1) in
       let k = leb-true c 2048 (d .1) in
       let j = leb-true t 512 (b .1) in
@@ -134,7 +134,7 @@ module _ (p : List ℕ) where
       (presence-short, (request-short, (response-short, (device-short 2, (device-short 3, (done-request-short, (done-response-short, tt)))))))
       e
 
-  pub payload-short : (kind : ℕ) (sealed : Bool) → badKind kind ≡ false → badPayload kind sealed p ≡ false
+  pub payload-short : (kind : ℕ) (sealed : Bool) → badType kind ≡ false → badPayload kind sealed p ≡ false
       → (eqb kind 4 && ltb 16384 (length p)) ≡ false → length p ≤ 16384
   unfolding badPayload
   payload-short kind sealed k b e = by (kinds kind k)

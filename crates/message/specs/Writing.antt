@@ -7,7 +7,7 @@ use lib.ListN.{length, drop}
 use lib.Dec.{ltb, eqb}
 use Rattle.laws.specs.Rows.{first}
 use Rattle.wire.specs.Refusals.{wrongType, wrongFlags, wrongPiece, wrongChain, wrongKeys, wrongPayload, wrongPieceSize, noRoom}
-use Rattle.wire.specs.Fields.{badKind, badFlags, badPiece, isSealed}
+use Rattle.wire.specs.Fields.{badType, badFlags, badPiece, isSealed}
 use Rattle.wire.specs.Chain.{badChain}
 use Rattle.wire.specs.Payload.{badPayload}
 use Rattle.writer.specs.Header.{headerBytes}
@@ -29,7 +29,7 @@ mostPayload = 16384
 -- "5, 6, 7".
 abbrev pub fieldRows : Header → List (ℕ × Bool)
 fieldRows h =
-    (wrongType, badKind (h .kind))
+    (wrongType, badType (h .kind))
     ∷ (wrongFlags, badFlags (h .kind) (h .flags))
     ∷ (wrongPiece, badPiece (h .kind) (h .index) (h .count))
     ∷ []

@@ -11,8 +11,8 @@ use wire::header::Header;
 use wire::header::SESSION;
 use wire::header::TAG;
 use wire::header::bad_flags;
-use wire::header::bad_kind;
 use wire::header::bad_piece;
+use wire::header::bad_type;
 use wire::header::is_sealed;
 use wire::payload::bad_payload;
 use wire::refusals::NO_ROOM;
@@ -54,7 +54,7 @@ fn finished_length(sealed: bool, chain: usize, payload: usize) -> usize
 fn bad_fields(h: Header) -> u8
     ensures { λ r. ⌜ r ≡ first (fieldRows h) ⌝ }
 {
-    let n = next(0, WRONG_TYPE, bad_kind(h.kind));
+    let n = next(0, WRONG_TYPE, bad_type(h.kind));
     let n = next(n, WRONG_FLAGS, bad_flags(h.kind, h.flags));
     next(n, WRONG_PIECE, bad_piece(h.kind, h.index, h.count))
 }

@@ -6,7 +6,7 @@ use mathlib.Core.Bool.{false, not, and-false}
 use native.Mathlib.Omega.{arith}
 use lib.ListN.{length, replicate}
 use borrow.Author.Tests.{eq-eqb, le-ltb}
-use Rattle.wire.specs.Fields.{badKind, badFlags, badPiece, mostPieces, isSealed}
+use Rattle.wire.specs.Fields.{badType, badFlags, badPiece, mostPieces, isSealed}
 use Rattle.wire.specs.Payload.{starts, exchanges, isConnectionRequest, isDeviceAuthentication, isDoneRequest, isShaped, badPayload, readRequest}
 use Rattle.wire.specs.declared.header.Header.{Header}
 use Rattle.sha256.specs.Digests.{digest}
@@ -17,7 +17,7 @@ use Rattle.hub.specs.declared.Connection.{Connection}
 use Rattle.hub.specs.declared.Stepped.{Stepped}
 use Rattle.hub.specs.declared.Answer.the-variants.{Reply}
 use Rattle.hub.specs.Opening.{blank}
-use Rattle.hub.specs.Host.{host, stepped, requested, judged}
+use Rattle.hub.specs.Host.{host, stepped, requested, withDigestAndState}
 use Rattle.hub.specs.Hear.{certificate, connect, isForeign, heard, reportHeard}
 use Rattle.promises.specs.Refusals.{AreBytes}
 use Rattle.promises.specs.Written.{Wrote}
@@ -87,7 +87,7 @@ module _ (keys report : List ℕ) (of-keys : AreBytes keys) (whole : length keys
   -- A message whose flags and payload are not refused is written.
   written : (flags : ℕ) (bytes : List ℕ) → flags < 65536 → AreBytes bytes → badFlags 2 flags ≡ false → badPayload 2 (isSealed flags) bytes ≡ false
       → Wrote (header flags) end bytes keys (messageBytes (header flags) end bytes keys)
-  unfolding writeRefusal badKind badPiece mostPieces
+  unfolding writeRefusal badType badPiece mostPieces
   written flags bytes l b f p =
       let n = lengthOf (header flags) end bytes in
       wrote (header flags) end bytes keys (widths flags l) (are-bytes end refl) b of-keys
@@ -110,10 +110,10 @@ module _ (keys report : List ℕ) (of-keys : AreBytes keys) (whole : length keys
     waiting = requested (blank F) 7 (readRequest requestBytes)
 
     abbrev passed : Connection
-    passed = judged waiting (digest (certificate deviceBytes)) 2
+    passed = withDigestAndState waiting (digest (certificate deviceBytes)) 2
 
     abbrev ready : Connection
-    ready = judged passed (passed .digest) 3
+    ready = withDigestAndState passed (passed .digest) 3
 
     requests : heard (blank F) (header 0) requestBytes report 1 ≡ stepped waiting (Reply 1)
     unfolding heard connect host

@@ -18,7 +18,7 @@ use Rattle.hub.specs.declared.Connection.{Connection}
 use Rattle.hub.specs.declared.Stepped.{Stepped}
 use Rattle.hub.specs.declared.Answer.the-variants.{Reply, Again}
 use Rattle.hub.specs.Answers.{answerOf}
-use Rattle.hub.specs.Host.{host, stepped, requested, judged, knows}
+use Rattle.hub.specs.Host.{host, stepped, requested, withDigestAndState, knows}
 use Rattle.hub.specs.Hear.{certificate, connect, pieceIn, isForeign, heard}
 use Rattle.hub.proofs.HostWays.{refuses, repeats, requests, passes, fails, finishes}
 use Rattle.hub.proofs.StepCases.{Connects, connect-way, heard-cases}
@@ -106,9 +106,9 @@ module _ (c : Connection) (sized : badSize (c .size) ≡ false) (h : Header) (p 
         (request k (rw (same-refl (r .nonce), same-refl (r .x), same-refl (r .y))))) t e
     connect-replied _ (passes k s) t e =
         let d = digest (certificate p) in
-        as-told (judged c d 2) 3 (known _ 3 refl (ours (omega arith)) (omega arith) (omega arith) (device k (omega arith) (same-refl d))) t e
+        as-told (withDigestAndState c d 2) 3 (known _ 3 refl (ours (omega arith)) (omega arith) (omega arith) (device k (omega arith) (same-refl d))) t e
     connect-replied _ (finishes k s) t e =
-        as-told (judged c (c .digest) 3) 7 (known _ 7 refl (ours (omega arith)) (omega arith) (omega arith) (finish k refl)) t e
+        as-told (withDigestAndState c (c .digest) 3) 7 (known _ 7 refl (ours (omega arith)) (omega arith) (omega arith) (finish k refl)) t e
 
   pub heard-replied : Replied (heard c h p report v)
   heard-replied =

@@ -10,7 +10,7 @@ use Rattle.hub.specs.declared.Connection.{Connection}
 use Rattle.hub.specs.declared.Stepped.{Stepped}
 use Rattle.hub.specs.declared.Answer.the-variants.{Failure}
 use Rattle.hub.specs.Answers.{answerOf}
-use Rattle.hub.specs.Host.{judged}
+use Rattle.hub.specs.Host.{withDigestAndState}
 use Rattle.hub.specs.Hear.{certificate}
 use Rattle.hub.specs.Step.{step}
 use Rattle.hub.proofs.HostWays.{refuses, repeats, requests, passes, fails, finishes}
@@ -36,7 +36,7 @@ module _ (c : Connection) (low : 1 ≤ c .state) (high : c .state ≤ 3) where
   same-kept : Keeps c c
   same-kept = record { size = refl; session = refl; nonce = refl; x = refl; y = refl; up = omega arith; top = high; digest = λ l. refl }
 
-  moved : (d : List ℕ) (state : ℕ) → c .state ≤ state → state ≤ 3 → (2 ≤ c .state → d ≡ c .digest) → Keeps c (judged c d state)
+  moved : (d : List ℕ) (state : ℕ) → c .state ≤ state → state ≤ 3 → (2 ≤ c .state → d ≡ c .digest) → Keeps c (withDigestAndState c d state)
   moved d state u t e = record { size = refl; session = refl; nonce = refl; x = refl; y = refl; up = u; top = t; digest = e }
 
   connect-kept : (v session : ℕ) (p : List ℕ) (s : Stepped) → Connects c session p v s → Kept s

@@ -7,7 +7,7 @@ use native.Mathlib.Omega.{arith}
 use lib.ListN.{length, take, drop, replicate, length-replicate}
 use lib.Seq.{take-at}
 use borrow.Author.Tests.{eq-eqb, ne-eqb, le-ltb, lt-leb}
-use Rattle.wire.specs.Fields.{badKind, badFlags, badPiece, isSealed, mostPieces}
+use Rattle.wire.specs.Fields.{badType, badFlags, badPiece, isSealed, mostPieces}
 use Rattle.wire.specs.Payload.{badPayload}
 use Rattle.wire.specs.declared.header.Header.{Header}
 use Rattle.writer.specs.declared.Written.the-variants.{Bytes}
@@ -123,7 +123,7 @@ module _ (s : Sending) (f : Fair s) (t : Typed s) (i : ℕ) (l : i < fragments s
         }
 
     allowed : writeRefusal h (d .chain) (fragment s i) (length (s .keys)) (lengthOf h (d .chain) (fragment s i)) ≡ 0
-    unfolding writeRefusal badKind badPayload
+    unfolding writeRefusal badType badPayload
     allowed =
         let n = lengthOf h (d .chain) (fragment s i) in
         rw (

@@ -9,7 +9,7 @@ use lib.Dec.{ltb, leb, eqb}
 use Rattle.laws.specs.Bytes.{be8, be16, be32}
 use Rattle.laws.specs.Rows.{leads, quiet}
 use Rattle.laws.specs.Same.{same}
-use Rattle.wire.specs.Fields.{badKind, badFlags, badPiece, isSealed, tagSize}
+use Rattle.wire.specs.Fields.{badType, badFlags, badPiece, isSealed, tagSize}
 use Rattle.wire.specs.Chain.{leaves, isBroken, badChain}
 use Rattle.wire.specs.Payload.{badPayload, connectType, readRequest}
 use Rattle.wire.specs.Reader.{headerOf, chainOf}
@@ -58,7 +58,7 @@ module _ (m : List ℕ) where
       -- version not 3
       ∷ (4, not (eqb (be8 m 4) 3))
       -- type not 1, 2, 4
-      ∷ (5, badKind (be8 m 5))
+      ∷ (5, badType (be8 m 5))
       -- a flag above 8; flags 2 and 4 not alike; sealed Discovery; plain Session
       ∷ (6, badFlags (be8 m 5) (be16 m 6))
       -- count 0 or over 64; index not under count; count not 1 outside Session
@@ -199,7 +199,7 @@ CutterExact = (F bytes i n : ℕ) → (n ≡ 0 → ⊥) → (cutRefusal F bytes 
 -- that order".
 abbrev pub writerTable : Header → (chain payload : List ℕ) → (keys room : ℕ) → List (ℕ × Bool)
 writerTable h chain payload keys room =
-    (5, badKind (h .kind))
+    (5, badType (h .kind))
     ∷ (6, badFlags (h .kind) (h .flags))
     ∷ (7, badPiece (h .kind) (h .index) (h .count))
     ∷ (8, badChain chain)

@@ -41,8 +41,8 @@ shown n = cond (ltb n 4294967295) n 4294967295
 -- report's length.
 unfoldable pub answerLine : Answer → List ℕ
 answerLine (Refused n) = named refusedName n
-answerLine (Reply kind) = named replyName kind
-answerLine (Again kind) = named againName kind
+answerLine (Reply connect) = named replyName connect
+answerLine (Again connect) = named againName connect
 answerLine Failure = failureLine
 answerLine (Taken heard) = named takenName (shown heard)
 answerLine (Repeat heard) = named repeatName (shown heard)

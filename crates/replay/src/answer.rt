@@ -48,8 +48,8 @@ fn put_line(answer: Answer, out: &mut [u8], at: usize) -> usize
 {
     match answer {
         Answer::Refused(number) => put_word(b"refused ", number as u32, out, at),
-        Answer::Reply(kind) => put_word(b"reply ", kind as u32, out, at),
-        Answer::Again(kind) => put_word(b"again ", kind as u32, out, at),
+        Answer::Reply(connect) => put_word(b"reply ", connect as u32, out, at),
+        Answer::Again(connect) => put_word(b"again ", connect as u32, out, at),
         Answer::Failure => put_text(b"failure\n", out, at),
         Answer::Taken(heard) => put_count(b"taken ", heard, out, at),
         Answer::Repeat(heard) => put_count(b"repeat ", heard, out, at),

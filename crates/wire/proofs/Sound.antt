@@ -15,7 +15,7 @@ use Rattle.laws.proofs.Firsts.{row-false}
 use Rattle.laws.proofs.Bools.{or-false, or4-false, and-true, and-false-right}
 use Rattle.wire.specs.Refusals.{tooShort, wrongSignature, wrongLength, wrongVersion, wrongType, wrongFlags, wrongPiece, wrongChain, wrongSealedSize}
 use Rattle.wire.specs.Chain.{readChain, leaves, isBroken}
-use Rattle.wire.specs.Fields.{badKind, badFlags, badPiece, mostPieces, isSealed, hmacFlag, encryptedFlag, tagSize}
+use Rattle.wire.specs.Fields.{badType, badFlags, badPiece, mostPieces, isSealed, hmacFlag, encryptedFlag, tagSize}
 use Rattle.wire.specs.Reader.{headerOf, roomOf, chainOf, headerRows, rowsOf, refusalWith, refusalOf, readHeader}
 use Rattle.wire.specs.declared.chain.Chain.{Chain}
 use Rattle.wire.specs.declared.header.Header.{Header}
@@ -25,16 +25,16 @@ use Rattle.wire.proofs.Reading.{read-refused, read-good}
 
 -- The tests of 5, 6 and 7 as facts.
 
-not-kind : (k : ℕ) (a b c : Bool) → eqb k 1 ≡ a → eqb k 2 ≡ b → eqb k 4 ≡ c → (not a && not b && not c) ≡ false
+not-type : (k : ℕ) (a b c : Bool) → eqb k 1 ≡ a → eqb k 2 ≡ b → eqb k 4 ≡ c → (not a && not b && not c) ≡ false
     → (k ≡ 1) ⊎ (k ≡ 2) ⊎ (k ≡ 4)
-not-kind k true b c p q r e = inl (eqb-true k 1 p)
-not-kind k false true c p q r e = inr (inl (eqb-true k 2 q))
-not-kind k false false true p q r e = inr (inr (eqb-true k 4 r))
-not-kind k false false false p q r e = absurd (true≢false e)
+not-type k true b c p q r e = inl (eqb-true k 1 p)
+not-type k false true c p q r e = inr (inl (eqb-true k 2 q))
+not-type k false false true p q r e = inr (inr (eqb-true k 4 r))
+not-type k false false false p q r e = absurd (true≢false e)
 
-pub kinds : (kind : ℕ) → badKind kind ≡ false → (kind ≡ 1) ⊎ (kind ≡ 2) ⊎ (kind ≡ 4)
-unfolding badKind
-kinds kind e = not-kind kind _ _ _ refl refl refl e
+pub kinds : (kind : ℕ) → badType kind ≡ false → (kind ≡ 1) ⊎ (kind ≡ 2) ⊎ (kind ≡ 4)
+unfolding badType
+kinds kind e = not-type kind _ _ _ refl refl refl e
 
 pub record Piece (index count : ℕ) : Type 0 where
   pub some : 1 ≤ count
@@ -84,7 +84,7 @@ pub record Good (m : List ℕ) : Type 0 where
   pub signature : be16 m 0 ≡ 0x3030
   pub size : be16 m 2 ≡ length m
   pub version : be8 m 4 ≡ 3
-  pub kind : badKind (be8 m 5) ≡ false
+  pub kind : badType (be8 m 5) ≡ false
   pub flags : badFlags (be8 m 5) (be16 m 6) ≡ false
   pub piece : badPiece (be8 m 5) (be16 m 20) (be16 m 22) ≡ false
   pub chained : isBroken (chainOf m) ≡ false

@@ -4,8 +4,8 @@ use mathlib.Core.Bool.{Bool, not, _&&_, _||_}
 use lib.Dec.{ltb, leb, eqb}
 
 -- Refusal 5: "type not 1, 2, 4". 1 is Discovery, 2 Connect, 4 Session.
-unfoldable pub badKind : ℕ → Bool
-badKind kind = not (eqb kind 1) && not (eqb kind 2) && not (eqb kind 4)
+unfoldable pub badType : ℕ → Bool
+badType kind = not (eqb kind 1) && not (eqb kind 2) && not (eqb kind 4)
 
 -- Flag 2, "HMAC present".
 abbrev pub hmacFlag : ℕ → ℕ

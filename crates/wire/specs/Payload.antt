@@ -11,7 +11,7 @@ use Rattle.wire.specs.declared.payload.Place.{Place}
 
 -- "Each starts with ConnectionMode (2 bytes, 0 to 2) and a type byte."
 unfoldable pub starts : ℕ → List ℕ → Bool
-starts kind p = leb (be16 p 0) 2 && eqb (be8 p 2) kind
+starts connect p = leb (be16 p 0) 2 && eqb (be8 p 2) connect
 
 -- "HMACSize 32 (2), Nonce (8), fragment size 16,384 (4), X length 32 (2), X, Y length 32 (2), Y. 86 bytes in all."
 unfoldable pub exchanges : List ℕ → Bool
@@ -36,8 +36,8 @@ isConnectionResponse p =
 -- "2 and 3 Device Authentication Request and Response: certificate length 1 to 2,048 (2), certificate, thumbprint length 0 to 512 (2),
 -- thumbprint, nothing after it."
 unfoldable pub isDeviceAuthentication : ℕ → List ℕ → Bool
-isDeviceAuthentication kind p =
-    starts kind p && leb 1 (be16 p 3) && leb (be16 p 3) 2048 && leb (be16 p (5 + be16 p 3)) 512
+isDeviceAuthentication connect p =
+    starts connect p && leb 1 (be16 p 3) && leb (be16 p 3) 2048 && leb (be16 p (5 + be16 p 3)) 512
     && eqb (length p) (7 + be16 p 3 + be16 p (5 + be16 p 3))
 
 -- "6 Authentication Done Request: nothing more, 3 bytes."
@@ -83,8 +83,8 @@ abbrev pub connectType : List ℕ → ℕ
 connectType p = getD p 2 255
 
 -- The Result of a Connection Response, the Status of an Authentication Done Response; 255 where there is none.
-abbrev pub resultOf : List ℕ → ℕ
-resultOf p = getD p 3 255
+abbrev pub codeOf : List ℕ → ℕ
+codeOf p = getD p 3 255
 
 -- Nonce, X and Y, each at its place.
 unfoldable pub readRequest : List ℕ → Request

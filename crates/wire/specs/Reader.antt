@@ -7,7 +7,7 @@ use lib.Dec.{ltb, eqb}
 use Rattle.laws.specs.Bytes.{be8, be16, be32, be64}
 use Rattle.laws.specs.Rows.{first}
 use Rattle.wire.specs.Refusals.{tooShort, wrongSignature, wrongLength, wrongVersion, wrongType, wrongFlags, wrongPiece, wrongChain, wrongSealedSize}
-use Rattle.wire.specs.Fields.{badKind, badFlags, badPiece, isSealed, tagSize}
+use Rattle.wire.specs.Fields.{badType, badFlags, badPiece, isSealed, tagSize}
 use Rattle.wire.specs.Chain.{readChain, leaves, isBroken}
 use Rattle.wire.specs.declared.chain.Chain.{Chain}
 use Rattle.wire.specs.declared.header.Header.{Header}
@@ -46,7 +46,7 @@ headerRows given signature size version h broken rest =
     ∷ (wrongSignature, not (eqb signature 0x3030))
     ∷ (wrongLength, ltb size 42 || not (eqb size given))
     ∷ (wrongVersion, not (eqb version 3))
-    ∷ (wrongType, badKind (h .kind))
+    ∷ (wrongType, badType (h .kind))
     ∷ (wrongFlags, badFlags (h .kind) (h .flags))
     ∷ (wrongPiece, badPiece (h .kind) (h .index) (h .count))
     ∷ (wrongChain, broken)

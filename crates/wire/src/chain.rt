@@ -28,15 +28,15 @@ fn read_entry(room: &[u8]) -> Entry
     if room.len() < 2 {
         return Entry::Wrong;
     }
-    let kind = room[0];
+    let entry_type = room[0];
     let size = room[1] as usize;
-    if kind == 0 {
+    if entry_type == 0 {
         if size == 0 {
             return Entry::End;
         }
         return Entry::Wrong;
     }
-    if 3 < kind {
+    if 3 < entry_type {
         return Entry::Wrong;
     }
     if room.len() < 2 + size {

@@ -25,7 +25,7 @@ ghost use mathlib.Core.Path.{_≡_};
 ghost use Prim.Native.Nat.{_≤_};
 ghost use Rattle.laws.specs.Rows.{first};
 ghost use Rattle.wire.specs.Chain.{readChain};
-ghost use Rattle.wire.specs.Fields.{badKind, badFlags, badPiece, isSealed, tagSize};
+ghost use Rattle.wire.specs.Fields.{badType, badFlags, badPiece, isSealed, tagSize};
 ghost use Rattle.wire.specs.Reader.{emptyHeader, headerOf, roomOf, headerRows, refusalWith, readHeader, wanted};
 
 // Discovery: a message type.
@@ -44,7 +44,7 @@ pub const TAG: usize = 32;
 // The fewest bytes of a message: the fixed header and the end of its chain.
 pub const SHORTEST: usize = Header::LENGTH + 2;
 
-// The fields that a sender chooses. `kind` is MessageType.
+// The fields that a sender chooses. `kind` is MessageType, here and everywhere.
 pub struct Header {
     pub kind: u8,
     pub flags: u16,
@@ -73,7 +73,7 @@ impl Header {
 
     pub const VERSION_AT: usize = 4;
 
-    pub const KIND_AT: usize = 5;
+    pub const TYPE_AT: usize = 5;
 
     pub const FLAGS_AT: u32 = 6;
 
@@ -107,8 +107,8 @@ impl Header {
 }
 
 // Refusal 5.
-pub fn bad_kind(kind: u8) -> bool
-    ensures { λ r. ⌜ r ≡ badKind kind ⌝ }
+pub fn bad_type(kind: u8) -> bool
+    ensures { λ r. ⌜ r ≡ badType kind ⌝ }
 {
     (kind != DISCOVERY) & (kind != CONNECT) & (kind != SESSION)
 }
@@ -150,7 +150,7 @@ fn fields(message: &[u8]) -> Header
     ensures { λ r. ⌜ r ≡ headerOf (now (message .entry)) ⌝ }
 {
     Header {
-        kind: byte(message, Header::KIND_AT),
+        kind: byte(message, Header::TYPE_AT),
         flags: number16(message, Header::FLAGS_AT),
         sequence: number32(message, Header::SEQUENCE_AT),
         request: number64(message, Header::REQUEST_AT),
@@ -191,7 +191,7 @@ fn judge(
     let n = next(n, WRONG_SIGNATURE, signature != Header::SIGNATURE);
     let n = next(n, WRONG_LENGTH, (length < SHORTEST) | (length != given));
     let n = next(n, WRONG_VERSION, version != Header::VERSION);
-    let n = next(n, WRONG_TYPE, bad_kind(h.kind));
+    let n = next(n, WRONG_TYPE, bad_type(h.kind));
     let n = next(n, WRONG_FLAGS, bad_flags(h.kind, h.flags));
     let n = next(n, WRONG_PIECE, bad_piece(h.kind, h.index, h.count));
     let n = next(n, WRONG_CHAIN, broken);

@@ -29,7 +29,7 @@ ghost use Rattle.wire.specs.Payload.{
   isShaped,
   badPayload,
   connectType,
-  resultOf,
+  codeOf,
   readRequest,
   certificateOf,
 };
@@ -64,10 +64,10 @@ pub const MOST_CERTIFICATE: u16 = 2048;
 pub const MOST_THUMBPRINT: u16 = 512;
 
 // The mode is 0 to 2 and the type is this one.
-fn starts(kind: u8, p: &[u8]) -> bool
-    ensures { λ r. ⌜ r ≡ starts kind (now (p .entry)) ⌝ }
+fn starts(connect: u8, p: &[u8]) -> bool
+    ensures { λ r. ⌜ r ≡ starts connect (now (p .entry)) ⌝ }
 {
-    (number16(p, 0) <= 2) & (byte(p, 2) == kind)
+    (number16(p, 0) <= 2) & (byte(p, 2) == connect)
 }
 
 // The fields from HMACSize on are there, and nothing behind them.
@@ -106,13 +106,13 @@ fn is_connection_response(p: &[u8]) -> bool
 }
 
 // A Device Authentication Request or Response: certificate and thumbprint, each behind its length, and nothing more.
-fn is_device_authentication(kind: u8, p: &[u8]) -> bool
-    ensures { λ r. ⌜ r ≡ isDeviceAuthentication kind (now (p .entry)) ⌝ }
+fn is_device_authentication(connect: u8, p: &[u8]) -> bool
+    ensures { λ r. ⌜ r ≡ isDeviceAuthentication connect (now (p .entry)) ⌝ }
 {
     let certificate = number16(p, 3);
     let thumbprint = number16(p, 5 + certificate as u32);
     let size = 7 + certificate as usize + thumbprint as usize;
-    starts(kind, p)
+    starts(connect, p)
         & (1 <= certificate)
         & (certificate <= MOST_CERTIFICATE)
         & (thumbprint <= MOST_THUMBPRINT)
@@ -173,8 +173,8 @@ pub fn connect_type(payload: &[u8]) -> u8
 }
 
 // The byte behind the type, the Result of a Connection Response and the Status of an Authentication Done Response, or `NONE`.
-pub fn result_of(payload: &[u8]) -> u8
-    ensures { λ r. ⌜ r ≡ resultOf (now (payload .entry)) ⌝ }
+pub fn code_of(payload: &[u8]) -> u8
+    ensures { λ r. ⌜ r ≡ codeOf (now (payload .entry)) ⌝ }
 {
     byte_or_none(payload, 3)
 }

@@ -17,12 +17,12 @@ use Rattle.writer.specs.Payload.{badDevice, deviceAuthentication}
 use Rattle.writer.proofs.Payloads.{device, length-device}
 use Rattle.writer.proofs.PayloadBack.{shaped-device, starts-back}
 
-module _ (kind mode : ℕ) (c t : List ℕ) where
+module _ (connect mode : ℕ) (c t : List ℕ) where
   abbrev front-device : List ℕ
-  front-device = bytes16 mode ++ (kind ∷ []) ++ bytes16 (length c)
+  front-device = bytes16 mode ++ (connect ∷ []) ++ bytes16 (length c)
 
   abbrev bytes-device : List ℕ
-  bytes-device = deviceAuthentication kind mode c t
+  bytes-device = deviceAuthentication connect mode c t
 
   certificate-length : be16 bytes-device 3 ≡ length c
   unfolding deviceAuthentication
@@ -35,26 +35,26 @@ module _ (kind mode : ℕ) (c t : List ℕ) where
       ∙ be16-at (front-device ++ c) (bytes16 (length t) ++ t) (5 + length c) (omega arith)
       ∙ div-add-mod' (length t) 256
 
-  starts-device : mode ≤ 2 → starts kind bytes-device ≡ true
+  starts-device : mode ≤ 2 → starts connect bytes-device ≡ true
   unfolding deviceAuthentication
-  starts-device h = starts-back mode kind (drop 3 bytes-device) h
+  starts-device h = starts-back mode connect (drop 3 bytes-device) h
 
   -- The certificate is read back.
   pub certificate-back : certificateOf bytes-device ≡ record { from = 5; size = length c }
   unfolding certificateOf
   certificate-back =
-      let k : 5 + length c ≤ length bytes-device = omega (arith, length-device kind mode c t) in
+      let k : 5 + length c ≤ length bytes-device = omega (arith, length-device connect mode c t) in
       rw (certificate-length, le-ltb (length bytes-device) (5 + length c) k)
 
   pub certificate-bytes : take (length c) (drop 5 bytes-device) ≡ c
   unfolding deviceAuthentication
   certificate-bytes = ap (take (length c)) (append-assoc c (bytes16 (length t)) t) ∙ take-at c (bytes16 (length t) ++ t) (length c) refl
 
-  module _ (good : badDevice kind mode c t ≡ false) where
-    shaped : isDeviceAuthentication kind bytes-device ≡ true
+  module _ (good : badDevice connect mode c t ≡ false) where
+    shaped : isDeviceAuthentication connect bytes-device ≡ true
     unfolding isDeviceAuthentication
     shaped =
-        let d = device kind mode c t good in
+        let d = device connect mode c t good in
         rw (
           starts-device (d .modes),
           certificate-length,
@@ -62,13 +62,13 @@ module _ (kind mode : ℕ) (c t : List ℕ) where
           le-leb 1 (length c) (d .some),
           le-leb (length c) 2048 (d .certificates),
           le-leb (length t) 512 (d .thumbprints),
-          eq-eqb (length bytes-device) (7 + length c + length t) (length-device kind mode c t),
+          eq-eqb (length bytes-device) (7 + length c + length t) (length-device connect mode c t),
         )
 
     pub device-good : badPayload 2 true bytes-device ≡ false
-    device-good = by (eqb kind 2) (eqb kind 3) refl refl (device kind mode c t good .kinds)
+    device-good = by (eqb connect 2) (eqb connect 3) refl refl (device connect mode c t good .kinds)
       where
-        by : (a b : Bool) → eqb kind 2 ≡ a → eqb kind 3 ≡ b → (not a && not b) ≡ false → badPayload 2 true bytes-device ≡ false
-        by true b p q e = shaped-device bytes-device kind shaped (inl (eqb-true kind 2 p))
-        by false true p q e = shaped-device bytes-device kind shaped (inr (eqb-true kind 3 q))
+        by : (a b : Bool) → eqb connect 2 ≡ a → eqb connect 3 ≡ b → (not a && not b) ≡ false → badPayload 2 true bytes-device ≡ false
+        by true b p q e = shaped-device bytes-device connect shaped (inl (eqb-true connect 2 p))
+        by false true p q e = shaped-device bytes-device connect shaped (inr (eqb-true connect 3 q))
         by false false p q e = absurd (true≢false e)

@@ -41,12 +41,12 @@ pub record Whole (r : Request) : Type 0 where
   pub x : length (r .x) ≡ 32
   pub y : length (r .y) ≡ 32
 
-module _ (mode kind code : ℕ) (r : Request) (w : Whole r) where
+module _ (mode connect code : ℕ) (r : Request) (w : Whole r) where
   abbrev front : List ℕ
-  front = coded mode kind code ++ bytes16 32
+  front = coded mode connect code ++ bytes16 32
 
   abbrev bytes : List ℕ
-  bytes = coded mode kind code ++ exchangeBytes r
+  bytes = coded mode connect code ++ exchangeBytes r
 
   length-bytes : length bytes ≡ 86
   unfolding exchangeBytes

@@ -19,7 +19,7 @@ use Rattle.wire.specs.Payload.{
   isShaped,
   badPayload,
   connectType,
-  resultOf,
+  codeOf,
 }
 use Rattle.writer.specs.Payload.{coded, presenceRequest, doneRequest, doneResponse}
 
@@ -41,22 +41,22 @@ shaped-done-response : (p : List ℕ) → isDoneResponse p ≡ true → badPaylo
 unfolding badPayload isShaped
 shaped-done-response p e = rw (e, or-true, or-true, or-true)
 
-pub shaped-device : (p : List ℕ) (kind : ℕ) → isDeviceAuthentication kind p ≡ true → (kind ≡ 2) ⊎ (kind ≡ 3)
+pub shaped-device : (p : List ℕ) (connect : ℕ) → isDeviceAuthentication connect p ≡ true → (connect ≡ 2) ⊎ (connect ≡ 3)
     → badPayload 2 true p ≡ false
 unfolding badPayload isShaped
-shaped-device p kind e (inl k) = rw (rw k at e)
-shaped-device p kind e (inr k) = rw (rw k at e, or-true)
+shaped-device p connect e (inl k) = rw (rw k at e)
+shaped-device p connect e (inr k) = rw (rw k at e, or-true)
 
-pub starts-back : (mode kind : ℕ) (rest : List ℕ) → mode ≤ 2 → starts kind (bytes16 mode ++ (kind ∷ rest)) ≡ true
+pub starts-back : (mode connect : ℕ) (rest : List ℕ) → mode ≤ 2 → starts connect (bytes16 mode ++ (connect ∷ rest)) ≡ true
 unfolding starts
-starts-back mode kind rest h = rw (div-add-mod' mode 256, le-leb mode 2 h, eq-eqb kind kind refl)
+starts-back mode connect rest h = rw (div-add-mod' mode 256, le-leb mode 2 h, eq-eqb connect connect refl)
 
 -- The type, and the byte behind it, are read back.
-pub type-back : (mode kind : ℕ) (rest : List ℕ) → connectType (bytes16 mode ++ (kind ∷ rest)) ≡ kind
-type-back mode kind rest = refl
+pub type-back : (mode connect : ℕ) (rest : List ℕ) → connectType (bytes16 mode ++ (connect ∷ rest)) ≡ connect
+type-back mode connect rest = refl
 
-pub result-back : (mode kind code : ℕ) (rest : List ℕ) → resultOf (coded mode kind code ++ rest) ≡ code
-result-back mode kind code rest = refl
+pub result-back : (mode connect code : ℕ) (rest : List ℕ) → codeOf (coded mode connect code ++ rest) ≡ code
+result-back mode connect code rest = refl
 
 pub presence-good : badPayload 1 false presenceRequest ≡ false
 unfolding badPayload isShaped isPresenceRequest

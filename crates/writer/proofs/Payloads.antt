@@ -19,18 +19,18 @@ pub exchange-stored : (r : Request) → (((bytes16 32 ++ r .nonce) ++ bytes32 16
 unfolding exchangeBytes
 exchange-stored r = regroup (bytes16 32) (r .nonce) (bytes32 16384) (bytes16 32) (r .x) (bytes16 32) (r .y)
 
-module _ (kind mode : ℕ) (certificate thumbprint : List ℕ) where
-  pub device-stored : ((((bytes16 mode ++ (kind ∷ [])) ++ bytes16 (length certificate)) ++ certificate) ++ bytes16 (length thumbprint)) ++ thumbprint
-      ≡ deviceAuthentication kind mode certificate thumbprint
+module _ (connect mode : ℕ) (certificate thumbprint : List ℕ) where
+  pub device-stored : ((((bytes16 mode ++ (connect ∷ [])) ++ bytes16 (length certificate)) ++ certificate) ++ bytes16 (length thumbprint)) ++ thumbprint
+      ≡ deviceAuthentication connect mode certificate thumbprint
   unfolding deviceAuthentication
   device-stored = simp append-assoc
 
-  pub length-device : length (deviceAuthentication kind mode certificate thumbprint) ≡ 7 + length certificate + length thumbprint
+  pub length-device : length (deviceAuthentication connect mode certificate thumbprint) ≡ 7 + length certificate + length thumbprint
   unfolding deviceAuthentication
   length-device = simp length-append (omega arith)
 
   abbrev other : Bool
-  other = not (eqb kind 2) && not (eqb kind 3)
+  other = not (eqb connect 2) && not (eqb connect 3)
 
   -- The tests of `badDevice` as facts.
   pub record Device : Type 0 where
@@ -40,7 +40,7 @@ module _ (kind mode : ℕ) (certificate thumbprint : List ℕ) where
     pub certificates : length certificate ≤ 2048
     pub thumbprints : length thumbprint ≤ 512
 
-  pub device : badDevice kind mode certificate thumbprint ≡ false → Device
+  pub device : badDevice connect mode certificate thumbprint ≡ false → Device
   device e =
       let t = or-false (other || badMode mode || eqb (length certificate) 0 || ltb 2048 (length certificate)) (ltb 512 (length thumbprint)) e in
       let c = or4-false other (badMode mode) (eqb (length certificate) 0) (ltb 2048 (length certificate)) (t .0) in

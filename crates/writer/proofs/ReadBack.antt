@@ -13,7 +13,7 @@ use lib.Dec.{eqb}
 use Rattle.laws.specs.Bytes.{be16}
 use Rattle.laws.specs.Rows.{first}
 use Rattle.laws.proofs.Firsts.{quiet-first}
-use Rattle.wire.specs.Fields.{badKind, badFlags, badPiece, isSealed, tagSize}
+use Rattle.wire.specs.Fields.{badType, badFlags, badPiece, isSealed, tagSize}
 use Rattle.wire.specs.Chain.{readChain, leaves, isBroken, badChain}
 use Rattle.wire.specs.Reader.{headerOf, roomOf, chainOf, headerRows, rowsOf, refusalWith, refusalOf, readHeader}
 use Rattle.writer.specs.Header.{headerBytes}
@@ -31,7 +31,7 @@ fields-back h size rest = simp div-add-mod'
 
 -- What the writer's tests make sure of, where `body` is the payload or the sealed part.
 pub record Accepted (h : Header) (chain body tag : List ℕ) : Type 0 where
-  pub kind : badKind (h .kind) ≡ false
+  pub kind : badType (h .kind) ≡ false
   pub flags : badFlags (h .kind) (h .flags) ≡ false
   pub piece : badPiece (h .kind) (h .index) (h .count) ≡ false
   pub chained : badChain chain ≡ false
@@ -45,7 +45,7 @@ even-blocks true n p =
     rw (ne-eqb n 0 (λ z. omega arith), eq-eqb (n % 16) 0 (q .0))
 
 -- A table none of whose rows applies.
-none : (n k : ℕ) (h : Header) → 42 ≤ n → badKind (h .kind) ≡ false → badFlags (h .kind) (h .flags) ≡ false
+none : (n k : ℕ) (h : Header) → 42 ≤ n → badType (h .kind) ≡ false → badFlags (h .kind) (h .flags) ≡ false
     → badPiece (h .kind) (h .index) (h .count) ≡ false → (isSealed (h .flags) ≡ true → (k % 16 ≡ 0) × (1 ≤ k))
     → first (headerRows n 0x3030 n 3 h false k) ≡ 0
 unfolding headerRows

@@ -20,8 +20,8 @@ abbrev pub presenceRequest : List ℕ
 presenceRequest = 0 ∷ []
 
 -- Mode, type and the byte behind it, which is a curve, a Result or a Status.
-abbrev pub coded : (mode kind code : ℕ) → List ℕ
-coded mode kind code = bytes16 mode ++ (kind ∷ code ∷ [])
+abbrev pub coded : (mode connect code : ℕ) → List ℕ
+coded mode connect code = bytes16 mode ++ (connect ∷ code ∷ [])
 
 -- The payload of a Connection Request, on curve 0.
 abbrev pub connectionRequest : ℕ → Request → List ℕ
@@ -41,8 +41,8 @@ connectionResponse mode result r = coded mode 1 result ++ cond (eqb result 1) (e
 
 -- A Device Authentication payload is a Request (2) or a Response (3), with a certificate of 1 to 2,048 bytes and a thumbprint of at most 512.
 abbrev pub badDevice : ℕ → ℕ → (certificate thumbprint : List ℕ) → Bool
-badDevice kind mode certificate thumbprint =
-    (not (eqb kind 2) && not (eqb kind 3))
+badDevice connect mode certificate thumbprint =
+    (not (eqb connect 2) && not (eqb connect 3))
     || badMode mode
     || eqb (length certificate) 0
     || ltb 2048 (length certificate)
@@ -50,8 +50,8 @@ badDevice kind mode certificate thumbprint =
 
 -- The payload of a Device Authentication Request or Response.
 unfoldable pub deviceAuthentication : ℕ → ℕ → (certificate thumbprint : List ℕ) → List ℕ
-deviceAuthentication kind mode certificate thumbprint =
-    bytes16 mode ++ (kind ∷ []) ++ bytes16 (length certificate) ++ certificate ++ bytes16 (length thumbprint) ++ thumbprint
+deviceAuthentication connect mode certificate thumbprint =
+    bytes16 mode ++ (connect ∷ []) ++ bytes16 (length certificate) ++ certificate ++ bytes16 (length thumbprint) ++ thumbprint
 
 -- The payload of an Authentication Done Request.
 abbrev pub doneRequest : ℕ → List ℕ

@@ -10,14 +10,14 @@ use Rattle.writer.specs.declared.Written.{Written}
 use Rattle.writer.specs.declared.Written.the-variants.{Refused, Bytes}
 
 -- The refusals of a writer whose bytes would have no shape, or no room.
-unfoldable pub writeRefusal : (bad : Bool) → (size room : ℕ) → ℕ
-writeRefusal bad size room = first ((wrongPayload, bad) ∷ (noRoom, ltb room size) ∷ [])
+unfoldable pub putRefusal : (bad : Bool) → (size room : ℕ) → ℕ
+putRefusal bad size room = first ((wrongPayload, bad) ∷ (noRoom, ltb room size) ∷ [])
 
 -- What a writer answers that has `size` bytes to write.
 unfoldable pub written : (bad : Bool) → (size : ℕ) → (out : List ℕ) → Written
 written bad size out =
-    cond (eqb (writeRefusal bad size (length out)) 0) (Bytes size) (Refused (writeRefusal bad size (length out)))
+    cond (eqb (putRefusal bad size (length out)) 0) (Bytes size) (Refused (putRefusal bad size (length out)))
 
 -- What its output then holds: the bytes and behind them what stood there; on a refusal all that stood there.
 unfoldable pub output : (bad : Bool) → (size : ℕ) → (bytes out : List ℕ) → List ℕ
-output bad size bytes out = cond (eqb (writeRefusal bad size (length out)) 0) (bytes ++ drop size out) out
+output bad size bytes out = cond (eqb (putRefusal bad size (length out)) 0) (bytes ++ drop size out) out

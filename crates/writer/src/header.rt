@@ -1,6 +1,6 @@
 // The common header written, down document 01's table "The message on the wire".
 use crate::Written;
-use crate::write_refusal;
+use crate::put_refusal;
 use octets::stores::store8;
 use octets::stores::store16;
 use octets::stores::store32;
@@ -19,7 +19,7 @@ fn put_header(h: Header, size: u16, out: &mut [u8])
     store16(out, Header::SIGNATURE_AT, Header::SIGNATURE);
     store16(out, Header::LENGTH_AT, size);
     store8(out, Header::VERSION_AT, Header::VERSION);
-    store8(out, Header::KIND_AT, h.kind);
+    store8(out, Header::TYPE_AT, h.kind);
     store16(out, Header::FLAGS_AT, h.flags);
     store32(out, Header::SEQUENCE_AT, h.sequence);
     store64(out, Header::REQUEST_AT, h.request);
@@ -34,7 +34,7 @@ pub fn write_header(header: Header, size: u16, out: &mut [u8]) -> Written
     ensures answer { λ r. ⌜ r ≡ written false 40 (now (out .entry)) ⌝ }
     ensures bytes { λ _. ⌜ now (out .exit) ≡ output false 40 (headerBytes header size) (now (out .entry)) ⌝ }
 {
-    let n = write_refusal(false, Header::LENGTH, out.len());
+    let n = put_refusal(false, Header::LENGTH, out.len());
     if n != 0 {
         return Written::Refused(n);
     }

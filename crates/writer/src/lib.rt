@@ -6,7 +6,7 @@ pub mod payload;
 use wire::refusals::NO_ROOM;
 use wire::refusals::WRONG_PAYLOAD;
 ghost use mathlib.Core.Path.{_≡_};
-ghost use Rattle.writer.specs.Written.{writeRefusal};
+ghost use Rattle.writer.specs.Written.{putRefusal};
 
 // What a writer answers: the number of a refusal, or how many bytes it wrote.
 pub enum Written {
@@ -15,8 +15,8 @@ pub enum Written {
 }
 
 // The refusals of a writer whose bytes would have no shape, or no room.
-pub(crate) fn write_refusal(bad: bool, size: usize, room: usize) -> u8
-    ensures { λ r. ⌜ r ≡ writeRefusal bad size room ⌝ }
+pub(crate) fn put_refusal(bad: bool, size: usize, room: usize) -> u8
+    ensures { λ r. ⌜ r ≡ putRefusal bad size room ⌝ }
 {
     if bad {
         return WRONG_PAYLOAD;

@@ -1,6 +1,6 @@
 // The payloads of Discovery and Connect written, each at the start of its output.
 use crate::Written;
-use crate::write_refusal;
+use crate::put_refusal;
 use octets::stores::store_bytes;
 use octets::stores::store8;
 use octets::stores::store16;
@@ -60,11 +60,11 @@ fn put_coordinate(out: &mut [u8], at: u8, coordinate: [u8; 32])
 }
 
 // Puts mode and type.
-fn put_start(out: &mut [u8], mode: u16, kind: u8)
-    ensures { λ _. ⌜ now (out .exit) ≡ sets (now (out .entry)) 0 (bytes16 mode ++ (kind ∷ [])) ⌝ }
+fn put_start(out: &mut [u8], mode: u16, connect: u8)
+    ensures { λ _. ⌜ now (out .exit) ≡ sets (now (out .entry)) 0 (bytes16 mode ++ (connect ∷ [])) ⌝ }
 {
     store16(out, 0, mode);
-    store8(out, 2, kind);
+    store8(out, 2, connect);
 }
 
 // Puts the fields from HMACSize on.
@@ -86,7 +86,7 @@ pub fn write_presence_request(out: &mut [u8]) -> Written
     ensures answer { λ r. ⌜ r ≡ written false 1 (now (out .entry)) ⌝ }
     ensures bytes { λ _. ⌜ now (out .exit) ≡ output false 1 presenceRequest (now (out .entry)) ⌝ }
 {
-    let n = write_refusal(false, 1, out.len());
+    let n = put_refusal(false, 1, out.len());
     if n != 0 {
         return Written::Refused(n);
     }
@@ -95,37 +95,37 @@ pub fn write_presence_request(out: &mut [u8]) -> Written
 }
 
 // Puts mode, type and the byte behind it.
-fn put_coded(out: &mut [u8], mode: u16, kind: u8, code: u8)
-    ensures { λ _. ⌜ now (out .exit) ≡ sets (now (out .entry)) 0 (coded mode kind code) ⌝ }
+fn put_coded(out: &mut [u8], mode: u16, connect: u8, code: u8)
+    ensures { λ _. ⌜ now (out .exit) ≡ sets (now (out .entry)) 0 (coded mode connect code) ⌝ }
 {
     store16(out, 0, mode);
-    store8(out, 2, kind);
+    store8(out, 2, connect);
     store8(out, 3, code);
 }
 
 // Writes a payload of 4 bytes.
-fn write_coded(bad: bool, mode: u16, kind: u8, code: u8, out: &mut [u8]) -> Written
+fn write_coded(bad: bool, mode: u16, connect: u8, code: u8, out: &mut [u8]) -> Written
     ensures answer { λ r. ⌜ r ≡ written bad 4 (now (out .entry)) ⌝ }
-    ensures bytes { λ _. ⌜ now (out .exit) ≡ output bad 4 (coded mode kind code) (now (out .entry)) ⌝ }
+    ensures bytes { λ _. ⌜ now (out .exit) ≡ output bad 4 (coded mode connect code) (now (out .entry)) ⌝ }
 {
-    let n = write_refusal(bad, 4, out.len());
+    let n = put_refusal(bad, 4, out.len());
     if n != 0 {
         return Written::Refused(n);
     }
-    put_coded(out, mode, kind, code);
+    put_coded(out, mode, connect, code);
     Written::Bytes(4)
 }
 
 // Writes a payload of 86 bytes.
-fn write_exchange(mode: u16, kind: u8, code: u8, request: Request, out: &mut [u8]) -> Written
+fn write_exchange(mode: u16, connect: u8, code: u8, request: Request, out: &mut [u8]) -> Written
     ensures answer { λ r. ⌜ r ≡ written (badMode mode) 86 (now (out .entry)) ⌝ }
-    ensures bytes { λ _. ⌜ now (out .exit) ≡ output (badMode mode) 86 (coded mode kind code ++ exchangeBytes request) (now (out .entry)) ⌝ }
+    ensures bytes { λ _. ⌜ now (out .exit) ≡ output (badMode mode) 86 (coded mode connect code ++ exchangeBytes request) (now (out .entry)) ⌝ }
 {
-    let n = write_refusal(2 < mode, EXCHANGE_SIZE, out.len());
+    let n = put_refusal(2 < mode, EXCHANGE_SIZE, out.len());
     if n != 0 {
         return Written::Refused(n);
     }
-    put_coded(out, mode, kind, code);
+    put_coded(out, mode, connect, code);
     put_exchange(out, request);
     Written::Bytes(EXCHANGE_SIZE)
 }
@@ -161,7 +161,7 @@ pub fn write_done_request(mode: u16, out: &mut [u8]) -> Written
     ensures answer { λ r. ⌜ r ≡ written (badMode mode) 3 (now (out .entry)) ⌝ }
     ensures bytes { λ _. ⌜ now (out .exit) ≡ output (badMode mode) 3 (doneRequest mode) (now (out .entry)) ⌝ }
 {
-    let n = write_refusal(2 < mode, 3, out.len());
+    let n = put_refusal(2 < mode, 3, out.len());
     if n != 0 {
         return Written::Refused(n);
     }
@@ -177,13 +177,13 @@ pub fn write_done_response(mode: u16, status: u8, out: &mut [u8]) -> Written
     write_coded((2 < mode) | (4 < status), mode, DONE_RESPONSE, status, out)
 }
 
-fn put_device(out: &mut [u8], mode: u16, kind: u8, certificate: &[u8], thumbprint: &[u8])
+fn put_device(out: &mut [u8], mode: u16, connect: u8, certificate: &[u8], thumbprint: &[u8])
     requires { ⌜ (length (now certificate) ≤ 2048) × (length (now thumbprint) ≤ 512) ⌝ }
-    ensures { λ _. ⌜ now (out .exit) ≡ sets (now (out .entry)) 0 (deviceAuthentication kind mode (now (certificate .entry))
+    ensures { λ _. ⌜ now (out .exit) ≡ sets (now (out .entry)) 0 (deviceAuthentication connect mode (now (certificate .entry))
         (now (thumbprint .entry))) ⌝ }
 {
     let n = certificate.len();
-    put_start(out, mode, kind);
+    put_start(out, mode, connect);
     store16(out, 3, n as u16);
     store_bytes(out, 5, certificate);
     store16(out, 5 + n as u32, thumbprint.len() as u16);
@@ -192,21 +192,21 @@ fn put_device(out: &mut [u8], mode: u16, kind: u8, certificate: &[u8], thumbprin
 
 // Writes the payload of a Device Authentication Request or Response, by its type.
 pub fn write_device_authentication(
-    kind: u8,
+    connect: u8,
     mode: u16,
     certificate: &[u8],
     thumbprint: &[u8],
     out: &mut [u8],
 ) -> Written
-    ensures answer { λ r. ⌜ r ≡ written (badDevice kind mode (now (certificate .entry)) (now (thumbprint .entry)))
+    ensures answer { λ r. ⌜ r ≡ written (badDevice connect mode (now (certificate .entry)) (now (thumbprint .entry)))
         (7 + length (now (certificate .entry)) + length (now (thumbprint .entry))) (now (out .entry)) ⌝ }
-    ensures bytes { λ _. ⌜ now (out .exit) ≡ output (badDevice kind mode (now (certificate .entry)) (now (thumbprint .entry)))
+    ensures bytes { λ _. ⌜ now (out .exit) ≡ output (badDevice connect mode (now (certificate .entry)) (now (thumbprint .entry)))
         (7 + length (now (certificate .entry)) + length (now (thumbprint .entry)))
-        (deviceAuthentication kind mode (now (certificate .entry)) (now (thumbprint .entry))) (now (out .entry)) ⌝ }
+        (deviceAuthentication connect mode (now (certificate .entry)) (now (thumbprint .entry))) (now (out .entry)) ⌝ }
 {
     let c = certificate.len();
     let t = thumbprint.len();
-    if ((kind != DEVICE_REQUEST) & (kind != DEVICE_RESPONSE))
+    if ((connect != DEVICE_REQUEST) & (connect != DEVICE_RESPONSE))
         | (2 < mode)
         | (c == 0)
         | ((MOST_CERTIFICATE as usize) < c)
@@ -218,6 +218,6 @@ pub fn write_device_authentication(
     if out.len() < size {
         return Written::Refused(NO_ROOM);
     }
-    put_device(out, mode, kind, certificate, thumbprint);
+    put_device(out, mode, connect, certificate, thumbprint);
     Written::Bytes(size)
 }

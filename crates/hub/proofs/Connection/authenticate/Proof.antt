@@ -4,10 +4,10 @@ use Rattle.hub.proofs.Connection.authenticate.Statement.{statement}
 use Rattle.hub.proofs.Connection.authenticate.Tie as tie
 
 returns : tie.Need-returns
-returns c = rw (c .before .if1 .taken, c .judged .ensures)
+returns c = rw (c .before .if1 .taken, c .with-digest-and-state .ensures)
 
 returns-2 : tie.Need-returns-2
-returns-2 c = rw (c .before .before .if1 .left, c .before .if2 .taken, c .judged2 .ensures)
+returns-2 c = rw (c .before .before .if1 .left, c .before .if2 .taken, c .with-digest-and-state2 .ensures)
 
 returns-3 : tie.Need-returns-3
 returns-3 c =

@@ -4,7 +4,7 @@ use Rattle.hub.proofs.Connection.finish.Statement.{statement}
 use Rattle.hub.proofs.Connection.finish.Tie as tie
 
 returns : tie.Need-returns
-returns c = rw (eq-eqb _ _ (c .before .before .if1 .taken), c .judged .ensures)
+returns c = rw (eq-eqb _ _ (c .before .before .if1 .taken), c .with-digest-and-state .ensures)
 
 returns-2 : tie.Need-returns-2
 returns-2 c = rw (ne-eqb _ _ (c .before .if1 .left), eq-eqb _ _ (c .if2 .taken))

@@ -11,10 +11,10 @@ returns c =
     let at-channel = c .before .before in
     let at-session = at-channel .before .before .before .before in
     let at-request = at-session .before .before .before .before in
-    let at-kind = at-request .before .before .before .before .before .before in
-    let s = at-kind .before .before .before .before .before .before .args in
+    let at-type = at-request .before .before .before .before .before .before in
+    let s = at-type .before .before .before .before .before .before .args in
     let h = s .h in
-    let r0 = then (h .kind ∷ h .flags ∷ h .sequence ∷ []) 0 (run 0 (s .out .now)) (at-kind .put-three .ensures) refl in
+    let r0 = then (h .kind ∷ h .flags ∷ h .sequence ∷ []) 0 (run 0 (s .out .now)) (at-type .put-three .ensures) refl in
     let r1 = then (h .request ∷ h .index ∷ h .count ∷ []) 3 r0 (at-request .put-three2 .ensures) refl in
     let r2 = then (h .session ∷ []) 6 r1 (at-session .put-word .ensures) refl in
     then (h .channel ∷ []) 7 r2 (at-channel .put-word2 .ensures) refl .is

@@ -2,29 +2,29 @@
 use borrow.Author.Needs.{needs}
 use native.Mathlib.Omega.{arith}
 use lib.Seq.{length-sets}
-use Rattle.lines.proofs.Digits.{few-places, length-field}
+use Rattle.lines.proofs.Digits.{few-digits, length-field}
 use Rattle.lines.proofs.Puts.{field-put}
 use Rattle.lines.proofs.text.put_field.Statement.{statement}
 use Rattle.lines.proofs.text.put_field.Tie as tie
 
 put-digits-requires : tie.Need-put-digits-requires
-put-digits-requires c κs = omega (arith, few-places (c .before .before .before .args .number))
+put-digits-requires c κs = omega (arith, few-digits (c .before .before .before .args .number))
 
 add-end : tie.Need-add-end
-add-end c = omega (arith, few-places (c .before .before .before .before .before .before .args .number))
+add-end c = omega (arith, few-digits (c .before .before .before .before .before .before .args .number))
 
 slice-write-out : tie.Need-slice-write-out
 slice-write-out c = rw (c .before .before .put-digits .ensures, length-sets)
-    (omega (arith, few-places (c .before .before .before .before .before .before .args .number)))
+    (omega (arith, few-digits (c .before .before .before .before .before .before .args .number)))
 
 add-result : tie.Need-add-result
-add-result c = omega (arith, few-places (c .before .before .before .before .before .before .args .number))
+add-result c = omega (arith, few-digits (c .before .before .before .before .before .before .args .number))
 
 returns : tie.Need-returns
 returns c =
     let a = c .before .before .before .before .before .before .args in
-    let count = c .before .before .before .before .places in (
-      omega (arith, few-places (a .number)),
+    let count = c .before .before .before .before .digit-count in (
+      omega (arith, few-digits (a .number)),
       (
         omega (arith, length-field (a .number) (a .behind)),
         field-put _ _ (a .at) (a .number) (a .behind) (count .result) (count .ensures) (c .before .before .put-digits .ensures),

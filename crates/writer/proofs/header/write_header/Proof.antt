@@ -7,14 +7,14 @@ use Rattle.writer.proofs.header.write_header.Statement.{statement}
 use Rattle.writer.proofs.header.write_header.Tie as tie
 
 returns : tie.Need-returns
-returns c = refused _ _ _ _ _ (c .before .write-refusal .ensures) (c .if1 .taken)
+returns c = refused _ _ _ _ _ (c .before .put-refusal .ensures) (c .if1 .taken)
 
 returns-2 : tie.Need-returns-2
 unfolding headerBytes
 returns-2 c =
     let put = c .before .before in
     let judged = put .before .before in
-    wrote _ _ _ _ _ (judged .before .write-refusal .ensures) (judged .if1 .left) refl (put .put-header .ensures)
+    wrote _ _ _ _ _ (judged .before .put-refusal .ensures) (judged .if1 .left) refl (put .put-header .ensures)
 
 pub write-header-spec : {M : Type 1} → statement M
 write-header-spec =

@@ -23,12 +23,12 @@ returns c =
     let certificate = s .certificate .now in
     let thumbprint = s .thumbprint .now in
     let n = length certificate in
-    let r0 = then (bytes16 (s .mode) ++ (s .kind ∷ [])) 0 (run 0 (s .out .now)) (start .put-start .ensures) refl in
+    let r0 = then (bytes16 (s .mode) ++ (s .connect ∷ [])) 0 (run 0 (s .out .now)) (start .put-start .ensures) refl in
     let r1 = then (bytes16 n) 3 r0 (first-size .store16 .ensures) refl in
     let r2 = then certificate 5 r1 (first .store-bytes .ensures) refl in
     let r3 = then (bytes16 (length thumbprint)) (5 + n) r2 (second-size .store162 .ensures) (omega arith) in
     let r4 = then thumbprint (7 + n) r3 (second .store-bytes2 .ensures) (simp length-append (omega arith)) in
-    r4 .is ∙ ap (sets (s .out .now) 0) (device-stored (s .kind) (s .mode) certificate thumbprint)
+    r4 .is ∙ ap (sets (s .out .now) 0) (device-stored (s .connect) (s .mode) certificate thumbprint)
 
 pub put-device-spec : {M : Type 1} → statement M
 put-device-spec =

@@ -9,10 +9,10 @@ use Rattle.writer.proofs.payload.put_start.Tie as tie
 
 returns : tie.Need-returns
 returns c =
-    let kind = c .before .before in
-    let mode = kind .before .before .before .before in
+    let connect = c .before .before in
+    let mode = connect .before .before .before .before in
     let s = mode .before .before .before .args in
-    stored-twice (bytes16 (s .mode)) (s .kind ∷ []) (s .out .now) 0 2 (mode .store16 .ensures) (kind .store8 .ensures) refl
+    stored-twice (bytes16 (s .mode)) (s .connect ∷ []) (s .out .now) 0 2 (mode .store16 .ensures) (connect .store8 .ensures) refl
 
 pub put-start-spec : {M : Type 1} → statement M
 put-start-spec = tie.close (tie.spec (λ c κs. search needs) (λ c κs. search needs) (λ c. search needs) returns)

@@ -6,13 +6,13 @@ use Rattle.writer.proofs.payload.write_coded.Statement.{statement}
 use Rattle.writer.proofs.payload.write_coded.Tie as tie
 
 returns : tie.Need-returns
-returns c = refused _ _ _ _ _ (c .before .write-refusal .ensures) (c .if1 .taken)
+returns c = refused _ _ _ _ _ (c .before .put-refusal .ensures) (c .if1 .taken)
 
 returns-2 : tie.Need-returns-2
 returns-2 c =
     let put = c .before .before in
     let judged = put .before .before in
-    wrote _ _ _ _ _ (judged .before .write-refusal .ensures) (judged .if1 .left) refl (put .put-coded .ensures)
+    wrote _ _ _ _ _ (judged .before .put-refusal .ensures) (judged .if1 .left) refl (put .put-coded .ensures)
 
 pub write-coded-spec : {M : Type 1} → statement M
 write-coded-spec =

@@ -13,7 +13,7 @@ returns c = refused _ _ _ _ _ (told-bad _ _ (c .if1 .taken)) λ z. omega arith
 add-size-2 : tie.Need-add-size-2
 add-size-2 c =
     let s = c .before .before .before .before .args in
-    omega (arith, device (s .kind) (s .mode) (s .certificate .now) (s .thumbprint .now) (c .if1 .left))
+    omega (arith, device (s .connect) (s .mode) (s .certificate .now) (s .thumbprint .now) (c .if1 .left))
 
 returns-2 : tie.Need-returns-2
 returns-2 c = refused _ _ _ _ _ (told-short _ _ (c .before .if1 .left) (c .if2 .taken)) λ z. omega arith
@@ -22,7 +22,7 @@ put-device-requires : tie.Need-put-device-requires
 put-device-requires c κs =
     let judged = c .before .before in
     let s = judged .before .before .before .before .args in
-    let d = device (s .kind) (s .mode) (s .certificate .now) (s .thumbprint .now) (judged .if1 .left) in
+    let d = device (s .connect) (s .mode) (s .certificate .now) (s .thumbprint .now) (judged .if1 .left) in
     (d .certificates, d .thumbprints)
 
 returns-3 : tie.Need-returns-3
@@ -30,7 +30,7 @@ returns-3 c =
     let put = c .before .before in
     let judged = put .before .before in
     let s = judged .before .before .before .before .before .args in
-    let long = length-device (s .kind) (s .mode) (s .certificate .now) (s .thumbprint .now) in
+    let long = length-device (s .connect) (s .mode) (s .certificate .now) (s .thumbprint .now) in
     wrote _ _ _ _ _ (told-none _ _ (judged .before .if1 .left) (judged .if2 .left)) refl long (put .put-device .ensures)
 
 pub write-device-authentication-spec : {M : Type 1} → statement M

@@ -9,7 +9,7 @@ use Rattle.writer.proofs.payload.write_exchange.Statement.{statement}
 use Rattle.writer.proofs.payload.write_exchange.Tie as tie
 
 returns : tie.Need-returns
-returns c = refused _ _ _ _ _ (c .before .write-refusal .ensures) (c .if1 .taken)
+returns c = refused _ _ _ _ _ (c .before .put-refusal .ensures) (c .if1 .taken)
 
 returns-2 : tie.Need-returns-2
 returns-2 c =
@@ -18,8 +18,8 @@ returns-2 c =
     let judged = start .before .before in
     let s = judged .before .before .before .args in
     let e = exchange .put-exchange .ensures in
-    wrote _ _ _ _ _ (judged .before .write-refusal .ensures) (judged .if1 .left) (omega (arith, e .1))
-    (stored-twice (coded (s .mode) (s .kind) (s .code)) (exchangeBytes (s .request)) (s .out .now) 0 4 (start .put-coded .ensures) (e .0) refl)
+    wrote _ _ _ _ _ (judged .before .put-refusal .ensures) (judged .if1 .left) (omega (arith, e .1))
+    (stored-twice (coded (s .mode) (s .connect) (s .code)) (exchangeBytes (s .request)) (s .out .now) 0 4 (start .put-coded .ensures) (e .0) refl)
 
 pub write-exchange-spec : {M : Type 1} → statement M
 write-exchange-spec =

@@ -1,10 +1,10 @@
 // How many digits a number has.
 ghost use mathlib.Core.Path.{_≡_};
-ghost use Rattle.lines.specs.Text.{places};
+ghost use Rattle.lines.specs.Text.{digitCount};
 
 // How many digits a number has, of at most ten.
-pub(crate) fn places(number: u32) -> usize
-    ensures { λ r. ⌜ r ≡ places number ⌝ }
+pub(crate) fn digit_count(number: u32) -> usize
+    ensures { λ r. ⌜ r ≡ digitCount number ⌝ }
 {
     if number < 10 {
         return 1;

@@ -1,0 +1,12 @@
+-- The code is the definition.
+use mathlib.Core.Path.{refl}
+use Rattle.wire.specs.Fields.{badType}
+use Rattle.wire.proofs.header.bad_type.Statement.{statement}
+use Rattle.wire.proofs.header.bad_type.Tie as tie
+
+returns : tie.Need-returns
+unfolding badType
+returns c = refl
+
+pub bad-type-spec : {M : Type 1} → statement M
+bad-type-spec = tie.close (tie.spec returns)
