@@ -1,5 +1,5 @@
--- The way of the code down a table, row by row with `next`: it comes out at the table's answer. Where the code stops between two tables,
--- because the rows below are dear or need what those above leave, the answer is that of the two tables together.
+-- The code goes down a table row by row with `next`, and answers what the table answers. Where it stops between two tables, because the rows
+-- below are dear or need what those above leave, the answer is that of the two tables together.
 use Prim.Native.Nat.{ℕ, zero, suc}
 use mathlib.Core.Path.{_≡_, refl, _∙_}
 use mathlib.Core.List.{List, [], _∷_, _++_}

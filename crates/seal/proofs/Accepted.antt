@@ -18,7 +18,8 @@ use Rattle.wire.specs.Refusals.{wrongKeys, wrongTag, shortWorking, wrongPadding
 use Rattle.aes.proofs.Chain.{cbcDecrypt-length}
 use Rattle.seal.specs.Keys.{tagOf}
 use Rattle.seal.specs.Padding.{sealedSize, badPlain, payloadOf}
-use Rattle.seal.specs.Opening.{bodyOf, tagIn, sealedPart, plainOf, noPart, keyRows, tagRows, partRows, partRefusal, openRefusal, intoUnless, openedInto}
+use Rattle.seal.specs.Opening.{bodyOf, tagIn, sealedPart, plainOf, intoUnless, openedInto}
+use Rattle.seal.specs.Opening.{noPart, keyRows, tagRows, partRows, partRefusal, openRefusal}
 use Rattle.seal.proofs.Opened.{Placed, placed, part-blocks}
 
 -- Nothing of 10 to 13 applies.

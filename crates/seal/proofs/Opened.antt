@@ -17,7 +17,8 @@ use Rattle.aes.specs.Cbc.{cbcDecrypt, cbcDecryptBlock, blockBefore, written}
 use Rattle.aes.proofs.Chain.{cbcDecrypt-length}
 use Rattle.aes.proofs.Ends.{cbcDecrypt-first, cbcDecrypt-last}
 use Rattle.seal.specs.Padding.{badPlain, badBlocks}
-use Rattle.seal.specs.Opening.{sealedPart, plainOf, noPartRows, noPart, keyRows, earlyRows, tagRows, partRows, partRefusal, partInto, openRefusal, openedInto, intoUnless}
+use Rattle.seal.specs.Opening.{noPartRows, noPart, keyRows, earlyRows, tagRows, partRows, partRefusal, openRefusal}
+use Rattle.seal.specs.Opening.{sealedPart, plainOf, partInto, openedInto, intoUnless}
 use Rattle.seal.specs.Keys.{vector}
 use Rattle.seal.proofs.Padded.{badPlain-blocks}
 

@@ -13,7 +13,8 @@ use Rattle.laws.specs.Bytes.{be8, be16}
 use Rattle.laws.specs.Rows.{testOf}
 use Rattle.laws.proofs.Firsts.{row-false}
 use Rattle.laws.proofs.Bools.{or-false, or4-false, and-true, and-false-right}
-use Rattle.wire.specs.Refusals.{tooShort, wrongSignature, wrongLength, wrongVersion, wrongType, wrongFlags, wrongPiece, wrongChain, wrongSealedSize}
+use Rattle.wire.specs.Refusals.{tooShort, wrongSignature, wrongLength, wrongVersion}
+use Rattle.wire.specs.Refusals.{wrongType, wrongFlags, wrongPiece, wrongChain, wrongSealedSize}
 use Rattle.wire.specs.Chain.{readChain, leaves, isBroken}
 use Rattle.wire.specs.Fields.{badType, badFlags, badPiece, mostPieces, isSealed, hmacFlag, encryptedFlag, tagSize}
 use Rattle.wire.specs.Reader.{headerOf, roomOf, chainOf, headerRows, rowsOf, refusalWith, refusalOf, readHeader}

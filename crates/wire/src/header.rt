@@ -186,7 +186,7 @@ fn judge(
     ensures { λ r. ⌜ r ≡ first (headerRows given signature size version h broken rest) ⌝ }
 {
     let length = size as usize;
-    let unsealed = (rest == 0) | (rest % 16 != 0);
+    let no_blocks = (rest == 0) | (rest % 16 != 0);
     let n = next(0, TOO_SHORT, given < SHORTEST);
     let n = next(n, WRONG_SIGNATURE, signature != Header::SIGNATURE);
     let n = next(n, WRONG_LENGTH, (length < SHORTEST) | (length != given));
@@ -195,7 +195,7 @@ fn judge(
     let n = next(n, WRONG_FLAGS, bad_flags(h.kind, h.flags));
     let n = next(n, WRONG_PIECE, bad_piece(h.kind, h.index, h.count));
     let n = next(n, WRONG_CHAIN, broken);
-    next(n, WRONG_SEALED_SIZE, is_sealed(h.flags) & unsealed)
+    next(n, WRONG_SEALED_SIZE, is_sealed(h.flags) & no_blocks)
 }
 
 // The first refusal of 1 to 9 that applies, given the header and the chain as they were read.

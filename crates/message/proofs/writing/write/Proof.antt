@@ -10,12 +10,15 @@ use borrow.Author.Needs.{needs}
 use Rattle.message.proofs.writing.write.Statement.{statement}
 use Rattle.message.proofs.writing.write.Tie as tie
 
+abbrev entry : tie.Else1 → tie.Start
+entry c = c .before .before .before .before .before .before
+
 -- Nothing is refused, and the chain is short.
-passed : (c : tie.Else1) → let s = c .before .before .before .before .before .before .args in
+passed : (c : tie.Else1) → let s = entry c .args in
     writeRefusal (s .header) (s .chain .now) (s .payload .now) (length (s .keys .now)) (length (s .out .now)) ≡ 0
 passed c = sym (c .before .refused .ensures) ∙ c .if1 .left
 
-short : (c : tie.Else1) → length (c .before .before .before .before .before .before .args .chain .now) ≤ 2058
+short : (c : tie.Else1) → length (entry c .args .chain .now) ≤ 2058
 short c =
     let known = c .before .before .before .before .before in
     chain-short (known .before .args .chain .now) (record { at = λ i. omega (arith, known .shared-slice-known .given i) })
@@ -30,7 +33,7 @@ finished-length-requires c κs = (short (c .before), allowed _ _ _ _ _ (passed (
 cast-put-front : tie.Need-cast-put-front
 cast-put-front c =
     let row = c .before .before in
-    let s = row .before .before .before .before .before .before .args in
+    let s = entry row .args in
     omega (
       arith,
       fits-header (s .header) (s .chain .now) (s .payload .now) (s .keys .now) (s .out .now) _ _ (passed row)
@@ -40,7 +43,7 @@ cast-put-front c =
 put-front-requires : tie.Need-put-front-requires
 put-front-requires c κs =
     let row = c .before .before .before in
-    let s = row .before .before .before .before .before .before .args in
+    let s = entry row .args in
     front-fits (s .header) (s .chain .now) (s .payload .now) (s .keys .now) (s .out .now) _ _ (passed row)
     (c .before .before .is-sealed .ensures) (c .before .finished-length .ensures) (short row)
 
@@ -51,7 +54,7 @@ returns-2 c =
     let at-length = at-front .before .before in
     let at-sealed = at-length .before in
     let row = at-sealed .before in
-    let s = row .before .before .before .before .before .before .args in
+    let s = entry row .args in
     wrote-sealed (s .header) (s .chain .now) (s .payload .now) (s .keys .now) (s .out .now) _ _ (passed row)
     (at-sealed .is-sealed .ensures) (at-length .finished-length .ensures) (short row) (at-front .put-front .ensures)
     (at-if .if2 .taken) (c .before .before .seal .ensures .1)
@@ -63,7 +66,7 @@ returns-3 c =
     let at-length = at-front .before .before in
     let at-sealed = at-length .before in
     let row = at-sealed .before in
-    let s = row .before .before .before .before .before .before .args in
+    let s = entry row .args in
     wrote-plain (s .header) (s .chain .now) (s .payload .now) (s .keys .now) (s .out .now) _ _ (passed row)
     (at-sealed .is-sealed .ensures) (at-length .finished-length .ensures) (short row) (at-front .put-front .ensures)
     (at-if .if2 .left) (c .before .before .store-bytes .ensures)
