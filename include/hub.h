@@ -114,6 +114,7 @@ extern "C" {
 /* What a call returns: document 01's table "Refusal numbers". */
 enum hub_refusal {
     HUB_DONE = 0,
+    /* tests/refusals/write: header */
     HUB_TOO_SHORT = 1,            /* fewer than 42 bytes */
     HUB_WRONG_SIGNATURE = 2,      /* wrong signature */
     HUB_WRONG_LENGTH = 3,         /* MessageLength under 42 or not the bytes given */
@@ -141,6 +142,7 @@ enum hub_refusal {
                                      the length from the one taken */
     HUB_WRONG_FRAGMENT_SIZE = 24, /* F outside 1 to 16,384 */
     HUB_WRONG_VERDICT = 25,       /* verdict not 0 or 1 */
+    /* tests/refusals/write: end */
     HUB_WRONG_BUFFER = 255        /* a buffer of fixed size has another size, or hub_write's SequenceNumber
                                      more than 32 bits; not a number of document 01 */
 };

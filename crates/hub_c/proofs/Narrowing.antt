@@ -1,6 +1,6 @@
 -- A field that is brought into its room changes nothing that the writer answers or writes: a number that has no room is refused by the row that
 -- tests its field, before and after.
-use Prim.Native.Nat.{ℕ, _≤_, _<_}
+use Prim.Native.Nat.{ℕ, _≤_}
 use mathlib.Core.Path.{_≡_, refl, ap}
 use mathlib.Core.Logic.{_⊎_, inl, inr}
 use mathlib.Core.List.{List, _++_}

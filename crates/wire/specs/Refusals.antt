@@ -1,6 +1,7 @@
 -- The numbers of document 01's table "Refusal numbers", each named by the fault.
 use Prim.Native.Nat.{ℕ}
 
+-- tests/refusals/write: definitions
 -- fewer than 42 bytes
 abbrev pub tooShort : ℕ
 tooShort = 1
@@ -100,3 +101,5 @@ wrongFragmentSize = 24
 -- verdict not 0 or 1
 abbrev pub wrongVerdict : ℕ
 wrongVerdict = 25
+
+-- tests/refusals/write: end

@@ -8,6 +8,7 @@ use std::fmt;
 #[derive(Clone, Copy, Debug, PartialEq, Eq, PartialOrd, Ord, Hash)]
 #[repr(u8)]
 pub enum Refusal {
+    // tests/refusals/write: variants
     /// Fewer than 42 bytes.
     TooShort = 1,
     /// Wrong signature.
@@ -58,10 +59,12 @@ pub enum Refusal {
     WrongFragmentSize = 24,
     /// Verdict not 0 or 1. The types of this crate rule it out.
     WrongVerdict = 25,
+    // tests/refusals/write: end
 }
 
 use Refusal::*;
 
+// tests/refusals/write: all
 const ALL: [Refusal; 25] = [
     TooShort,
     WrongSignature,
@@ -89,6 +92,7 @@ const ALL: [Refusal; 25] = [
     WrongFragmentSize,
     WrongVerdict,
 ];
+// tests/refusals/write: end
 
 impl Refusal {
     /// The row's number in document 01.

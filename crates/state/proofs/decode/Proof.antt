@@ -1,6 +1,5 @@
 -- Each part is what its load answers.
 use borrow.Author.Needs.{needs}
-use Rattle.wire.specs.Fields.{mostPieces}
 use Rattle.state.specs.State.{connectionAt}
 use Rattle.state.proofs.decode.Statement.{statement}
 use Rattle.state.proofs.decode.Tie as tie

@@ -1,5 +1,5 @@
 -- Five parts, each where the one before it ends.
-use mathlib.Core.Path.{refl, _∙_}
+use mathlib.Core.Path.{refl}
 use Rattle.wire.specs.Fields.{mostPieces}
 use Rattle.laws.specs.Bytes.{bytes16, bytes32, bytes64}
 use Rattle.state.specs.Layout.{expectedPlace, heardSize}
