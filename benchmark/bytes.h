@@ -1,3 +1,4 @@
+/* SPDX-License-Identifier: MPL-2.0 */
 /* Fixed input bytes. */
 #ifndef BENCH_BYTES_H
 #define BENCH_BYTES_H

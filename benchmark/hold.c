@@ -1,3 +1,4 @@
+/* SPDX-License-Identifier: MPL-2.0 */
 /* Holding every subject to the same answers, before anything is timed. */
 #include "hold.h"
 

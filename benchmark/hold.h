@@ -1,3 +1,4 @@
+/* SPDX-License-Identifier: MPL-2.0 */
 /* Holding every subject to the same answers. */
 #ifndef BENCH_HOLD_H
 #define BENCH_HOLD_H

@@ -1,3 +1,4 @@
+/* SPDX-License-Identifier: MPL-2.0 */
 /* Joining in plain C: memcpy and a bit map. */
 #include "joining.h"
 

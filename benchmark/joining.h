@@ -1,3 +1,4 @@
+/* SPDX-License-Identifier: MPL-2.0 */
 /* Joining in plain C: memcpy and a bit map. */
 #ifndef BENCH_JOINING_H
 #define BENCH_JOINING_H

@@ -1,3 +1,4 @@
+/* SPDX-License-Identifier: MPL-2.0 */
 /* The listing program of document 01 in plain C, over stdio: what a user would write instead, who knows that printf is slow. */
 #include <stdint.h>
 #include <stdio.h>

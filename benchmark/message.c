@@ -1,3 +1,4 @@
+/* SPDX-License-Identifier: MPL-2.0 */
 /* A Session message sealed and opened by document 01's rules, in plain C over a peer's ciphers and hashes. */
 #include "message.h"
 

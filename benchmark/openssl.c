@@ -1,3 +1,4 @@
+/* SPDX-License-Identifier: MPL-2.0 */
 /* OpenSSL 3: contexts and algorithms are fetched once, since fetching them at each call costs more than a short message. */
 #include "peer.h"
 

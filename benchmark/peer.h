@@ -1,3 +1,4 @@
+/* SPDX-License-Identifier: MPL-2.0 */
 /* A peer: ciphers and hashes of one library. Keys are given as bytes at each call, so that every call sets its key up, as the hub's do. */
 #ifndef BENCH_PEER_H
 #define BENCH_PEER_H

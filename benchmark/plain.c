@@ -1,3 +1,4 @@
+/* SPDX-License-Identifier: MPL-2.0 */
 /* Plain C for a step and for joining a report. */
 #include "subject.h"
 

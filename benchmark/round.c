@@ -1,3 +1,4 @@
+/* SPDX-License-Identifier: MPL-2.0 */
 /* One round: ours and the peers of this process are held to the same answers, then timed in turns.  round NAME-OF-OPENSSL all|openssl
    A line for each operation, size and subject: the best nanoseconds of a call. Where OpenSSL alone is asked for, it alone is timed, so that
    ours has no more tries than its peers. */

@@ -1,3 +1,4 @@
+/* SPDX-License-Identifier: MPL-2.0 */
 /* Times programs that read one file, in turns: runs ROUNDS FILE COUNT PROGRAM NAME PROGRAM NAME ..  A line for each: the best nanoseconds
    for each of the file's COUNT messages. What they write is thrown away. */
 #include "clock.h"

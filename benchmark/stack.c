@@ -1,3 +1,4 @@
+/* SPDX-License-Identifier: MPL-2.0 */
 /* The stack that each call of ours takes: it is run on a painted stack of its own, and the bytes down to the deepest one that lost its paint
    are counted, without those of a call that does nothing. */
 #include "bytes.h"

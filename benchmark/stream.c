@@ -1,3 +1,4 @@
+/* SPDX-License-Identifier: MPL-2.0 */
 /* Writes a stream of messages, all well formed, from a fixed seed: stream COUNT. */
 #include <stdint.h>
 #include <stdio.h>

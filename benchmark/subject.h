@@ -1,3 +1,4 @@
+/* SPDX-License-Identifier: MPL-2.0 */
 /* Who is timed: our library, and each peer with plain C for what is no cipher and no hash. */
 #ifndef BENCH_SUBJECT_H
 #define BENCH_SUBJECT_H

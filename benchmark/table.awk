@@ -1,3 +1,4 @@
+# SPDX-License-Identifier: MPL-2.0
 # Best of rounds and ratios, from lines of: operation, size, subject, nanoseconds (tabs between). A ratio is theirs ÷ ours in time, which is
 # ours ÷ theirs in speed: over 1, ours is faster.
 BEGIN {

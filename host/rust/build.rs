@@ -1,3 +1,4 @@
+// SPDX-License-Identifier: MPL-2.0
 //! Finds the static library: in the folder that HLIDUNSK_LIB names, where `./install` has put it as
 //! libhlidunsk.a, else in this repository, where `rt staticlib hub_c` has built it as libhub_c.a.
 

@@ -1,3 +1,4 @@
+// SPDX-License-Identifier: MPL-2.0
 //! Compiles src/through.c, by which every call goes through include/hub.h; by TARGET_CC and TARGET_AR
 //! where the library's machine is not the one at hand (tests/machine sets them).
 

@@ -1,3 +1,4 @@
+/* SPDX-License-Identifier: MPL-2.0 */
 /*
  * Secrets marked undefined, for valgrind's memcheck: it then reports each branch and each address that depends on one.
  *

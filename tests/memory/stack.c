@@ -1,3 +1,4 @@
+/* SPDX-License-Identifier: MPL-2.0 */
 /*
  * The stack of each call: it runs on a stack that was painted before, and what is no longer painted was used. What a call of an empty
  * function uses is taken off. Each call is tried on inputs that are meant to be its dearest, painted in two colours. It is a measurement: what a

@@ -1,3 +1,4 @@
+# SPDX-License-Identifier: MPL-2.0
 # awk -f lists.awk table FILE: FILE with each of its lists made anew from the table. A list stands between a line that has
 # `tests/refusals/write: KIND` and one that has `tests/refusals/write: end`, KIND being one of those in block() below.
 BEGIN { FS = " *[|] *" }

@@ -1,3 +1,4 @@
+-- SPDX-License-Identifier: MPL-2.0
 -- Cipher block chaining: lengths, and that decryption undoes encryption for any number of blocks.
 use mathlib.Core.Path.{_≡_, refl, sym, ap, ap₂, _∙_, subst}
 use mathlib.Core.List.{List, [], _∷_, _++_}

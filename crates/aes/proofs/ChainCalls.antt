@@ -1,3 +1,4 @@
+-- SPDX-License-Identifier: MPL-2.0
 -- What the public calls of chaining answer, and what they leave in their target.
 use mathlib.Core.Path.{_≡_, refl, sym, ap, ap₂, _∙_}
 use mathlib.Core.List.{List, [], _∷_, _++_, append-nil}

@@ -1,3 +1,4 @@
+-- SPDX-License-Identifier: MPL-2.0
 -- A chain that a loop writes block by block: what its invariant says, how it begins, goes on and ends.
 use mathlib.Core.Path.{_≡_, refl, sym, ap, ap₂, _∙_, subst}
 use mathlib.Core.List.{List, [], _++_, append-assoc, append-nil}

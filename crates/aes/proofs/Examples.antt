@@ -1,3 +1,4 @@
+-- SPDX-License-Identifier: MPL-2.0
 -- FIPS 197's own numbers, of the definitions: the round key after the first of appendix A.1, and round 1 of appendix B. The whole of both, and
 -- the way back, are run by the program `vectors`.
 use mathlib.Core.Path.{_≡_, refl}

@@ -1,3 +1,4 @@
+-- SPDX-License-Identifier: MPL-2.0
 -- The round keys: each is a block, and the code makes the next.
 use mathlib.Core.Path.{_≡_, sym, ap, _∙_, subst}
 use mathlib.Core.List.{List, [], _∷_}

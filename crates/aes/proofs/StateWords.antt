@@ -1,3 +1,4 @@
+-- SPDX-License-Identifier: MPL-2.0
 -- The state as four words: their bytes, also with the words of a key added, and words that are made of a block's columns.
 use mathlib.Core.Path.{_≡_, refl, ap, _∙_}
 use mathlib.Core.List.{List, [], _∷_, _++_}

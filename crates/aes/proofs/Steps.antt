@@ -1,3 +1,4 @@
+-- SPDX-License-Identifier: MPL-2.0
 -- The steps of a round: each takes a block to a block, and each is undone by its inverse.
 use mathlib.Core.Path.{_≡_, refl, sym, ap, _∙_, subst}
 use mathlib.Core.List.{List, [], _∷_, _++_}

@@ -1,3 +1,4 @@
+-- SPDX-License-Identifier: MPL-2.0
 -- A round by its tables, one law for both directions: what differs is the substitution, the coefficients and the order in which the words of
 -- the state are read. The cipher reads them as they stand, a b c d, its inverse turned, a d c b.
 use mathlib.Core.Path.{_≡_, ap, _∙_}

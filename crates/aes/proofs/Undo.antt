@@ -1,3 +1,4 @@
+-- SPDX-License-Identifier: MPL-2.0
 -- Decryption undoes encryption, for every key and block; and the rounds as the code counts them.
 use mathlib.Core.Path.{_≡_, sym, ap, ap₂, _∙_, subst}
 use mathlib.Core.List.{List, []}

@@ -1,3 +1,4 @@
+-- SPDX-License-Identifier: MPL-2.0
 -- SP 800-38A, 6.2: cipher block chaining, over as many whole blocks as the list has; what is left over past them is not part of the result.
 use mathlib.Core.Bool.{Bool, _&&_, cond}
 use mathlib.Core.List.{List, [], _++_}

@@ -1,3 +1,4 @@
+-- SPDX-License-Identifier: MPL-2.0
 -- FIPS 197, 5.1 and 5.3: Cipher() and InvCipher() on one block, by a list of eleven round keys.
 use mathlib.Core.List.{List, []}
 use Prim.Native.Nat.{ℕ, zero, suc}

@@ -1,3 +1,4 @@
+-- SPDX-License-Identifier: MPL-2.0
 -- FIPS 197, 5.1 and 5.3: the state, a block of sixteen bytes, and the steps of a round each way. Byte i of the list stands in row i % 4
 -- and column i / 4 (3.4). Each step is given byte by byte.
 use mathlib.Core.Path.{_≡_}

@@ -1,3 +1,4 @@
+-- SPDX-License-Identifier: MPL-2.0
 -- The state as the code holds it: four words, a column to each, its first byte the lowest.
 use mathlib.Core.List.{List, [], _∷_}
 use mathlib.Core.Path.{_≡_}

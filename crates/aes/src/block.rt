@@ -1,3 +1,4 @@
+// SPDX-License-Identifier: MPL-2.0
 // One block, both ways (FIPS 197, 5.1 and 5.3). What chaining calls block by block goes by references to tables that are bound once a call.
 use super::columns::State;
 use super::columns::add;

@@ -1,3 +1,4 @@
+// SPDX-License-Identifier: MPL-2.0
 // Cipher block chaining (SP 800-38A, 6.2), from one slice to another and, for encryption, in place.
 use super::block::Pair;
 use super::block::decrypt_pair;

@@ -1,3 +1,4 @@
+// SPDX-License-Identifier: MPL-2.0
 // The state as four words, a column to each, its first byte the lowest.
 ghost use mathlib.Core.Path.{_≡_};
 ghost use Prim.Native.Nat.{_<_};

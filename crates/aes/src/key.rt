@@ -1,3 +1,4 @@
+// SPDX-License-Identifier: MPL-2.0
 // Key expansion (FIPS 197, 5.2).
 use field::tables::substitution;
 ghost use mathlib.Core.Path.{_≡_};

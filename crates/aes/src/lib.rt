@@ -1,3 +1,4 @@
+// SPDX-License-Identifier: MPL-2.0
 // AES-128 (FIPS 197) both ways, and cipher block chaining (SP 800-38A, 6.2) both ways. Each file stands on those before it: columns, rounds,
 // block, cbc; key, the expansion of a key, stands by itself.
 //

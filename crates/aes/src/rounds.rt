@@ -1,3 +1,4 @@
+// SPDX-License-Identifier: MPL-2.0
 // The rounds of the cipher and of its inverse (FIPS 197, 5.1 and 5.3), each by a table of words.
 //
 // A round looks up four words for each column: SubBytes, ShiftRows and MixColumns in one. The table holds each word twice over, so that a

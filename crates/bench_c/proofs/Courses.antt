@@ -1,3 +1,4 @@
+-- SPDX-License-Identifier: MPL-2.0
 -- A course goes on by one piece.
 use Prim.Native.Nat.{ℕ, _+_, _*_}
 use mathlib.Core.Path.{_≡_}

@@ -1,3 +1,4 @@
+-- SPDX-License-Identifier: MPL-2.0
 -- A report whose pieces come one after the other, each of F bytes of a source, from the first on.
 use Prim.Native.Nat.{ℕ, zero, suc, _*_}
 use mathlib.Core.List.{List}

@@ -1,3 +1,4 @@
+// SPDX-License-Identifier: MPL-2.0
 // Cipher block chaining both ways, the key's expansion included.
 use aes::block::load_block;
 use aes::cbc::cbc_decrypt;

@@ -1,3 +1,4 @@
+// SPDX-License-Identifier: MPL-2.0
 // Joining alone: the pieces of a report come one after the other.
 use joining::Arrival;
 use joining::Joined;

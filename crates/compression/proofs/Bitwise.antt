@@ -1,3 +1,4 @@
+-- SPDX-License-Identifier: MPL-2.0
 -- Ch and Maj by fewer operations than the standard writes, on words of any width: bit by bit, by computing.
 use mathlib.Core.Path.{_≡_, refl}
 use Prim.Native.Nat.{ℕ, zero, suc, _-_, _*_, _/_, _%_, _^_, _<_}

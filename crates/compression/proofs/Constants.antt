@@ -1,3 +1,4 @@
+-- SPDX-License-Identifier: MPL-2.0
 -- The constants of four rounds, which the code finds by a match over t / 4.
 use mathlib.Core.Path.{_≡_}
 use Prim.Native.Nat.{ℕ, zero, suc, _+_, _*_, _/_, _%_, _≤_, zero-le}

@@ -1,3 +1,4 @@
+-- SPDX-License-Identifier: MPL-2.0
 -- The schedule, made in an array that has room for it, and the rounds on it.
 use mathlib.Core.Path.{_≡_, _∙_, sym, ap}
 use mathlib.Core.Logic.{⊎-elim}

@@ -1,3 +1,4 @@
+-- SPDX-License-Identifier: MPL-2.0
 -- FIPS 180-4 §6.2.2: the message schedule W of a block, the sixty-four rounds on the working variables a to h, and the hash value after
 -- the block. A hash value and the working variables are both a `Vars`, eight words.
 use Prim.Native.Nat.{ℕ, zero, suc, _+_}

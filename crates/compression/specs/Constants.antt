@@ -1,3 +1,4 @@
+-- SPDX-License-Identifier: MPL-2.0
 -- FIPS 180-4 §4.2.2: SHA-256's constants.
 use Prim.Native.Nat.{ℕ}
 use mathlib.Core.List.{List, [], _∷_}

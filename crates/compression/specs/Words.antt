@@ -1,3 +1,4 @@
+-- SPDX-License-Identifier: MPL-2.0
 -- FIPS 180-4 §2.2.2, §3.2 and §4.1.2: words of 32 bits, as numbers below 2^32; what is done to them; SHA-256's six functions of words.
 use Prim.Native.Nat.{ℕ, _+_, _-_, _*_, _/_, _%_, _^_}
 use lib.Bits.{bitAnd, bitOr, bitXor}

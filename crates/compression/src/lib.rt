@@ -1,3 +1,4 @@
+// SPDX-License-Identifier: MPL-2.0
 // FIPS 180-4 §6.2.2 for SHA-256: one block into the hash value.
 mod rounds;
 mod schedule;

@@ -1,3 +1,4 @@
+// SPDX-License-Identifier: MPL-2.0
 // The sixty-four rounds on the working variables. The schedule's words are made between them, four at a time.
 use crate::Vars;
 use crate::schedule::put_next;

@@ -1,3 +1,4 @@
+// SPDX-License-Identifier: MPL-2.0
 // The message schedule: sixty-four words, of which the first sixteen are the block's.
 use crate::word::add;
 use crate::word::small_sigma0;

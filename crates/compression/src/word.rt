@@ -1,3 +1,4 @@
+// SPDX-License-Identifier: MPL-2.0
 // FIPS 180-4 §4.1.2: SHA-256's functions of words.
 ghost use mathlib.Core.Path.{_≡_};
 ghost use Prim.Native.Nat.{_<_};

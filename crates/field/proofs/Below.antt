@@ -1,3 +1,4 @@
+-- SPDX-License-Identifier: MPL-2.0
 -- What holds of each number below n, by one test that is computed, one number after the other.
 use mathlib.Core.Path.{_≡_, _∙_, subst, sym}
 use mathlib.Core.Bool.{Bool, true, false}

@@ -1,3 +1,4 @@
+-- SPDX-License-Identifier: MPL-2.0
 -- A product with a fixed byte is a byte, and the product of a sum is the sum of the products.
 use mathlib.Core.Path.{_≡_, sym, ap, ap₂, _∙_, subst}
 use Prim.Native.Nat.{ℕ, zero, suc, _*_, _/_, _%_, _<_}

@@ -1,3 +1,4 @@
+-- SPDX-License-Identifier: MPL-2.0
 -- InvMixColumns undoes MixColumns: the inverse row times the row, turned four times, has the coefficients 1, 0, 0, 0.
 use mathlib.Core.Path.{_≡_, refl, sym, ap, _∙_}
 use Prim.Native.Nat.{ℕ, _<_}

@@ -1,3 +1,4 @@
+-- SPDX-License-Identifier: MPL-2.0
 -- The product of bytes: either factor may come first, three may be put together either way, and 1 changes nothing. Both sides keep sums in each
 -- factor, so that a test over the binary digits is enough.
 use mathlib.Core.Path.{_≡_, refl, _∙_}

@@ -1,3 +1,4 @@
+-- SPDX-License-Identifier: MPL-2.0
 -- A list given by its elements has them; a list that has them is that list, whether they were tested or filled in one by one.
 use mathlib.Core.Path.{_≡_, refl, sym, ap, _∙_, subst}
 use mathlib.Core.List.{List}

@@ -1,3 +1,4 @@
+-- SPDX-License-Identifier: MPL-2.0
 -- The substitution has the standard's rule at each byte, nothing else has it, and the substitution back undoes it.
 use mathlib.Core.Path.{_≡_, refl, sym, ap, _∙_}
 use Prim.Native.Nat.{ℕ, zero, suc, _<_, min}

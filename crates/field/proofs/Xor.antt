@@ -1,3 +1,4 @@
+-- SPDX-License-Identifier: MPL-2.0
 -- The laws of `xor`.
 use mathlib.Core.Path.{_≡_, refl, sym, ap, ap₂, _∙_}
 use Prim.Native.Nat.{ℕ, _*_, _/_, _%_, _<_}

@@ -1,3 +1,4 @@
+-- SPDX-License-Identifier: MPL-2.0
 -- FIPS 197, 4.3, 5.1.3 and 5.3.3: a row of a matrix times a column of four bytes. Each matrix has one row, turned by one place from row
 -- to row: so the row that starts at a byte's own place serves all four.
 use Prim.Native.Nat.{ℕ}

@@ -1,3 +1,4 @@
+-- SPDX-License-Identifier: MPL-2.0
 -- Lists given by their elements.
 use mathlib.Core.List.{List, [], _∷_}
 use Prim.Native.Nat.{ℕ, zero, suc}

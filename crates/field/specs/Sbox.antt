@@ -1,3 +1,4 @@
+-- SPDX-License-Identifier: MPL-2.0
 -- FIPS 197, 5.1.1 and 5.3.2: the substitution of a byte, by its rule, and the substitution back. The code looks both up in tables of
 -- 256 entries, and each entry is shown to be what is written here.
 use mathlib.Core.Path.{_≡_}

@@ -1,3 +1,4 @@
+-- SPDX-License-Identifier: MPL-2.0
 -- A column of four bytes as one word, the first byte the lowest, and the table by which a round is computed: what one byte adds to its
 -- column stands there ready.
 use mathlib.Core.Path.{_≡_}

@@ -1,3 +1,4 @@
+-- SPDX-License-Identifier: MPL-2.0
 -- The exclusive or of two numbers, bit by bit: what `^` computes, under a name that stays shut, so that a nest of it stays small.
 -- Its laws are in proofs/Xor.
 use Prim.Native.Nat.{ℕ}

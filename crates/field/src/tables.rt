@@ -1,3 +1,4 @@
+// SPDX-License-Identifier: MPL-2.0
 // The tables of AES. An array constant is built anew wherever it is indexed, so a caller takes each table once, by the functions here,
 // and passes it on by reference.
 ghost use mathlib.Core.Path.{_≡_};

@@ -1,3 +1,4 @@
+-- SPDX-License-Identifier: MPL-2.0
 -- A certificate's place lies in its payload.
 use Prim.Native.Nat.{ℕ, _+_, _≤_}
 use mathlib.Core.List.{List}

@@ -1,3 +1,4 @@
+-- SPDX-License-Identifier: MPL-2.0
 -- What a Connect message does, by the row that applies: the table of "Host states" is gone through here, and nowhere else.
 use Prim.Native.Nat.{ℕ}
 use mathlib.Core.Path.{_≡_}

@@ -1,3 +1,4 @@
+-- SPDX-License-Identifier: MPL-2.0
 -- A refusal and Again leave connection and report buffer alone.
 use Prim.Native.Nat.{ℕ}
 use mathlib.Core.Path.{_≡_, refl}

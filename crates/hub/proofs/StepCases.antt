@@ -1,3 +1,4 @@
+-- SPDX-License-Identifier: MPL-2.0
 -- A property of what a step answers and leaves, by the way that it went: a law of all steps is one of these cases.
 use Prim.Native.Nat.{ℕ}
 use mathlib.Core.Path.{_≡_, refl}

@@ -1,3 +1,4 @@
+-- SPDX-License-Identifier: MPL-2.0
 -- The step as the machine of demand 3: a piece of the report that the reader reads is joined, and a quiet answer changes nothing.
 use Prim.Native.Nat.{ℕ, _≤_}
 use mathlib.Core.Path.{_≡_, refl, ap}

@@ -1,3 +1,4 @@
+-- SPDX-License-Identifier: MPL-2.0
 -- What a step's answer says, in document 01's own numbers.
 use Prim.Native.Nat.{ℕ}
 use mathlib.Core.Bool.{Bool, true, false}

@@ -1,3 +1,4 @@
+-- SPDX-License-Identifier: MPL-2.0
 -- A call of the step, seen from outside: what it is given, what it leaves and answers; and calls one after the other.
 use Prim.Native.Nat.{ℕ}
 use mathlib.Core.List.{List}

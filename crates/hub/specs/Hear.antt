@@ -1,3 +1,4 @@
+-- SPDX-License-Identifier: MPL-2.0
 -- A message that the reader read: what it does to a connection of any kind, and to the report buffer.
 use Prim.Native.Nat.{ℕ}
 use mathlib.Core.List.{List, [], _∷_}

@@ -1,3 +1,4 @@
+-- SPDX-License-Identifier: MPL-2.0
 -- The host's states: 0 waiting for a request, 1 waiting for authentication, 2 passed, 3 Ready, 4 Failed; and what a Connect message does in each.
 use Prim.Native.Nat.{ℕ}
 use mathlib.Core.List.{List, [], _∷_, _++_}

@@ -1,3 +1,4 @@
+-- SPDX-License-Identifier: MPL-2.0
 -- Opening a connection.
 use Prim.Native.Nat.{ℕ}
 use mathlib.Core.Bool.{cond}

@@ -1,3 +1,4 @@
+-- SPDX-License-Identifier: MPL-2.0
 -- A step: one message, the keys, both lent buffers and a verdict, on any connection. "A step checks in this order, the first that applies
 -- being the answer: 25; 24; 1 to 9; for sealed messages 10 to 13; 14; 16; 15; then 19, 17, 18, 21, 20, 22, 23."
 use Prim.Native.Nat.{ℕ}

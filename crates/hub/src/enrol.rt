@@ -1,3 +1,4 @@
+// SPDX-License-Identifier: MPL-2.0
 // Enrolment: what a Connect message does in each state.
 ghost use mathlib.Core.Path.{_≡_};
 ghost use Rattle.hub.specs.Host.{requestRows, deviceRows, doneRows, hosted, knows, refuse, requested, withDigestAndState};

@@ -1,3 +1,4 @@
+// SPDX-License-Identifier: MPL-2.0
 // What a message that the reader read does to a connection and to the report buffer.
 ghost use mathlib.Core.Path.{_≡_};
 ghost use Rattle.joining.specs.Join.{join, reportAfter};

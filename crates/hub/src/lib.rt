@@ -1,3 +1,4 @@
+// SPDX-License-Identifier: MPL-2.0
 // A connection of the hub: opening it, and what each message does to it (document 01, "Host states").
 mod enrol;
 mod hear;

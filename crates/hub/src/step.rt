@@ -1,3 +1,4 @@
+// SPDX-License-Identifier: MPL-2.0
 // A step: one message on a connection.
 ghost use mathlib.Core.Path.{_≡_};
 ghost use Rattle.hub.specs.Step.{step, reportStepped, workingStepped};

@@ -1,3 +1,4 @@
+-- SPDX-License-Identifier: MPL-2.0
 -- A field that is brought into its room changes nothing that the writer answers or writes: a number that has no room is refused by the row that
 -- tests its field, before and after.
 use Prim.Native.Nat.{ℕ, _≤_}

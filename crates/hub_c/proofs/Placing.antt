@@ -1,3 +1,4 @@
+-- SPDX-License-Identifier: MPL-2.0
 -- The place in words and the part that is handed out.
 use Prim.Native.Nat.{ℕ, _+_}
 use mathlib.Core.Path.{_≡_, refl}

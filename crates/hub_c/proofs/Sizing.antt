@@ -1,3 +1,4 @@
+-- SPDX-License-Identifier: MPL-2.0
 -- Buffers that have their sizes, and what the calls over them come to, as laws over numbers and lists.
 use Prim.Native.Nat.{ℕ, _*_}
 use mathlib.Core.Path.{_≡_, refl, ap}

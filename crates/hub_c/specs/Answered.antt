@@ -1,3 +1,4 @@
+-- SPDX-License-Identifier: MPL-2.0
 -- A step's answer in words, and what a step leaves in the state buffer.
 use Prim.Native.Nat.{ℕ}
 use mathlib.Core.List.{List, [], _∷_}

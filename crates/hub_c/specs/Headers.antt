@@ -1,3 +1,4 @@
+-- SPDX-License-Identifier: MPL-2.0
 -- What was read of a message, in words.
 use Prim.Native.Nat.{ℕ, _+_}
 use mathlib.Core.Path.{_≡_}

@@ -1,3 +1,4 @@
+-- SPDX-License-Identifier: MPL-2.0
 -- The listing's line of one message.
 use Prim.Native.Nat.{ℕ}
 use mathlib.Core.List.{List}

@@ -1,3 +1,4 @@
+-- SPDX-License-Identifier: MPL-2.0
 -- The cutter in words.
 use Prim.Native.Nat.{ℕ, _*_}
 use mathlib.Core.List.{List, [], _∷_}

@@ -1,3 +1,4 @@
+-- SPDX-License-Identifier: MPL-2.0
 -- Buffers of fixed size: their sizes, and what a call answers and leaves where one of them has another size.
 use Prim.Native.Nat.{ℕ}
 use mathlib.Core.List.{List}

@@ -1,3 +1,4 @@
+-- SPDX-License-Identifier: MPL-2.0
 -- Writing a message whose fields are given in words.
 use Prim.Native.Nat.{ℕ}
 use mathlib.Core.List.{List, [], _∷_}

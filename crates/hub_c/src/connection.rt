@@ -1,3 +1,4 @@
+// SPDX-License-Identifier: MPL-2.0
 // Opening a connection and stepping it, in its state buffer.
 use super::words::TRIPLE;
 use super::words::WRONG_BUFFER;

@@ -1,3 +1,4 @@
+// SPDX-License-Identifier: MPL-2.0
 // The cutter in words: how many pieces a report makes, and where piece i lies.
 use super::words::TRIPLE;
 use super::words::WRONG_BUFFER;

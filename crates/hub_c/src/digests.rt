@@ -1,3 +1,4 @@
+// SPDX-License-Identifier: MPL-2.0
 // Digest, HMAC and the comparison of tags.
 use super::words::WRONG_BUFFER;
 use super::words::fill;

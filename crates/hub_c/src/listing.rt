@@ -1,3 +1,4 @@
+// SPDX-License-Identifier: MPL-2.0
 // The listing's line of one message.
 use super::reading::of_header;
 use super::words::WRONG_BUFFER;

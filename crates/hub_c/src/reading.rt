@@ -1,3 +1,4 @@
+// SPDX-License-Identifier: MPL-2.0
 // Reading: what was read of a message, in words.
 //
 //     0      1       2          3         4       5       6         7         8        9      10

@@ -1,3 +1,4 @@
+// SPDX-License-Identifier: MPL-2.0
 // Answers of several numbers, written as words of 64 bits.
 ghost use mathlib.Core.Path.{_≡_};
 ghost use mathlib.Core.List.{_∷_, []};

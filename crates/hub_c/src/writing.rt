@@ -1,3 +1,4 @@
+// SPDX-License-Identifier: MPL-2.0
 // Writing a message whose fields are given in words: type, flags, sequence, request, index, count, session, channel.
 use super::words::WRONG_BUFFER;
 use super::words::put_length;

@@ -1,3 +1,4 @@
+// SPDX-License-Identifier: MPL-2.0
 // A program's standard input, a part of it at a time in a buffer that is read into, taken from at the front and read into again. And what else the
 // programs share: the lesser of two numbers, the lines of a text.
 use libc::STDIN_FILENO;

@@ -1,3 +1,4 @@
+-- SPDX-License-Identifier: MPL-2.0
 -- Demand 3 in the abstract: over any machine that joins the pieces of a report and leaves all alone at what comes between, and over any
 -- course of pieces, in any order, with repeats.
 use Prim.Native.Nat.{ℕ, _+_, _<_}

@@ -1,3 +1,4 @@
+-- SPDX-License-Identifier: MPL-2.0
 -- The set of the pieces that have come over a course: it has just these, and depends on nothing else.
 use Prim.Native.Nat.{ℕ, _≤_, _<_}
 use mathlib.Core.Path.{_≡_, refl, sym, ap, _∙_}

@@ -1,3 +1,4 @@
+-- SPDX-License-Identifier: MPL-2.0
 -- The heard count over any course: it is the number of different pieces that have come.
 use Prim.Native.Nat.{ℕ, zero, suc, _+_, _≤_, _<_}
 use mathlib.Core.Path.{_≡_, refl, sym, ap, _∙_}

@@ -1,3 +1,4 @@
+-- SPDX-License-Identifier: MPL-2.0
 -- Laws of the heard set, over any number of indexes.
 use Prim.Native.Nat.{ℕ, zero, suc, _+_, _≤_, _<_, zero-le}
 use mathlib.Core.Path.{_≡_, refl, sym, ap, _∙_}

@@ -1,3 +1,4 @@
+-- SPDX-License-Identifier: MPL-2.0
 -- The ways through `advance` and `join`, over plain values; and the cases of what joining answers.
 use Prim.Native.Nat.{ℕ, _+_, _-_, _*_}
 use mathlib.Core.Path.{_≡_}

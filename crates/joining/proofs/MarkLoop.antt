@@ -1,3 +1,4 @@
+-- SPDX-License-Identifier: MPL-2.0
 -- An index marked place by place, as code does that writes each place: up to place i all is as with the index marked, from there on as it
 -- was.
 use Prim.Native.Nat.{ℕ, _+_, _<_}

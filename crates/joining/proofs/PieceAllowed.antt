@@ -1,3 +1,4 @@
+-- SPDX-License-Identifier: MPL-2.0
 -- While pieces of a report are missing, each of its pieces passes every row; once all have come, 17 applies.
 use Prim.Native.Nat.{ℕ, _+_, _-_, _*_, _<_}
 use mathlib.Core.Path.{_≡_, refl}

@@ -1,3 +1,4 @@
+-- SPDX-License-Identifier: MPL-2.0
 -- Piece i comes when S has come: then all is as when S with i has come.
 use Prim.Native.Nat.{ℕ, _+_, _-_, _*_, _≤_, _<_}
 use mathlib.Core.Path.{_≡_, _∙_}

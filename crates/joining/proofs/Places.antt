@@ -1,3 +1,4 @@
+-- SPDX-License-Identifier: MPL-2.0
 -- A piece put into a buffer: the length and the byte at each place of what comes of it.
 use Prim.Native.Nat.{ℕ, _+_, _≤_, _<_, min}
 use mathlib.Core.Path.{_≡_, sym, ap, _∙_}

@@ -1,3 +1,4 @@
+-- SPDX-License-Identifier: MPL-2.0
 -- What is known of a piece that no row refuses.
 use Prim.Native.Nat.{ℕ, _+_, _*_, _≤_, _<_}
 use mathlib.Core.Path.{_≡_, refl, sym, _∙_}

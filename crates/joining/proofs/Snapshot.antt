@@ -1,3 +1,4 @@
+-- SPDX-License-Identifier: MPL-2.0
 -- What is remembered, and what the report buffer holds, once a set of the pieces of one report has come: they depend on the set and on how
 -- they began, and on nothing else.
 use Prim.Native.Nat.{ℕ, zero, suc, _+_, _-_, _*_, _/_, _≤_, _<_}

@@ -1,3 +1,4 @@
+-- SPDX-License-Identifier: MPL-2.0
 -- The report buffer with one piece more: where piece i is put once S has come, it is as once S with i has come.
 use Prim.Native.Nat.{ℕ, _+_, _-_, _*_, _/_, _≤_, _<_}
 use mathlib.Core.Path.{_≡_, sym, _∙_}

@@ -1,3 +1,4 @@
+-- SPDX-License-Identifier: MPL-2.0
 -- Cutting: "A report of 0 to 64 × F bytes is cut in order into pieces of F bytes, the last holding the remainder of 1 to F; an empty report
 -- is one empty piece."
 use Prim.Native.Nat.{ℕ, _+_, _-_, _*_, _/_}

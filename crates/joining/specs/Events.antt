@@ -1,3 +1,4 @@
+-- SPDX-License-Identifier: MPL-2.0
 -- A course of calls, as far as demand 3 looks at it: which piece each one brought, which have come, how many.
 use Prim.Native.Nat.{ℕ, zero, suc, _+_, _<_}
 use mathlib.Core.Path.{_≡_}

@@ -1,3 +1,4 @@
+-- SPDX-License-Identifier: MPL-2.0
 -- The heard set: one Boolean for each index that a piece may have. Nothing below names their number but `most`, and no law looks at it.
 use Prim.Native.Nat.{ℕ, _+_}
 use mathlib.Core.List.{List, [], _∷_}

@@ -1,3 +1,4 @@
+-- SPDX-License-Identifier: MPL-2.0
 -- Joining: what an opened Session message of a Ready connection does to what the connection remembers of the message it expects (`Progress`)
 -- and to the report buffer. F is the fragment size.
 use Prim.Native.Nat.{ℕ, _+_, _-_, _*_, _<_, _≤_}

@@ -1,3 +1,4 @@
+-- SPDX-License-Identifier: MPL-2.0
 -- The report buffer: a part of it, and a piece written into it.
 use Prim.Native.Nat.{ℕ, _+_}
 use mathlib.Core.List.{List, _++_}

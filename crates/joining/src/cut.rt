@@ -1,3 +1,4 @@
+// SPDX-License-Identifier: MPL-2.0
 // The cutter: which bytes of a report stand in piece i.
 ghost use mathlib.Core.Path.{_≡_};
 ghost use Prim.Native.Nat.{_<_, _+_};

@@ -1,3 +1,4 @@
+// SPDX-License-Identifier: MPL-2.0
 // The heard set: an array of bools, one for each index.
 ghost use mathlib.Core.Path.{_≡_};
 ghost use Prim.Native.Nat.{_<_, _≤_};

@@ -1,3 +1,4 @@
+// SPDX-License-Identifier: MPL-2.0
 // Cutting a report into pieces and joining them again: document 01, "Cutting and joining".
 pub mod cut;
 mod heard;

@@ -1,3 +1,4 @@
+-- SPDX-License-Identifier: MPL-2.0
 -- A sum of tests is false where each is, a product true where each is.
 use mathlib.Core.Path.{_≡_, refl, sym}
 use mathlib.Core.Bool.{Bool, true, false, _&&_, _||_, true≢false}

@@ -1,3 +1,4 @@
+-- SPDX-License-Identifier: MPL-2.0
 -- Lists of bytes: every element is below 256, and so is every element of their parts and of what is joined from them.
 use Prim.Native.Nat.{ℕ, zero, suc, _+_, _/_, _%_, _<_}
 use mathlib.Core.List.{List, [], _∷_, _++_}

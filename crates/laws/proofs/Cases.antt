@@ -1,3 +1,4 @@
+-- SPDX-License-Identifier: MPL-2.0
 -- By a test: what holds where it is true and where it is false holds.
 use mathlib.Core.Path.{_≡_, refl}
 use mathlib.Core.Bool.{Bool, true, false}

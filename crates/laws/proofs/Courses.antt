@@ -1,3 +1,4 @@
+-- SPDX-License-Identifier: MPL-2.0
 -- A machine that is given inputs one after the other: where it stands after a course of them, by what each of them was.
 use mathlib.Core.Path.{_≡_}
 use mathlib.Core.List.{List, [], _∷_}

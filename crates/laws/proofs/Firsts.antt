@@ -1,3 +1,4 @@
+-- SPDX-License-Identifier: MPL-2.0
 -- What a table's answer says, for every table: a number other than 0 is that of the first row whose test holds, and 0 says that no
 -- test holds. Of two tables one after the other the second is asked where no row of the first applies.
 use Prim.Native.Nat.{ℕ, _≤_}

@@ -1,3 +1,4 @@
+-- SPDX-License-Identifier: MPL-2.0
 -- A part of a list is lent on and comes back changed: what the whole then is.
 use Prim.Native.Nat.{ℕ, _+_, _-_, _≤_}
 use mathlib.Core.Path.{_≡_, sym, _∙_}

@@ -1,3 +1,4 @@
+-- SPDX-License-Identifier: MPL-2.0
 -- The code goes down a table row by row with `next`, and answers what the table answers. Where it stops between two tables, because the rows
 -- below are dear or need what those above leave, the answer is that of the two tables together.
 use Prim.Native.Nat.{ℕ, zero, suc}

@@ -1,3 +1,4 @@
+-- SPDX-License-Identifier: MPL-2.0
 -- Bytes as numbers: the bounds of what is read, and what stands behind the front of a list.
 use Prim.Native.Nat.{ℕ, _+_, _<_}
 use mathlib.Core.Path.{_≡_, sym, ap, _∙_}

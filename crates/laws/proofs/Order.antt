@@ -1,3 +1,4 @@
+-- SPDX-License-Identifier: MPL-2.0
 -- Two numbers compared, as a choice of two cases.
 use mathlib.Core.Logic.{_⊎_, inl, inr, ⊎-elim}
 use Prim.Native.Nat.{ℕ, zero, suc, _<_, _≤_, zero-le, suc-le-suc}

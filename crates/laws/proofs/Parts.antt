@@ -1,3 +1,4 @@
+-- SPDX-License-Identifier: MPL-2.0
 -- The bytes at a place, `bytesAt`: how many they are, that they are a part of the list where it has them, and that a list filled from
 -- its start one byte after the other comes to hold them.
 use Prim.Native.Nat.{ℕ, zero, suc, _+_, _≤_, _<_}

@@ -1,3 +1,4 @@
+-- SPDX-License-Identifier: MPL-2.0
 -- `same` decides equality of lists of bytes, both ways; how it goes over lists that end in a byte each.
 use Prim.Native.Nat.{ℕ}
 use mathlib.Core.Path.{_≡_, refl, ap, ap₂, sym}

@@ -1,3 +1,4 @@
+-- SPDX-License-Identifier: MPL-2.0
 -- Runs of stores: two, the second where the first ends, are one; what is stored past the end is dropped.
 use Prim.Native.Nat.{ℕ, zero, suc, _+_, _≤_, _<_}
 use mathlib.Core.Path.{_≡_, refl, sym, ap, _∙_}

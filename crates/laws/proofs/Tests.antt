@@ -1,3 +1,4 @@
+-- SPDX-License-Identifier: MPL-2.0
 -- What closes the returns of `if … { return n; }` code against a table of rows: each branch's fact turns a test into true or false,
 -- and a `cond` on a test that is known gives its arm.
 use borrow.Author.Needs.{needs}

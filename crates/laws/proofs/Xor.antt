@@ -1,3 +1,4 @@
+-- SPDX-License-Identifier: MPL-2.0
 -- `bitXor` is associative, and 0 of equals only; an or is 0 of zeros only.
 use mathlib.Core.Path.{_≡_, _∙_, sym, ap, ap₂, refl}
 use Prim.Native.Nat.{ℕ, zero, suc, _+_, _*_, _/_, _%_, _<_, _≤_}

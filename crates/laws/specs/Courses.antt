@@ -1,3 +1,4 @@
+-- SPDX-License-Identifier: MPL-2.0
 -- A machine that is given inputs one after the other.
 use mathlib.Core.List.{List, [], _∷_}
 

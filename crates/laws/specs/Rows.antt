@@ -1,3 +1,4 @@
+-- SPDX-License-Identifier: MPL-2.0
 -- A table of refusals: a list of rows, each a number of document 01 and the test that gives it, in the order in which they are made.
 use Prim.Native.Nat.{ℕ}
 use mathlib.Core.List.{List, [], _∷_}

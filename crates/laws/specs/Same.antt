@@ -1,3 +1,4 @@
+-- SPDX-License-Identifier: MPL-2.0
 -- The test that two lists of bytes are the same.
 use Prim.Native.Nat.{ℕ}
 use mathlib.Core.List.{List, [], _∷_}

@@ -1,3 +1,4 @@
+-- SPDX-License-Identifier: MPL-2.0
 -- Digits: how many they are, and that they may be put into a buffer the last one first.
 use Prim.Native.Nat.{ℕ, zero, suc, _+_, _-_, _/_, _%_, _≤_, _<_}
 use mathlib.Core.Path.{_≡_, refl}

@@ -1,3 +1,4 @@
+-- SPDX-License-Identifier: MPL-2.0
 -- A text that is put, with room and without.
 use Prim.Native.Nat.{ℕ, _+_, _≤_, _<_}
 use mathlib.Core.Path.{_≡_, refl}

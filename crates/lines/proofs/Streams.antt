@@ -1,3 +1,4 @@
+-- SPDX-License-Identifier: MPL-2.0
 -- The first message of a stream: its bounds.
 use Prim.Native.Nat.{ℕ, _≤_, _<_}
 use mathlib.Core.Path.{_≡_, refl}

@@ -1,3 +1,4 @@
+-- SPDX-License-Identifier: MPL-2.0
 -- Turns of a listing: each by its case, and one after the other.
 use Prim.Native.Nat.{ℕ, zero, suc, _+_, _-_, _/_, _≤_, _<_}
 use mathlib.Core.Path.{_≡_, refl, sym, ap, _∙_}

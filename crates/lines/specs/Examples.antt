@@ -1,3 +1,4 @@
+-- SPDX-License-Identifier: MPL-2.0
 -- Document 01's example of the listing.
 use Prim.Native.Nat.{ℕ}
 use mathlib.Core.List.{List, [], _∷_}

@@ -1,3 +1,4 @@
+-- SPDX-License-Identifier: MPL-2.0
 -- The listing of document 01: the line of a message, and what a run does with a part of its input.
 use Prim.Native.Nat.{ℕ, zero, suc, _+_, _/_}
 use mathlib.Core.List.{List, [], _∷_, _++_}

@@ -1,3 +1,4 @@
+-- SPDX-License-Identifier: MPL-2.0
 -- A stream of messages back to back: what it begins with. The stream is what has been read and not yet taken; `ended` says that nothing
 -- will follow it.
 use Prim.Native.Nat.{ℕ}

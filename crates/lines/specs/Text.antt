@@ -1,3 +1,4 @@
+-- SPDX-License-Identifier: MPL-2.0
 -- Text in ASCII: a number below 2^32 in decimal, a number with the byte behind it, a name with a number; and a text that is put into a
 -- buffer at a place, if there is room.
 use Prim.Native.Nat.{ℕ, zero, suc, _+_, _/_, _%_}

@@ -1,3 +1,4 @@
+// SPDX-License-Identifier: MPL-2.0
 // How many digits a number has.
 ghost use mathlib.Core.Path.{_≡_};
 ghost use Rattle.lines.specs.Text.{digitCount};

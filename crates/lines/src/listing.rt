@@ -1,3 +1,4 @@
+// SPDX-License-Identifier: MPL-2.0
 // The listing of document 01: a line for each message of a stream, as far as the stream and the output reach.
 use super::stream::Next;
 use super::stream::ahead;

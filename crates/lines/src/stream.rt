@@ -1,3 +1,4 @@
+// SPDX-License-Identifier: MPL-2.0
 // Messages that come back to back: where the first of them ends.
 use wire::header::wanted;
 ghost use mathlib.Core.Path.{_≡_};

@@ -1,3 +1,4 @@
+// SPDX-License-Identifier: MPL-2.0
 // Text that is put into a buffer at a place: numbers in decimal, and a name with a number.
 use super::digit_count::digit_count;
 use octets::bounds::lacks;

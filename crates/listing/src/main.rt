@@ -1,3 +1,4 @@
+// SPDX-License-Identifier: MPL-2.0
 // The listing program of document 01: lists the messages that come back to back on standard input, a line each.
 use intake::Held;
 use intake::least;

@@ -1,3 +1,4 @@
+-- SPDX-License-Identifier: MPL-2.0
 -- The payload that is handed out of an opened message is that of its plain text; out of a written message, the one that was written.
 use Prim.Native.Nat.{ℕ, _+_, _-_, _≤_, _<_}
 use mathlib.Core.Path.{_≡_, refl, sym, ap, _∙_}

@@ -1,3 +1,4 @@
+-- SPDX-License-Identifier: MPL-2.0
 -- The part that the choosing function hands out, by whether the numbers fit.
 use Prim.Native.Nat.{ℕ, _+_, _-_, _≤_}
 use mathlib.Core.Path.{_≡_, sym, _∙_}

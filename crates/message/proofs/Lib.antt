@@ -1,3 +1,4 @@
+-- SPDX-License-Identifier: MPL-2.0
 pub mod Readers
 pub mod Handing
 pub mod WrittenSizes

@@ -1,3 +1,4 @@
+-- SPDX-License-Identifier: MPL-2.0
 -- The way through the reader: each return is the row that led there.
 use Prim.Native.Nat.{ℕ, _+_, _-_, _≤_}
 use mathlib.Core.Path.{_≡_, sym, ap, _∙_}

@@ -1,3 +1,4 @@
+-- SPDX-License-Identifier: MPL-2.0
 -- The way through `write`: what the table leaves, and the output step by step.
 use Prim.Native.Nat.{ℕ, _+_, _≤_, _<_}
 use mathlib.Core.Path.{_≡_, refl, sym, ap, _∙_}

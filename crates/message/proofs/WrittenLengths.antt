@@ -1,3 +1,4 @@
+-- SPDX-License-Identifier: MPL-2.0
 -- How long the messages are that the writer writes.
 use Prim.Native.Nat.{ℕ, _+_, _*_, _/_}
 use mathlib.Core.Path.{_≡_, refl, _∙_}

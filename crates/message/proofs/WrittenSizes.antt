@@ -1,3 +1,4 @@
+-- SPDX-License-Identifier: MPL-2.0
 -- A chain that the writer accepts has at most 8 × 257 + 2 bytes, and a payload at most 16,384.
 use Prim.Native.Nat.{ℕ, zero, suc, _+_, _*_, _≤_}
 use mathlib.Core.Path.{_≡_, refl, sym}

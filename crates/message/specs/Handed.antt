@@ -1,3 +1,4 @@
+-- SPDX-License-Identifier: MPL-2.0
 -- The payload that is handed out: "a part of the message if it was plain, of the working buffer if it was sealed. On a refusal that part is empty, at
 -- the message's start."
 use Prim.Native.Nat.{ℕ, _+_}

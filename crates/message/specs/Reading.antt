@@ -1,3 +1,4 @@
+-- SPDX-License-Identifier: MPL-2.0
 -- The reader of messages: 1 to 9, "for sealed messages 10 to 13; 14", the first that applies; what it answers, and what the working buffer then
 -- holds.
 use Prim.Native.Nat.{ℕ}

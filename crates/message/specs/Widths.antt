@@ -1,3 +1,4 @@
+-- SPDX-License-Identifier: MPL-2.0
 -- The widths of a header's fields, as document 01's table of the wire gives them.
 use Prim.Native.Nat.{_<_}
 use Rattle.wire.specs.declared.header.Header.{Header}

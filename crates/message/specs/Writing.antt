@@ -1,3 +1,4 @@
+-- SPDX-License-Identifier: MPL-2.0
 -- The writer of messages: "5, 6, 7, 8 (a chain given with bytes after its end too), 10 if sealed, 14, 20 (Session payload over 16,384), 22, in that
 -- order"; the bytes of the message, and what the output then holds.
 use Prim.Native.Nat.{ℕ, _+_}

@@ -1,3 +1,4 @@
+// SPDX-License-Identifier: MPL-2.0
 // The payload of a message that was read: a part of the message if it was plain, of the working buffer if it was sealed.
 use octets::bounds::lacks;
 ghost use mathlib.Core.Path.{_≡_};

@@ -1,3 +1,4 @@
+// SPDX-License-Identifier: MPL-2.0
 // Reading a message: the header and its chain (1 to 9), a sealed part opened into the working buffer (10 to 13), the payload's shape (14).
 use octets::numbers::number32;
 use rows::next;

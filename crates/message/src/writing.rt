@@ -1,3 +1,4 @@
+// SPDX-License-Identifier: MPL-2.0
 // Writing a message. Its parts, as they are written into the output; what is sealed is sealed where it stands:
 //
 //     | header | chain | payload, or sealed part and tag |

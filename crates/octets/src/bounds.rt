@@ -1,3 +1,4 @@
+// SPDX-License-Identifier: MPL-2.0
 // Bounds.
 ghost use mathlib.Core.Path.{_≡_};
 ghost use Prim.Native.Nat.{_+_, min};

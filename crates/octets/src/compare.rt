@@ -1,3 +1,4 @@
+// SPDX-License-Identifier: MPL-2.0
 // Bytes compared.
 ghost use mathlib.Core.Path.{_≡_};
 ghost use Rattle.laws.specs.Same.{same};

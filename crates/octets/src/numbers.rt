@@ -1,3 +1,4 @@
+// SPDX-License-Identifier: MPL-2.0
 // Big-endian numbers at a place of a slice. A byte past the end counts as 0: whether it is there is judged by lengths. The wider the number, the
 // narrower the type of its place, so that no sum of places wraps and no call asks anything of its caller.
 ghost use mathlib.Core.Path.{_≡_};

@@ -1,3 +1,4 @@
+// SPDX-License-Identifier: MPL-2.0
 // Big-endian numbers, and runs of bytes, put at a place of a slice. A byte past the end is dropped: whether there is room is judged by
 // lengths. The wider the number, the narrower the type of its place, as in numbers.
 ghost use mathlib.Core.Path.{_≡_};

@@ -1,3 +1,4 @@
+-- SPDX-License-Identifier: MPL-2.0
 -- The premises of `RepeatedStep` can be met: three messages, as the writer writes them, enrol a gateway.
 use Prim.Native.Nat.{ℕ, _≤_, _<_}
 use mathlib.Core.Path.{_≡_, refl, ap, _∙_}

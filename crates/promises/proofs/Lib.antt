@@ -1,3 +1,4 @@
+-- SPDX-License-Identifier: MPL-2.0
 pub mod NumberedExamples
 pub mod RefusalTables
 pub mod StepTable

@@ -1,3 +1,4 @@
+-- SPDX-License-Identifier: MPL-2.0
 -- The numbered examples, computed.
 use mathlib.Core.Path.{refl}
 use Rattle.field.specs.Xor.{xor}

@@ -1,3 +1,4 @@
+-- SPDX-License-Identifier: MPL-2.0
 -- A message that was read is read alike with another working buffer that is long enough: only 12 looks at it.
 use Prim.Native.Nat.{ℕ, _≤_}
 use mathlib.Core.Path.{_≡_, refl, sym, ap, _∙_}

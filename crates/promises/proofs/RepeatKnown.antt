@@ -1,3 +1,4 @@
+-- SPDX-License-Identifier: MPL-2.0
 -- What a repeat is compared with: a message that was answered with a reply is known to the connection since, and a known message gets Again.
 use Prim.Native.Nat.{ℕ, _≤_}
 use mathlib.Core.Path.{_≡_, refl, sym, _∙_}

@@ -1,3 +1,4 @@
+-- SPDX-License-Identifier: MPL-2.0
 -- Demand 3: the step is the machine over which joining proved it for any number of pieces.
 use Prim.Native.Nat.{ℕ, _<_}
 use mathlib.Core.Path.{_≡_, refl, sym, ap, _∙_}

@@ -1,3 +1,4 @@
+-- SPDX-License-Identifier: MPL-2.0
 -- What an enrolment step remembers is never overwritten until a step names Failure, which only a verdict of 0 makes it do.
 use Prim.Native.Nat.{ℕ, _≤_}
 use mathlib.Core.Path.{_≡_, refl}

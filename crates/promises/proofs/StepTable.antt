@@ -1,3 +1,4 @@
+-- SPDX-License-Identifier: MPL-2.0
 -- Demand 1 for the step: its table is that of 25 and 24, the reader's, and the host's.
 use Prim.Native.Nat.{ℕ}
 use mathlib.Core.Path.{_≡_, refl, sym, ap, _∙_}

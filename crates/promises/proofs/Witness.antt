@@ -1,3 +1,4 @@
+-- SPDX-License-Identifier: MPL-2.0
 -- The premises of demand 3 can be met: a Ready connection of fragment size 4, and a report of ten bytes that comes in five calls, its three
 -- fragments in another order, one of them twice, and something between.
 use Prim.Native.Nat.{ℕ, zero, suc, _≤_, _<_}

@@ -1,3 +1,4 @@
+-- SPDX-License-Identifier: MPL-2.0
 -- The working buffer's rule: it changes exactly where a sealed message got past 13.
 use Prim.Native.Nat.{ℕ}
 use mathlib.Core.Path.{_≡_, refl, ap, _∙_}

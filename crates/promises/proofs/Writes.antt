@@ -1,3 +1,4 @@
+-- SPDX-License-Identifier: MPL-2.0
 -- What the writer does not refuse it writes; and every fragment of a report is of that kind.
 use Prim.Native.Nat.{ℕ, _+_, _*_, _≤_, _<_}
 use mathlib.Core.Path.{_≡_, refl, sym}

@@ -1,3 +1,4 @@
+-- SPDX-License-Identifier: MPL-2.0
 -- Demand 2's count: "each also tells how many different pieces of this message have come", "the count being that of different indexes
 -- accepted". It is told over any course of steps, of any messages.
 use Prim.Native.Nat.{ℕ}

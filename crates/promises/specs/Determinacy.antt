@@ -1,3 +1,4 @@
+-- SPDX-License-Identifier: MPL-2.0
 -- "Every public call's contract determines answer, state and each byte of lent memory, on refusal too. Show that any two results allowed by it
 -- agree": every clause of every public contract has the form `r ≡ f(inputs)` or `now (x .exit) ≡ g(inputs)`.
 use mathlib.Core.Path.{_≡_}

@@ -1,3 +1,4 @@
+-- SPDX-License-Identifier: MPL-2.0
 -- Demand 2, its conversation: "until a verdict of 0, a repeated enrolment step answers Again and changes neither connection nor report
 -- buffer", over any course of steps since the first, also in mid-report and after Completes.
 use Prim.Native.Nat.{ℕ, _≤_}

@@ -1,3 +1,4 @@
+-- SPDX-License-Identifier: MPL-2.0
 -- Document 01's numbered examples, P1 to P13: each row is what the definitions give, and what document 01 wants.
 use Prim.Native.Nat.{ℕ, zero, suc}
 use mathlib.Core.Path.{_≡_}

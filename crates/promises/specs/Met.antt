@@ -1,3 +1,4 @@
+-- SPDX-License-Identifier: MPL-2.0
 -- No premise of the promises is one that cannot be met: every fragment of every report can be sent, with every choice that demand 3 leaves to the
 -- sender, in any order and any number of times; and each of the three enrolment steps gets its reply.
 use Prim.Native.Nat.{ℕ, _+_, _*_, _≤_, _<_}

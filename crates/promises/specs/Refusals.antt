@@ -1,3 +1,4 @@
+-- SPDX-License-Identifier: MPL-2.0
 -- Demand 1: every refusal is given exactly when the table of document 01 says: a number is answered if and only if its row is the first that
 -- applies. The tables below are that table's rows in the order of each call. Every refusal leaves connection and report buffer alone.
 use Prim.Native.Nat.{ℕ, _+_, _-_, _*_, _%_, _<_}

@@ -1,3 +1,4 @@
+-- SPDX-License-Identifier: MPL-2.0
 -- Demand 3: "connection and report buffer depend only on how they began and which fragments have come; the report is handed out whole, exactly
 -- as sent, at the call that brings the last missing fragment, at no other". It is about the step that runs: sealed bytes go in.
 use Prim.Native.Nat.{ℕ, _+_, _≤_, _<_}

@@ -1,3 +1,4 @@
+-- SPDX-License-Identifier: MPL-2.0
 -- Demand 2, its messages: what is written reads back as the same fields and payload, and a step on it does what document 01 says of these in
 -- the connection's state.
 use Prim.Native.Nat.{ℕ, _≤_}

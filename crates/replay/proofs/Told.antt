@@ -1,3 +1,4 @@
+-- SPDX-License-Identifier: MPL-2.0
 -- A text that is put where there is room.
 use Prim.Native.Nat.{ℕ, _+_, _≤_}
 use mathlib.Core.Path.{_≡_, sym, _∙_}

@@ -1,3 +1,4 @@
+-- SPDX-License-Identifier: MPL-2.0
 -- The line of a step's answer: its name, its number in decimal and the line's end, as `reply 1`, `again 3`, `failure`, `taken 2`,
 -- `repeat 2`, `complete 10`, `refused 17`.
 use Prim.Native.Nat.{ℕ}

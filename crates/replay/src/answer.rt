@@ -1,3 +1,4 @@
+// SPDX-License-Identifier: MPL-2.0
 // The line of an answer: its name and its number.
 use hub::Answer;
 use lines::listing::LINE;

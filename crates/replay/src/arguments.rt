@@ -1,3 +1,4 @@
+// SPDX-License-Identifier: MPL-2.0
 // The arguments: KEYS F [VERDICT].
 
 // Room for the 64 key bytes, and one more, by which a longer file is known.

@@ -1,3 +1,4 @@
+// SPDX-License-Identifier: MPL-2.0
 // The hub's main job, on files: a capture of messages on standard input is played through a connection, message by message, and each
 // report that is complete is written to a file.
 mod answer;

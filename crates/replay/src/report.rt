@@ -1,3 +1,4 @@
+// SPDX-License-Identifier: MPL-2.0
 // A report that is complete, written to a file of its own.
 use intake::least;
 use lines::text::put_named;

@@ -1,3 +1,4 @@
+// SPDX-License-Identifier: MPL-2.0
 // A table of refusals, one line a row:
 //
 //     let n = next(0, N1, t1);

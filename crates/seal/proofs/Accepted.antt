@@ -1,3 +1,4 @@
+-- SPDX-License-Identifier: MPL-2.0
 -- What holds of a message whose sealed part was opened: its tag is right, its plain text is as the padding rule gives, and that plain text stands
 -- at the start of the working buffer.
 use Prim.Native.Nat.{ℕ, _+_, _-_, _%_, _≤_, _<_}

@@ -1,3 +1,4 @@
+-- SPDX-License-Identifier: MPL-2.0
 -- The end of a block against a run of one byte, from the block's end down: one byte more.
 use Prim.Native.Nat.{ℕ, suc, _-_, _≤_, _<_}
 use mathlib.Core.Path.{_≡_, refl, _∙_, ap}

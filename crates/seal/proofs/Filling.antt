@@ -1,3 +1,4 @@
+-- SPDX-License-Identifier: MPL-2.0
 -- What is written into the room of a sealed part, run by run.
 use Prim.Native.Nat.{ℕ, _+_, _-_, _≤_}
 use mathlib.Core.Path.{_≡_, sym, ap, _∙_}

@@ -1,3 +1,4 @@
+-- SPDX-License-Identifier: MPL-2.0
 -- An opened sealed part, by its first and its last block.
 use Prim.Native.Nat.{ℕ, suc, _+_, _-_, _*_, _/_, _%_, _≤_, _<_}
 use mathlib.Core.Path.{_≡_, refl, sym, ap, _∙_}

@@ -1,3 +1,4 @@
+-- SPDX-License-Identifier: MPL-2.0
 -- Laws of the padding rule, for all who seal and open: a change of the rule is proved here and nowhere else.
 use Prim.Native.Nat.{ℕ, _+_, _-_, _%_, _≤_, _<_, _^_}
 use mathlib.Core.Path.{_≡_, refl, ap}

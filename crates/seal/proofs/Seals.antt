@@ -1,3 +1,4 @@
+-- SPDX-License-Identifier: MPL-2.0
 -- The way through `seal`: part and tag, one behind the other, make the sealed message.
 use Prim.Native.Nat.{ℕ, _+_, _-_, _%_, _≤_, _<_}
 use mathlib.Core.Path.{_≡_, refl, sym, _∙_}

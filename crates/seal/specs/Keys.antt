@@ -1,3 +1,4 @@
+-- SPDX-License-Identifier: MPL-2.0
 -- What the 64 key bytes are for: the vector and the tag of a message.
 use Prim.Native.Nat.{ℕ}
 use mathlib.Core.List.{List, _++_}

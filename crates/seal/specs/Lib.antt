@@ -1,3 +1,4 @@
+-- SPDX-License-Identifier: MPL-2.0
 pub mod Padding
 pub mod Keys
 pub mod Opening

@@ -1,3 +1,4 @@
+-- SPDX-License-Identifier: MPL-2.0
 -- Opening: the refusals 10 to 13 of a sealed message whose sealed part starts at a place, and what the working buffer then holds.
 use Prim.Native.Nat.{ℕ, _-_, _%_}
 use mathlib.Core.List.{List, [], _∷_, _++_}

@@ -1,3 +1,4 @@
+-- SPDX-License-Identifier: MPL-2.0
 -- The plain text of a sealed part: the payload's size in four bytes, the payload, and padding up to a multiple of sixteen.
 use Prim.Native.Nat.{ℕ, _+_, _-_, _%_}
 use mathlib.Core.List.{List, _++_}

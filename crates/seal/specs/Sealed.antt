@@ -1,3 +1,4 @@
+-- SPDX-License-Identifier: MPL-2.0
 -- Sealing: a message that is written up to its payload gets its sealed part and its tag.
 use Prim.Native.Nat.{ℕ, _+_}
 use mathlib.Core.List.{List, [], _∷_, _++_}

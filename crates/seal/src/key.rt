@@ -1,3 +1,4 @@
+// SPDX-License-Identifier: MPL-2.0
 // What the 64 key bytes are for: 16 for encryption, 16 for the vector, 32 for the tag.
 ghost use mathlib.Core.Path.{_≡_};
 ghost use Prim.Native.Nat.{_+_, _≤_, _<_};

@@ -1,3 +1,4 @@
+// SPDX-License-Identifier: MPL-2.0
 // The sealed part of a message, as document 01's 'Sealing' states it.
 mod key;
 pub mod opening;

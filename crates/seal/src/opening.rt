@@ -1,3 +1,4 @@
+// SPDX-License-Identifier: MPL-2.0
 // Opening a sealed message. Its parts, and what decides each refusal:
 //
 //     | header and chain | sealed part: whole blocks (9) | tag (11) |

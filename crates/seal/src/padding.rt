@@ -1,3 +1,4 @@
+// SPDX-License-Identifier: MPL-2.0
 // The plain text of a sealed part, and the test of its size and padding:
 //
 //     | size, 4 bytes | payload, size bytes | padding, each byte the number of padding bytes |

@@ -1,3 +1,4 @@
+// SPDX-License-Identifier: MPL-2.0
 // Sealing a message. Its parts, as they are written into the output:
 //
 //     | header and chain, written before | size, payload, padding: encrypted where they stand | tag |

@@ -1,3 +1,4 @@
+-- SPDX-License-Identifier: MPL-2.0
 -- The digest of three parts, after `front`, which was hashed already.
 use mathlib.Core.Path.{_≡_, _∙_, sym, ap}
 use mathlib.Core.Bool.{Bool, true, false}

@@ -1,3 +1,4 @@
+-- SPDX-License-Identifier: MPL-2.0
 -- A block's words, the blocks of a message, and of a message after a block that was hashed already.
 use mathlib.Core.Path.{_≡_, _∙_, ap, ap₂, refl}
 use mathlib.Core.List.{List, [], _++_}

@@ -1,3 +1,4 @@
+-- SPDX-License-Identifier: MPL-2.0
 -- A key filled up to a block, and masked.
 use mathlib.Core.Path.{_≡_, _∙_, sym, ap, ap₂, refl}
 use mathlib.Core.List.{List, [], _∷_, _++_}

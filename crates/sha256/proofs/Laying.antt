@@ -1,3 +1,4 @@
+-- SPDX-License-Identifier: MPL-2.0
 -- A block's bytes: where they stand in one part of the message, and as they are laid out of its parts.
 use mathlib.Core.Path.{_≡_, _∙_, sym, ap, refl}
 use mathlib.Core.Logic.{⊎-elim}

@@ -1,3 +1,4 @@
+-- SPDX-License-Identifier: MPL-2.0
 -- A digest and an HMAC have thirty-two bytes.
 use Prim.Native.Nat.{ℕ, _^_}
 use mathlib.Core.Path.{_≡_, refl}

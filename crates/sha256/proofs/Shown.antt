@@ -1,3 +1,4 @@
+-- SPDX-License-Identifier: MPL-2.0
 -- The worked examples, by computing.
 use mathlib.Core.Path.{refl}
 use Rattle.laws.specs.Bytes.{bytesAt}

@@ -1,3 +1,4 @@
+-- SPDX-License-Identifier: MPL-2.0
 -- A padding, made by stores.
 use mathlib.Core.Path.{_≡_, _∙_, ap, refl}
 use mathlib.Core.List.{List, _∷_, _++_}

@@ -1,3 +1,4 @@
+-- SPDX-License-Identifier: MPL-2.0
 -- Differences or-ed together are 0 exactly where there are none.
 use mathlib.Core.Path.{_≡_, _∙_, sym, ap, ap₂, refl}
 use mathlib.Core.Bool.{Bool, true, false, _&&_}

@@ -1,3 +1,4 @@
+-- SPDX-License-Identifier: MPL-2.0
 -- FIPS 180-4 §5.1.1, §5.2.1, §5.3.3 and §6.2: the padding of a message of bytes, the hash value after its blocks, and its digest. A message's length
 -- is counted in bytes here, in bits where the standard writes it into the padding.
 use Prim.Native.Nat.{ℕ, zero, suc, _-_, _*_, _/_, _%_, _^_}

@@ -1,3 +1,4 @@
+-- SPDX-License-Identifier: MPL-2.0
 -- Worked examples of the definitions, by computing: the messages FIPS 180-4's authors work out, the second case of RFC 4231, and where the
 -- padding needs a block more.
 use Prim.Native.Nat.{ℕ, _+_, _*_}

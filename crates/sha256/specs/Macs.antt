@@ -1,3 +1,4 @@
+-- SPDX-License-Identifier: MPL-2.0
 -- RFC 2104 with SHA-256, whose blocks are of 64 bytes: HMAC(K, text) = H(K ⊕ opad, H(K ⊕ ipad, text)).
 use Prim.Native.Nat.{ℕ, _-_}
 use mathlib.Core.Bool.{cond}

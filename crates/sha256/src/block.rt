@@ -1,3 +1,4 @@
+// SPDX-License-Identifier: MPL-2.0
 // FIPS 180-4 §5.2.1: a block of sixty-four bytes as sixteen words, the highest byte first.
 use compression::Vars;
 use compression::compress;

@@ -1,3 +1,4 @@
+// SPDX-License-Identifier: MPL-2.0
 // RFC 2104: the key as a block, and that block with a pad.
 use crate::message::digest_from;
 ghost use mathlib.Core.Path.{_≡_};

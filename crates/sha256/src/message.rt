@@ -1,3 +1,4 @@
+// SPDX-License-Identifier: MPL-2.0
 // The digest of a message in three parts, from the start or after a block.
 use crate::block::absorb_block;
 use crate::parts::hash;

@@ -1,3 +1,4 @@
+// SPDX-License-Identifier: MPL-2.0
 // A message given as consecutive parts, which are never copied together. A block that lies in the third part or in the tail is hashed where it
 // stands; any other, as one that touches a seam, is laid out of the parts first:
 //

@@ -1,3 +1,4 @@
+// SPDX-License-Identifier: MPL-2.0
 // Numbers written as bytes, the highest first: a padding's length, a digest's words.
 use compression::Vars;
 ghost use mathlib.Core.Path.{_≡_};

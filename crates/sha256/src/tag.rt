@@ -1,3 +1,4 @@
+// SPDX-License-Identifier: MPL-2.0
 // The comparison of two tags.
 ghost use mathlib.Core.Path.{_≡_};
 ghost use lib.ListN.{length};

@@ -1,3 +1,4 @@
+-- SPDX-License-Identifier: MPL-2.0
 -- Eight indexes and their byte, both ways.
 use Prim.Native.Nat.{ℕ, zero, suc, _+_, _*_, _/_, _%_, _^_, _<_}
 use mathlib.Core.Path.{_≡_, refl, sym, ap, _∙_}

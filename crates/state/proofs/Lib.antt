@@ -1,3 +1,4 @@
+-- SPDX-License-Identifier: MPL-2.0
 pub mod Listed
 pub mod Parted
 pub mod Bits

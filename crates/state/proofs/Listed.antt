@@ -1,3 +1,4 @@
+-- SPDX-License-Identifier: MPL-2.0
 -- The first values of a function as a list: its elements, and the loops that fill an array and a buffer with it.
 use Prim.Native.Nat.{ℕ, zero, suc, _+_, _≤_, _<_}
 use mathlib.Core.Path.{_≡_, refl, sym, ap, _∙_}

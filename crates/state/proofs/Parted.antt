@@ -1,3 +1,4 @@
+-- SPDX-License-Identifier: MPL-2.0
 -- A list that is joined from parts: each part at its place, as it is read and as it is stored.
 use Prim.Native.Nat.{ℕ, _+_, _<_}
 use mathlib.Core.Path.{_≡_, refl, sym, ap, _∙_}

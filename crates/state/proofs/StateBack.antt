@@ -1,3 +1,4 @@
+-- SPDX-License-Identifier: MPL-2.0
 -- The connection that a state was made of is read back from it: the parts stand one after the other, each at its place.
 use Prim.Native.Nat.{ℕ, _+_, _*_, _/_, _%_, _^_, _<_}
 use mathlib.Core.Path.{_≡_, refl, sym, ap, _∙_}

@@ -1,3 +1,4 @@
+-- SPDX-License-Identifier: MPL-2.0
 -- The state of the connection that bytes are read as is those bytes.
 use Prim.Native.Nat.{ℕ, zero, suc, _+_, _*_, _/_, _%_, _^_, _≤_, _<_}
 use mathlib.Core.Path.{_≡_, refl, sym, ap, ap₂, _∙_}

@@ -1,3 +1,4 @@
+-- SPDX-License-Identifier: MPL-2.0
 -- Where in the bytes of a connection each part stands: each place is the one before plus the size of what stands there. The heard set has a bit
 -- for each piece that a report may have, and all that stands after it moves with their number.
 use Prim.Native.Nat.{ℕ, _+_, _/_}

@@ -1,3 +1,4 @@
+-- SPDX-License-Identifier: MPL-2.0
 -- A connection in bytes, numbers big-endian as on the wire: the layout, read and written.
 use Prim.Native.Nat.{ℕ, zero, suc, _+_, _*_, _/_, _%_, _^_, _<_}
 use mathlib.Core.Path.{_≡_}

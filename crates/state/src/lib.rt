@@ -1,3 +1,4 @@
+// SPDX-License-Identifier: MPL-2.0
 // A connection in the bytes of its state, numbers big-endian as on the wire:
 //
 //     0               8       9           17      25  57  89                   121               125         133     141       149           151

@@ -1,3 +1,4 @@
+// SPDX-License-Identifier: MPL-2.0
 // The vectors of AES-128 and its CBC mode, each run both ways.
 use crate::Said;
 use crate::hexes;

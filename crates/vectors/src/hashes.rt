@@ -1,3 +1,4 @@
+// SPDX-License-Identifier: MPL-2.0
 // The vectors of SHA-256 and HMAC-SHA-256.
 use crate::Said;
 use crate::hexes;

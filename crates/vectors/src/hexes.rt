@@ -1,3 +1,4 @@
+// SPDX-License-Identifier: MPL-2.0
 // The fields of a line: bytes in hexadecimal, `-` for none, a blank between two.
 ghost use Prim.Native.Nat.{_<_, _≤_, _+_};
 ghost use lib.ListN.{length};

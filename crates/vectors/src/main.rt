@@ -1,3 +1,4 @@
+// SPDX-License-Identifier: MPL-2.0
 // Published vectors of the ciphers and hashes, run through the library: for each source, how many agree of how many.
 mod ciphers;
 mod hashes;

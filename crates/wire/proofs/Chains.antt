@@ -1,3 +1,4 @@
+-- SPDX-License-Identifier: MPL-2.0
 -- Laws of `chain`, each for one case of the entry at its start.
 use Prim.Native.Nat.{ℕ, zero, suc, _+_, _-_, _≤_, _<_}
 use mathlib.Core.Path.{_≡_, refl}

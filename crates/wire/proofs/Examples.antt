@@ -1,3 +1,4 @@
+-- SPDX-License-Identifier: MPL-2.0
 -- The numbered examples of the reader of headers, computed.
 use mathlib.Core.Path.{_≡_, refl}
 use mathlib.Core.List.{map}

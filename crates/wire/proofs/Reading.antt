@@ -1,3 +1,4 @@
+-- SPDX-License-Identifier: MPL-2.0
 -- Laws of `readHeader`, by the number of the first refusal.
 use Prim.Native.Nat.{ℕ, _-_}
 use mathlib.Core.Path.{_≡_}

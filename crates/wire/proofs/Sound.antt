@@ -1,3 +1,4 @@
+-- SPDX-License-Identifier: MPL-2.0
 -- What an accepted message is, for callers of `read_header`.
 use Prim.Native.Nat.{ℕ, _+_, _-_, _/_, _%_, _≤_, _<_}
 use mathlib.Core.Path.{_≡_, refl, sym, _∙_}

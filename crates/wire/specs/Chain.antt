@@ -1,3 +1,4 @@
+-- SPDX-License-Identifier: MPL-2.0
 -- The chain of additional headers, as a recursive definition on the bytes that are left, and its answer: how many bytes it leaves
 -- behind it, or that there is no chain (refusal 8).
 use Prim.Native.Nat.{ℕ, zero, suc, _+_, _-_}

@@ -1,3 +1,4 @@
+-- SPDX-License-Identifier: MPL-2.0
 -- Document 01's numbered examples of the reader of headers, P1 to P7: messages and the refusal numbers that they get, 0 for none.
 use Prim.Native.Nat.{ℕ}
 use mathlib.Core.List.{List, [], _∷_, _++_}

@@ -1,3 +1,4 @@
+-- SPDX-License-Identifier: MPL-2.0
 -- The tests of refusals 5, 6 and 7 on the header's numbers, which reader and writer share, and what "sealed" means.
 use Prim.Native.Nat.{ℕ, _/_, _%_, _*_}
 use mathlib.Core.Bool.{Bool, not, _&&_, _||_}

@@ -1,3 +1,4 @@
+-- SPDX-License-Identifier: MPL-2.0
 -- The payloads of Discovery and Connect: their shapes, which are one list, and what is read out of them. A byte past a payload's
 -- end counts as 0; each shape fixes the length.
 use Prim.Native.Nat.{ℕ, _+_}

@@ -1,3 +1,4 @@
+-- SPDX-License-Identifier: MPL-2.0
 -- The reader of headers: the fields at their places, refusals 1 to 9 as document 01's table lists them, and the answer.
 use Prim.Native.Nat.{ℕ, _-_, _%_}
 use mathlib.Core.List.{List, [], _∷_}

@@ -1,3 +1,4 @@
+-- SPDX-License-Identifier: MPL-2.0
 -- The numbers of document 01's table "Refusal numbers", each named by the fault.
 use Prim.Native.Nat.{ℕ}
 

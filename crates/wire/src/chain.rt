@@ -1,3 +1,4 @@
+// SPDX-License-Identifier: MPL-2.0
 // The chain of additional headers. An entry is a type of 1 to 3, a size, and that many bytes; the chain ends at type 0, size 0.
 //
 //     | type | size | size bytes | type | size | size bytes | … | 0 | 0 | payload

@@ -1,3 +1,4 @@
+// SPDX-License-Identifier: MPL-2.0
 // The common header, read down document 01's table "The message on the wire".
 //
 //     0         2        4         5      6       8          12        20      22      24        32        40

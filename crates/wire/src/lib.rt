@@ -1,3 +1,4 @@
+// SPDX-License-Identifier: MPL-2.0
 // What may stand on the wire: the common header, its chain of additional headers, the payloads of Discovery and Connect, and the
 // numbers of the refusals. Nothing here knows keys or remembers anything.
 pub mod chain;

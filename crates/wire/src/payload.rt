@@ -1,3 +1,4 @@
+// SPDX-License-Identifier: MPL-2.0
 // The payloads of Discovery and Connect: which shapes there are, and what stands in them. A Connect payload begins
 //
 //     0      2      3

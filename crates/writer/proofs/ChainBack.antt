@@ -1,3 +1,4 @@
+-- SPDX-License-Identifier: MPL-2.0
 -- A chain is the same whatever stands behind it, so one that the writer accepts is read back.
 use Prim.Native.Nat.{ℕ, zero, suc, _+_, _-_, _≤_}
 use mathlib.Core.Path.{_≡_, refl, ap, _∙_}

@@ -1,3 +1,4 @@
+-- SPDX-License-Identifier: MPL-2.0
 -- A Device Authentication payload has its shape, and the certificate is read back from its place.
 use Prim.Native.Nat.{ℕ, _+_, _≤_}
 use mathlib.Core.Path.{_≡_, refl, ap, _∙_}

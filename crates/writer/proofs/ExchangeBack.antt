@@ -1,3 +1,4 @@
+-- SPDX-License-Identifier: MPL-2.0
 -- A payload that carries nonce, X and Y has its shape, and they are read back: each part stands where the parts before it end.
 use Prim.Native.Nat.{ℕ, _≤_}
 use mathlib.Core.Path.{_≡_, refl, ap, _∙_}

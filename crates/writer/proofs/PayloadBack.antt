@@ -1,3 +1,4 @@
+-- SPDX-License-Identifier: MPL-2.0
 -- What the payload writers write has its shape: how each row of the list of shapes is met, and the payloads that carry no more than a number.
 use Prim.Native.Nat.{ℕ, _≤_}
 use mathlib.Core.Path.{_≡_, refl}

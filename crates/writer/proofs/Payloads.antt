@@ -1,3 +1,4 @@
+-- SPDX-License-Identifier: MPL-2.0
 -- The parts of a payload as they are stored one behind the other, its length, and what its tests make sure of.
 use Prim.Native.Nat.{ℕ, _+_, _≤_}
 use mathlib.Core.Path.{_≡_}

@@ -1,3 +1,4 @@
+-- SPDX-License-Identifier: MPL-2.0
 -- What is written reads back: `readHeader` gives back every header that the writer accepts, with the place and the length of what stands
 -- between its chain and its tag.
 use Prim.Native.Nat.{ℕ, _+_, _-_, _%_, _≤_}

@@ -1,3 +1,4 @@
+-- SPDX-License-Identifier: MPL-2.0
 -- Laws of `written` and `output`: by the refusal, and for a writer whose stores make one run from the start of its output.
 use Prim.Native.Nat.{ℕ, _≤_, _<_}
 use mathlib.Core.Path.{_≡_, refl, sym, ap, _∙_}

@@ -1,3 +1,4 @@
+-- SPDX-License-Identifier: MPL-2.0
 -- The bytes of each payload of Discovery and Connect, and which arguments would give none of the shapes.
 use Prim.Native.Nat.{ℕ}
 use mathlib.Core.List.{List, [], _∷_, _++_}

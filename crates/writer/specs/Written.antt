@@ -1,3 +1,4 @@
+-- SPDX-License-Identifier: MPL-2.0
 -- What a writer answers, and what its output then holds. One that refuses leaves its output as it was.
 use Prim.Native.Nat.{ℕ}
 use mathlib.Core.List.{List, [], _∷_, _++_}

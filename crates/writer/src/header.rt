@@ -1,3 +1,4 @@
+// SPDX-License-Identifier: MPL-2.0
 // The common header written, down document 01's table "The message on the wire".
 use crate::Written;
 use crate::put_refusal;

@@ -1,3 +1,4 @@
+// SPDX-License-Identifier: MPL-2.0
 // The payloads of Discovery and Connect written, each at the start of its output.
 use crate::Written;
 use crate::put_refusal;

@@ -1,3 +1,4 @@
+// SPDX-License-Identifier: MPL-2.0
 //! Each call of the wrapper by itself.
 
 use hlidunsk::{cut, digest, hmac, list, read, read_header, same_tag, version, write};

@@ -1,3 +1,4 @@
+// SPDX-License-Identifier: MPL-2.0
 //! The wrapper on the repository's samples.
 
 use std::fs;

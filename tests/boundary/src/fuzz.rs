@@ -1,3 +1,4 @@
+// SPDX-License-Identifier: MPL-2.0
 //! What libFuzzer calls: its bytes choose a call, or some steps of one connection, and the two
 //! implementations must agree. Messages are sealed here, since no fuzzer finds a tag.
 

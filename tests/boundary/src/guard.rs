@@ -1,3 +1,4 @@
+// SPDX-License-Identifier: MPL-2.0
 //! Memory that ends at an unreadable page.
 
 #![allow(unsafe_code)]

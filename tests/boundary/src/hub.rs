@@ -1,3 +1,4 @@
+// SPDX-License-Identifier: MPL-2.0
 //! Document 01's calls as the comparison asks for them, each by one call through the C boundary. What
 //! the comparison cannot see is tested here: that a refusal leaves every output as it was.
 

@@ -1,3 +1,4 @@
+// SPDX-License-Identifier: MPL-2.0
 //! The calls of include/hub.h, on slices of any size. Each slice is lent as memory that ends at an
 //! unreadable page and is copied back; those that a call only reads must be as they were.
 

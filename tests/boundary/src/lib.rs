@@ -1,3 +1,4 @@
+// SPDX-License-Identifier: MPL-2.0
 //! The proved library through its C boundary, held against the second implementation.
 //!
 //! [`hub_h`] has the calls of include/hub.h on guarded memory ([`guard`]), [`state`] the connection's

@@ -1,3 +1,4 @@
+// SPDX-License-Identifier: MPL-2.0
 //! boundary test [ROUNDS]     what ./test runs: a fixed seed, each count on a line
 //! boundary replay FOLDER     what libFuzzer kept, again
 //! boundary slice             a small part of it, for valgrind

@@ -1,3 +1,4 @@
+// SPDX-License-Identifier: MPL-2.0
 //! A fault at every n of the sample messages.
 
 use std::fs;

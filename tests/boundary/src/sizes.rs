@@ -1,3 +1,4 @@
+// SPDX-License-Identifier: MPL-2.0
 //! What the comparison does not reach: buffers of fixed size at every other size, words wider than
 //! their fields, states of any bytes, places that do not fit, tags, keys of HMAC of any length.
 

@@ -1,3 +1,4 @@
+// SPDX-License-Identifier: MPL-2.0
 //! A connection as the 151 bytes that include/hub.h describes.
 
 use second::connection::Connection;

@@ -1,3 +1,4 @@
+// SPDX-License-Identifier: MPL-2.0
 //! Boundary cases of document 01 in numbered sweeps, as CASES.md lists them. Each case is judged
 //! twice: by the second implementation, answer by answer and byte by byte, and by what the sweep
 //! itself reckons of the case that it has made.

@@ -1,3 +1,4 @@
+/* SPDX-License-Identifier: MPL-2.0 */
 /* Each call of hub.h once more, so that what the tests call is what a C compiler makes of the declarations there; and its constants. */
 #include "hub.h"
 

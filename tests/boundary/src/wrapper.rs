@@ -1,3 +1,4 @@
+// SPDX-License-Identifier: MPL-2.0
 //! Document 01's calls by the Rust wrapper, host/rust. What its types rule out (keys that are neither
 //! 64 bytes nor none, another verdict than 0 and 1) is answered by the second implementation.
 

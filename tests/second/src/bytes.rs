@@ -1,3 +1,4 @@
+// SPDX-License-Identifier: MPL-2.0
 //! Reading big-endian fields one after the other.
 
 /// What is left to read; every call takes from its front, or answers `None` and takes nothing.

@@ -1,3 +1,4 @@
+// SPDX-License-Identifier: MPL-2.0
 //! The chain of additional headers.
 
 use crate::bytes::Cursor;

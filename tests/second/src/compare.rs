@@ -1,3 +1,4 @@
+// SPDX-License-Identifier: MPL-2.0
 //! Holds another implementation against this one: after each call the answer, the connection and
 //! every byte of every lent buffer must be the same.
 

@@ -1,3 +1,4 @@
+// SPDX-License-Identifier: MPL-2.0
 //! The host's side of one connection: opening it, and one step for each message that comes.
 
 use std::fmt;

@@ -1,3 +1,4 @@
+// SPDX-License-Identifier: MPL-2.0
 //! AES-128, SHA-256 and HMAC-SHA-256 from OpenSSL's libcrypto.
 
 #![allow(unsafe_code)]

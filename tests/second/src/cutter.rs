@@ -1,3 +1,4 @@
+// SPDX-License-Identifier: MPL-2.0
 //! Cutting a report into pieces of F bytes: refusals 24 and 7.
 
 use crate::connection::check_fragment_size;

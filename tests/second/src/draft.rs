@@ -1,3 +1,4 @@
+// SPDX-License-Identifier: MPL-2.0
 //! A message put together without any check, so that it can have any fault.
 
 use crate::crypto::BLOCK;

@@ -1,3 +1,4 @@
+// SPDX-License-Identifier: MPL-2.0
 //! A gateway that enrols with the hub and sends it reports.
 
 use crate::connection::{Connection, State};

@@ -1,3 +1,4 @@
+// SPDX-License-Identifier: MPL-2.0
 //! Inputs for comparing two implementations, drawn from a [`Prng`], so that a seed names an input.
 //!
 //! [`mod@step`] makes single steps with faults of every kind, [`mod@conversation`] whole

@@ -1,3 +1,4 @@
+// SPDX-License-Identifier: MPL-2.0
 //! The common header, and what a message's first reading tells: refusals 1 to 9.
 
 use std::ops::Range;

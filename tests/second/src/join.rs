@@ -1,3 +1,4 @@
+// SPDX-License-Identifier: MPL-2.0
 //! Joining the pieces of a report, on a Ready connection: refusals 19, 17, 18, 21, 20, 22 and 23.
 
 use std::cmp::Ordering;

@@ -1,3 +1,4 @@
+// SPDX-License-Identifier: MPL-2.0
 //! An independent second implementation of document 01, written from the document alone.
 //!
 //! It shares no code, table or structure with the proved crates, so that the two agreeing on

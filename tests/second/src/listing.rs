@@ -1,3 +1,4 @@
+// SPDX-License-Identifier: MPL-2.0
 //! The listing program: messages back to back, one line each.
 
 use std::io::{self, ErrorKind, Read, Write};

@@ -1,3 +1,4 @@
+// SPDX-License-Identifier: MPL-2.0
 //! The reader of whole messages: refusals 1 to 14, and where the payload lies.
 
 use std::ops::Range;

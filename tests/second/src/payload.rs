@@ -1,3 +1,4 @@
+// SPDX-License-Identifier: MPL-2.0
 //! What a payload may be: the Presence Request, six Connect payloads, or a piece of a report.
 //! Refusal 14.
 

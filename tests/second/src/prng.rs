@@ -1,3 +1,4 @@
+// SPDX-License-Identifier: MPL-2.0
 //! Numbers that look random and are the same on every machine: SplitMix64 (Steele, Lea and Flood,
 //! 2014).
 

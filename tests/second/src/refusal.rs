@@ -1,3 +1,4 @@
+// SPDX-License-Identifier: MPL-2.0
 //! Why something is refused: document 01's table of refusal numbers.
 
 use std::fmt;

@@ -1,3 +1,4 @@
+// SPDX-License-Identifier: MPL-2.0
 //! The replay program: a capture played through one connection.
 
 use crate::connection::{Answer, Connection};

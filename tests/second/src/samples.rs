@@ -1,3 +1,4 @@
+// SPDX-License-Identifier: MPL-2.0
 //! The samples under samples/: what a gateway sends over a bad link, and what the programs must say
 //! to it.
 //!

@@ -1,3 +1,4 @@
+// SPDX-License-Identifier: MPL-2.0
 //! Sealing: the vector, the size and padding rule, the cipher and the tag. Refusals 10 to 13.
 
 use std::ops::Range;

@@ -1,3 +1,4 @@
+// SPDX-License-Identifier: MPL-2.0
 //! The writer of whole messages: refusals 5, 6, 7, 8, 10, 14, 20 and 22.
 
 use crate::chain::chain_length;

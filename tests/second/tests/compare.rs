@@ -1,3 +1,4 @@
+// SPDX-License-Identifier: MPL-2.0
 //! The comparison agrees with itself and notices every kind of difference.
 
 mod common;

@@ -1,3 +1,4 @@
+// SPDX-License-Identifier: MPL-2.0
 //! Opening, the order of a step's refusals, and enrolment.
 
 mod common;

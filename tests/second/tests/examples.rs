@@ -1,3 +1,4 @@
+// SPDX-License-Identifier: MPL-2.0
 //! Document 01's numbered examples P1 to P12 (P13 is inside libcrypto).
 
 mod common;

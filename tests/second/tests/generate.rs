@@ -1,3 +1,4 @@
+// SPDX-License-Identifier: MPL-2.0
 //! The generated inputs reach everything, and a seed names them.
 
 mod common;

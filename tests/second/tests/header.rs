@@ -1,3 +1,4 @@
+// SPDX-License-Identifier: MPL-2.0
 //! The header reader at the edges of refusals 1 to 9.
 
 mod common;

@@ -1,3 +1,4 @@
+// SPDX-License-Identifier: MPL-2.0
 //! Cutting reports and joining their pieces.
 
 mod common;

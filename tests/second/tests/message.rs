@@ -1,3 +1,4 @@
+// SPDX-License-Identifier: MPL-2.0
 //! The reader, the payload's place and the writer: refusals 10 to 14, round trips, buffers.
 
 mod common;

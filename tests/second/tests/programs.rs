@@ -1,3 +1,4 @@
+// SPDX-License-Identifier: MPL-2.0
 //! The listing, the replay and the samples.
 
 mod common;

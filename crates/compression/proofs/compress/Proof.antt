@@ -1,3 +1,4 @@
+-- SPDX-License-Identifier: MPL-2.0
 -- The rounds and the sum are the definition's.
 use borrow.Author.Needs.{needs}
 use Rattle.compression.specs.Compression.{compress}

@@ -1,3 +1,4 @@
+-- SPDX-License-Identifier: MPL-2.0
 -- The set has the new index; the length is that of the pieces before the last and of the last.
 use Prim.Native.Nat.{_*_, _-_, _≤_}
 use native.Mathlib.Omega.{arith}

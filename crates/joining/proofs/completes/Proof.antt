@@ -1,3 +1,4 @@
+-- SPDX-License-Identifier: MPL-2.0
 -- A set of fewer than `count` has not all indexes under it.
 use mathlib.Core.Path.{_≡_, sym}
 use native.Mathlib.Omega.{arith}

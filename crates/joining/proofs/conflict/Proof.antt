@@ -1,3 +1,4 @@
+-- SPDX-License-Identifier: MPL-2.0
 -- A piece that was heard must be as long as the one taken and have its bytes.
 use mathlib.Core.Path.{_≡_, sym, ap}
 use mathlib.Core.Bool.{Bool}

@@ -1,3 +1,4 @@
+-- SPDX-License-Identifier: MPL-2.0
 -- By whether the piece is the last.
 use borrow.Author.Needs.{needs}
 use Rattle.laws.proofs.Tests.{tests}

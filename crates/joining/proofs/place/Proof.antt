@@ -1,3 +1,4 @@
+-- SPDX-License-Identifier: MPL-2.0
 -- The rows from the top are the table. F × i stays small.
 use Prim.Native.Nat.{_*_, _≤_}
 use mathlib.Core.Path.{refl}

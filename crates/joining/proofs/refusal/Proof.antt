@@ -1,3 +1,4 @@
+-- SPDX-License-Identifier: MPL-2.0
 -- Three tables one after the other. What the first leaves is required by the second, and what the two leave by the third.
 use Prim.Native.Nat.{ℕ}
 use mathlib.Core.Bool.{Bool}

@@ -1,3 +1,4 @@
+-- SPDX-License-Identifier: MPL-2.0
 -- The part that was lent comes back with the piece over its first bytes.
 use native.Mathlib.Omega.{arith}
 use borrow.Author.Needs.{needs}

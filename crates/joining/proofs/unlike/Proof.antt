@@ -1,3 +1,4 @@
+-- SPDX-License-Identifier: MPL-2.0
 -- The heard set is looked at only where count or channel differs: else there is nothing to tell.
 use mathlib.Core.Path.{_≡_, refl, sym, ap, _∙_}
 use native.Mathlib.Omega.{arith}

@@ -1,3 +1,4 @@
+-- SPDX-License-Identifier: MPL-2.0
 -- What is held lies in the buffer; the counter falls.
 use Prim.Native.Nat.{_≤_}
 use mathlib.Core.Path.{_≡_}

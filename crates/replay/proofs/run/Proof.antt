@@ -1,3 +1,4 @@
+-- SPDX-License-Identifier: MPL-2.0
 -- The buffers keep their lengths; the counter falls.
 use mathlib.Core.Path.{_≡_}
 use lib.ListN.{length}

@@ -1,3 +1,4 @@
+-- SPDX-License-Identifier: MPL-2.0
 -- By its two tests.
 use borrow.Author.Tests.{eq-eqb, ne-eqb}
 use Rattle.laws.specs.Rows.{after}

@@ -1,3 +1,4 @@
+-- SPDX-License-Identifier: MPL-2.0
 -- The two digests are those of the definition.
 use borrow.Author.Needs.{needs}
 use Rattle.sha256.specs.Macs.{hmac}

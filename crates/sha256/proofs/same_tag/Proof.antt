@@ -1,3 +1,4 @@
+-- SPDX-License-Identifier: MPL-2.0
 -- Tags of different lengths are not the same.
 use mathlib.Core.Path.{sym}
 use native.Mathlib.Omega.{arith}

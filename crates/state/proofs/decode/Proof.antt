@@ -1,3 +1,4 @@
+-- SPDX-License-Identifier: MPL-2.0
 -- Each part is what its load answers.
 use borrow.Author.Needs.{needs}
 use Rattle.state.specs.State.{connectionAt}

@@ -1,3 +1,4 @@
+-- SPDX-License-Identifier: MPL-2.0
 -- Each bit by its value.
 use native.Mathlib.Omega.{arith}
 use native.Mathlib.Nat.{add-zero}

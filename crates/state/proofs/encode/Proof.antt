@@ -1,3 +1,4 @@
+-- SPDX-License-Identifier: MPL-2.0
 -- The array is laid over its whole length.
 use Rattle.wire.specs.Fields.{mostPieces}
 use borrow.Author.Needs.{needs}

@@ -1,3 +1,4 @@
+-- SPDX-License-Identifier: MPL-2.0
 -- The first i indexes are those of the state.
 use Prim.Native.Nat.{_≤_, _-_}
 use mathlib.Core.List.{_++_}

@@ -1,3 +1,4 @@
+-- SPDX-License-Identifier: MPL-2.0
 -- A part copied over the whole of the array.
 use Rattle.laws.proofs.Lists.{copied-part}
 use Rattle.laws.proofs.Parts.{bytesAt-part}

@@ -1,3 +1,4 @@
+-- SPDX-License-Identifier: MPL-2.0
 -- Eight parts, each where the one before it ends, over the whole of the state.
 use mathlib.Core.List.{_∷_, []}
 use mathlib.Core.Path.{refl, sym, _∙_}

@@ -1,3 +1,4 @@
+-- SPDX-License-Identifier: MPL-2.0
 -- Each number is what its load answers.
 use Rattle.wire.specs.Fields.{mostPieces}
 use Rattle.state.proofs.progress_at.Statement.{statement}

@@ -1,3 +1,4 @@
+-- SPDX-License-Identifier: MPL-2.0
 -- The first i bytes are put.
 use Prim.Native.Nat.{ℕ, _≤_, _-_, _+_}
 use mathlib.Core.List.{_∷_, []}

@@ -1,3 +1,4 @@
+-- SPDX-License-Identifier: MPL-2.0
 -- Five parts, each where the one before it ends.
 use mathlib.Core.Path.{refl}
 use Rattle.wire.specs.Fields.{mostPieces}

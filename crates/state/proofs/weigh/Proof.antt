@@ -1,3 +1,4 @@
+-- SPDX-License-Identifier: MPL-2.0
 -- The bit is set or not.
 use native.Mathlib.Omega.{arith}
 use Rattle.state.proofs.weigh.Statement.{statement}

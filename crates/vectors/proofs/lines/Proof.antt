@@ -1,3 +1,4 @@
+-- SPDX-License-Identifier: MPL-2.0
 -- The counts and the turns that are left are together no more than the turns at the start.
 use borrow.Author.Needs.{needs}
 use Prim.Native.Nat.{_+_, _≤_}

@@ -1,3 +1,4 @@
+-- SPDX-License-Identifier: MPL-2.0
 -- Row by row.
 use borrow.Author.Tests.{lt-ltb, le-ltb}
 use Rattle.writer.specs.Written.{putRefusal}

@@ -1,3 +1,4 @@
+// SPDX-License-Identifier: MPL-2.0
 //! Whole conversations. Each scenario says what its messages must be answered, and the second
 //! implementation must agree; a case is a connection that is opened or a message that comes.
 

@@ -1,3 +1,4 @@
+// SPDX-License-Identifier: MPL-2.0
 //! A message described, built, and judged by its description: its bytes and the answer that it must
 //! get are both made from the description, the answer without looking at the bytes.
 

@@ -1,3 +1,4 @@
+// SPDX-License-Identifier: MPL-2.0
 //! The reader of headers over the boundary cases of document 01's rows 1 to 9.
 
 use second::compare::{Comparison, Implementation};

@@ -1,3 +1,4 @@
+// SPDX-License-Identifier: MPL-2.0
 //! The judge of Connect payloads over described ones, in messages that are read and written.
 
 use second::compare::{Comparison, Difference, Implementation};

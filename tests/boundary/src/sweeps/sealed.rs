@@ -1,3 +1,4 @@
+// SPDX-License-Identifier: MPL-2.0
 //! Sealed messages that are tampered with, or sealed by hand so that their plain text can be what no
 //! writer writes; keys of wrong size and working buffers that are short.
 

@@ -1,3 +1,4 @@
+// SPDX-License-Identifier: MPL-2.0
 //! A message to be read and a message to be written, each with what must be answered.
 
 use second::compare::{Comparison, Difference, Implementation};

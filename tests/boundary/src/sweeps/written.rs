@@ -1,3 +1,4 @@
+// SPDX-License-Identifier: MPL-2.0
 //! Messages of each kind and size: written, and read back.
 
 use second::compare::{Comparison, Implementation};

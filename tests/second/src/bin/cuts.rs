@@ -1,3 +1,4 @@
+// SPDX-License-Identifier: MPL-2.0
 //! Holds two programs against this implementation on their input cut at every byte, or every N:
 //! `cuts N listing STREAM PROGRAM`, `cuts N replay SEED F PROGRAM` on a short capture made from a
 //! seed. PROGRAM may be several words: an emulator may stand in front.

@@ -1,3 +1,4 @@
+// SPDX-License-Identifier: MPL-2.0
 //! Makes a capture of the largest reports there are, too large to be kept: `largest FOLDER`.
 //!
 //! An enrolment; 64 pieces of 16,384 bytes in order; 64 more, the last one first. Beside it the

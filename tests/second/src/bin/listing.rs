@@ -1,3 +1,4 @@
+// SPDX-License-Identifier: MPL-2.0
 //! Lists messages back to back on standard input: `listing`.
 
 use std::io::{BufReader, BufWriter, stdin, stdout};

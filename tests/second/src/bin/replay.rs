@@ -1,3 +1,4 @@
+// SPDX-License-Identifier: MPL-2.0
 //! Plays a capture on standard input through one connection: `replay KEYS F [VERDICT]`.
 
 use std::io::{self, BufReader, BufWriter, Write, stdin, stdout};

@@ -1,3 +1,4 @@
+// SPDX-License-Identifier: MPL-2.0
 //! Makes the sample files: `samples [SEED [FOLDER]]`.
 
 use std::path::{Path, PathBuf};

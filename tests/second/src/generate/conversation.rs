@@ -1,3 +1,4 @@
+// SPDX-License-Identifier: MPL-2.0
 //! Whole conversations over a link that drops, repeats, reorders, flips bits and cuts short.
 
 use super::{Fault, draft, dress, fragment_size, gateway};

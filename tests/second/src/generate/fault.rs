@@ -1,3 +1,4 @@
+// SPDX-License-Identifier: MPL-2.0
 //! What may be wrong with a message, one fault at a time.
 
 use super::entry;

@@ -1,3 +1,4 @@
+// SPDX-License-Identifier: MPL-2.0
 //! Single steps: a connection, a message with 0 to 3 faults, keys, buffers and a verdict.
 
 use super::fault::{change_byte, other_number, other_sequence};

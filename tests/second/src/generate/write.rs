@@ -1,3 +1,4 @@
+// SPDX-License-Identifier: MPL-2.0
 //! Calls of the writer and of the cutter, with and without faults.
 
 use super::fault::{break_chain, change_byte, change_length, refragment};

@@ -1,3 +1,4 @@
+// SPDX-License-Identifier: MPL-2.0
 //! What several tests use.
 
 #![allow(dead_code)]

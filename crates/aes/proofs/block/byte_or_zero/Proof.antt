@@ -1,3 +1,4 @@
+-- SPDX-License-Identifier: MPL-2.0
 -- Past the end a list has the default.
 use mathlib.Core.Path.{sym}
 use lib.ListN.{List·getD-eq-default}

@@ -1,3 +1,4 @@
+-- SPDX-License-Identifier: MPL-2.0
 -- The first of a pair.
 use mathlib.Core.Path.{_∙_, ap}
 use Rattle.aes.specs.Cipher.{invCipher}

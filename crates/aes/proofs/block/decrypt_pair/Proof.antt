@@ -1,3 +1,4 @@
+-- SPDX-License-Identifier: MPL-2.0
 -- Round by round, the same for both blocks.
 use mathlib.Core.Path.{_≡_, _∙_, refl}
 use Prim.Native.Nat.{_≤_}

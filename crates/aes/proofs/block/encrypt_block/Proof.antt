@@ -1,3 +1,4 @@
+-- SPDX-License-Identifier: MPL-2.0
 -- The cipher on the words of the block.
 use mathlib.Core.Path.{_∙_, ap}
 use Rattle.aes.specs.Cipher.{cipher}

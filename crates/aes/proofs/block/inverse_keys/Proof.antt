@@ -1,3 +1,4 @@
+-- SPDX-License-Identifier: MPL-2.0
 -- Key by key.
 use native.Mathlib.Omega.{arith}
 use mathlib.Core.Path.{_≡_, refl}

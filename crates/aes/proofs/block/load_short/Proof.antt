@@ -1,3 +1,4 @@
+-- SPDX-License-Identifier: MPL-2.0
 -- Byte by byte.
 use mathlib.Core.Path.{refl}
 use Prim.Native.Nat.{_-_}

@@ -1,3 +1,4 @@
+-- SPDX-License-Identifier: MPL-2.0
 -- Sixteen bytes, as words.
 use mathlib.Core.Path.{_∙_}
 use borrow.Author.Needs.{needs}

@@ -1,3 +1,4 @@
+-- SPDX-License-Identifier: MPL-2.0
 -- A chain of two blocks.
 use mathlib.Core.Path.{refl}
 use lib.ListN.{replicate}

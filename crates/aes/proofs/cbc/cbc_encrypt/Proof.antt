@@ -1,3 +1,4 @@
+-- SPDX-License-Identifier: MPL-2.0
 -- A copy, encrypted in place.
 use native.Mathlib.Omega.{arith}
 use mathlib.Core.Path.{refl}

@@ -1,3 +1,4 @@
+-- SPDX-License-Identifier: MPL-2.0
 -- By the contracts of what it calls.
 use mathlib.Core.List.{List}
 use Prim.Native.Nat.{ℕ}

@@ -1,3 +1,4 @@
+-- SPDX-License-Identifier: MPL-2.0
 -- A chain of one block after zeros is the cipher.
 use Rattle.aes.proofs.ChainCalls.{one-encrypted}
 use borrow.Author.Needs.{needs}

@@ -1,3 +1,4 @@
+-- SPDX-License-Identifier: MPL-2.0
 -- Two blocks at a time, or the one that is left.
 use native.Mathlib.Decide.{ℕ-discrete}
 use native.Mathlib.Omega.{arith}

@@ -1,3 +1,4 @@
+-- SPDX-License-Identifier: MPL-2.0
 -- By the contracts of what it calls.
 use native.Mathlib.Omega.{arith}
 use Rattle.aes.proofs.ChainLoop.{decrypted-two}

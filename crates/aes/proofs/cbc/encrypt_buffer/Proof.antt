@@ -1,3 +1,4 @@
+-- SPDX-License-Identifier: MPL-2.0
 -- Block by block; what is not done yet is as it was.
 use native.Mathlib.Omega.{arith}
 use native.Mathlib.Nat.{le-refl}

@@ -1,3 +1,4 @@
+-- SPDX-License-Identifier: MPL-2.0
 -- Byte by byte.
 use native.Mathlib.Omega.{arith}
 use native.Mathlib.Numerals.{add-one}

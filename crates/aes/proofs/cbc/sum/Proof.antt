@@ -1,3 +1,4 @@
+-- SPDX-License-Identifier: MPL-2.0
 -- By the contracts of what it calls.
 use borrow.Author.Needs.{needs}
 use Rattle.aes.proofs.cbc.sum.Statement.{statement}

@@ -1,3 +1,4 @@
+-- SPDX-License-Identifier: MPL-2.0
 -- The words are added byte by byte.
 use Rattle.field.specs.Xor.{xor}
 use Rattle.aes.proofs.StateWords.{words-added}

@@ -1,3 +1,4 @@
+-- SPDX-License-Identifier: MPL-2.0
 -- The code is the definition; each part is a byte.
 use mathlib.Core.Path.{refl}
 use Prim.Native.Nat.{ℕ, _%_}

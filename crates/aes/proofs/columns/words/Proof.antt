@@ -1,3 +1,4 @@
+-- SPDX-License-Identifier: MPL-2.0
 -- The words are made of the block's bytes.
 use lib.ListN.{getD}
 use mir.Val.{Fits}

@@ -1,3 +1,4 @@
+-- SPDX-License-Identifier: MPL-2.0
 -- It computes what `xtime` says, a byte.
 use mathlib.Core.Path.{refl}
 use Rattle.field.specs.Xor.{xor}

@@ -1,3 +1,4 @@
+-- SPDX-License-Identifier: MPL-2.0
 -- Sixteen sums, by the four substitutes.
 use Rattle.field.specs.Xor.{xor}
 use Rattle.aes.proofs.Schedule.{next-by}

@@ -1,3 +1,4 @@
+-- SPDX-License-Identifier: MPL-2.0
 -- The table holds the substitutes.
 use mathlib.Core.Path.{_∙_, ap}
 use mathlib.Core.List.{List}

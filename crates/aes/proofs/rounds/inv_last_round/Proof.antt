@@ -1,3 +1,4 @@
+-- SPDX-License-Identifier: MPL-2.0
 -- The bytes looked up, the columns turned, are those of the round back.
 use Rattle.field.specs.Xor.{xor}
 use Rattle.aes.proofs.TableRounds.{unshifted-round}

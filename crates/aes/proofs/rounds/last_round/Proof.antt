@@ -1,3 +1,4 @@
+-- SPDX-License-Identifier: MPL-2.0
 -- The bytes looked up are the columns of the round.
 use Rattle.field.specs.Xor.{xor}
 use Rattle.aes.proofs.TableRounds.{shifted-round}

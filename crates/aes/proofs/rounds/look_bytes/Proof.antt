@@ -1,3 +1,4 @@
+-- SPDX-License-Identifier: MPL-2.0
 -- The code is the definition.
 use Rattle.aes.specs.Words.{lookedUpBytes}
 use borrow.Author.Needs.{needs}

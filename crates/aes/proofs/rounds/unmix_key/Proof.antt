@@ -1,3 +1,4 @@
+-- SPDX-License-Identifier: MPL-2.0
 -- The four words are the columns mixed back.
 use mathlib.Core.Path.{_∙_, ap, subst}
 use Rattle.aes.specs.State.{Block, invMixColumns}

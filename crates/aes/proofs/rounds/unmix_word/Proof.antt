@@ -1,3 +1,4 @@
+-- SPDX-License-Identifier: MPL-2.0
 -- What the tables undo, the substitution did.
 use Rattle.aes.proofs.TableRounds.{unmixed-word}
 use borrow.Author.Needs.{needs}

@@ -1,3 +1,4 @@
+-- SPDX-License-Identifier: MPL-2.0
 -- What the callees answer, put together.
 use borrow.Author.Needs.{needs}
 use Rattle.bench_c.proofs.chaining.bench_encrypt.Statement.{statement}

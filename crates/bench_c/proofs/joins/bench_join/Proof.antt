@@ -1,3 +1,4 @@
+-- SPDX-License-Identifier: MPL-2.0
 -- No report has such pieces, or all of them come.
 use mathlib.Core.Path.{refl, sym, _∙_}
 use borrow.Author.Tests.{ltb-false}

@@ -1,3 +1,4 @@
+-- SPDX-License-Identifier: MPL-2.0
 -- After i turns the first i pieces have come.
 use Prim.Native.Nat.{ℕ, _-_, _≤_}
 use mathlib.Core.Path.{_≡_, refl, ap, _∙_}

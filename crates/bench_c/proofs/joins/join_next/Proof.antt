@@ -1,3 +1,4 @@
+-- SPDX-License-Identifier: MPL-2.0
 -- The place is small; the piece's bytes are the part that was cut.
 use native.Mathlib.Omega.{arith}
 use Rattle.joining.proofs.Cuts.{place-bound}

@@ -1,3 +1,4 @@
+-- SPDX-License-Identifier: MPL-2.0
 -- There is no byte from that place on, or no more are taken than there are.
 use Prim.Native.Nat.{_≤_}
 use mathlib.Core.Path.{_≡_, sym}

@@ -1,3 +1,4 @@
+-- SPDX-License-Identifier: MPL-2.0
 -- The eight sums are the definition's.
 use Rattle.compression.specs.Compression.{added}
 use Rattle.compression.proofs.rounds.added.Statement.{statement}

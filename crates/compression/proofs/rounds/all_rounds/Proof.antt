@@ -1,3 +1,4 @@
+-- SPDX-License-Identifier: MPL-2.0
 -- The invariant: t rounds are done on the whole schedule, of which the array has as much as they needed; each time round adds four to both.
 use mathlib.Core.Path.{_≡_}
 use Prim.Native.Nat.{_+_, _≤_, _-_, _%_, min}

@@ -1,3 +1,4 @@
+-- SPDX-License-Identifier: MPL-2.0
 -- The constants are the definition's, four by four: the one place where the two are compared.
 use mathlib.Core.Path.{refl}
 use Rattle.compression.specs.Constants.{K256}

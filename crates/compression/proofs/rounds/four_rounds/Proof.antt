@@ -1,3 +1,4 @@
+-- SPDX-License-Identifier: MPL-2.0
 -- Four rounds, each from what the one before gave.
 use Prim.Native.Nat.{_+_}
 use native.Mathlib.Omega.{arith}

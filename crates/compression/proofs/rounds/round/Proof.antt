@@ -1,3 +1,4 @@
+-- SPDX-License-Identifier: MPL-2.0
 -- The eight words are the definition's.
 use Rattle.compression.specs.Compression.{round}
 use Rattle.compression.proofs.rounds.round.Statement.{statement}

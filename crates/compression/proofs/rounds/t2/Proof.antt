@@ -1,3 +1,4 @@
+-- SPDX-License-Identifier: MPL-2.0
 -- The sum is the definition's.
 use Rattle.compression.specs.Compression.{T2}
 use Rattle.compression.proofs.rounds.t2.Statement.{statement}

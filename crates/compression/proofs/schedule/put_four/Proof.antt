@@ -1,3 +1,4 @@
+-- SPDX-License-Identifier: MPL-2.0
 -- Four words, each put into what the one before left.
 use native.Mathlib.Omega.{arith}
 use Prim.Native.Nat.{_+_}

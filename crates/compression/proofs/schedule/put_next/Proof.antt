@@ -1,3 +1,4 @@
+-- SPDX-License-Identifier: MPL-2.0
 -- By the place: there are words to put before the forty-eighth round only.
 use mathlib.Core.Path.{_≡_}
 use Prim.Native.Nat.{_+_, min}

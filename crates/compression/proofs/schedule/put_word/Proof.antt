@@ -1,3 +1,4 @@
+-- SPDX-License-Identifier: MPL-2.0
 -- The word is the next one, and its place the first free one.
 use borrow.Author.Needs.{needs}
 use Rattle.compression.specs.Compression.{nextWord}

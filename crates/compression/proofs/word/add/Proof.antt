@@ -1,3 +1,4 @@
+-- SPDX-License-Identifier: MPL-2.0
 -- The library's wrapping sum is the definition's.
 use Rattle.compression.specs.Words.{plus}
 use Rattle.compression.proofs.word.add.Statement.{statement}

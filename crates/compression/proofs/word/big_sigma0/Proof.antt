@@ -1,3 +1,4 @@
+-- SPDX-License-Identifier: MPL-2.0
 -- The three rotations are those of the definition.
 use borrow.Author.Needs.{needs}
 use Rattle.compression.specs.Words.{Σ0}

@@ -1,3 +1,4 @@
+-- SPDX-License-Identifier: MPL-2.0
 -- Bit by bit the short form is the standard's.
 use native.Mathlib.Omega.{arith}
 use Rattle.compression.specs.Words.{Ch, complement}

@@ -1,3 +1,4 @@
+-- SPDX-License-Identifier: MPL-2.0
 -- The body is the definition.
 use mathlib.Core.Path.{refl}
 use borrow.Author.Needs.{needs}

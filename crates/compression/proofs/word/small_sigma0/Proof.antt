@@ -1,3 +1,4 @@
+-- SPDX-License-Identifier: MPL-2.0
 -- The rotations and the shift are those of the definition.
 use borrow.Author.Needs.{needs}
 use Rattle.compression.specs.Words.{σ0, SHR}

@@ -1,3 +1,4 @@
+-- SPDX-License-Identifier: MPL-2.0
 -- The rule of the substitution back, tested over the whole table.
 use mathlib.Core.Path.{refl}
 use Rattle.field.specs.Xor.{xor}

@@ -1,3 +1,4 @@
+-- SPDX-License-Identifier: MPL-2.0
 -- By the arrival's kind.
 use mathlib.Core.Path.{sym, ap}
 use borrow.Author.Needs.{needs}

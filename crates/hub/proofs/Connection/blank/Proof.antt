@@ -1,3 +1,4 @@
+-- SPDX-License-Identifier: MPL-2.0
 -- By what `expecting` gives; all else is written out.
 use Rattle.hub.proofs.Connection.blank.Statement.{statement}
 use Rattle.hub.proofs.Connection.blank.Tie as tie

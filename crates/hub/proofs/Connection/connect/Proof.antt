@@ -1,3 +1,4 @@
+-- SPDX-License-Identifier: MPL-2.0
 -- The row is that of the payload's type: 0, 2, 6, or none.
 use mathlib.Core.Path.{sym, _∙_}
 use borrow.Author.Tests.{ne-eqb}

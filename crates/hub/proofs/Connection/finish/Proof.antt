@@ -1,3 +1,4 @@
+-- SPDX-License-Identifier: MPL-2.0
 -- Row by row: state 2, state 3, all else.
 use borrow.Author.Tests.{eq-eqb, ne-eqb}
 use Rattle.hub.proofs.Connection.finish.Statement.{statement}

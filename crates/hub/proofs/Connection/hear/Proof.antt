@@ -1,3 +1,4 @@
+-- SPDX-License-Identifier: MPL-2.0
 -- By the tests of 16 and 15: foreign, Connect, Session in state 3, none of these.
 use mathlib.Core.Path.{_≡_, sym, _∙_}
 use mathlib.Core.Bool.{false}

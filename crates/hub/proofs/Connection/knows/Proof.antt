@@ -1,3 +1,4 @@
+-- SPDX-License-Identifier: MPL-2.0
 -- Three comparisons, one behind the other.
 use borrow.Author.Needs.{needs}
 use Rattle.hub.proofs.Connection.knows.Statement.{statement}

@@ -1,3 +1,4 @@
+-- SPDX-License-Identifier: MPL-2.0
 -- The fragment size is one of document 01 or not.
 use Rattle.hub.specs.Opening.{opened}
 use Rattle.hub.proofs.Connection.open.Statement.{statement}

@@ -1,3 +1,4 @@
+-- SPDX-License-Identifier: MPL-2.0
 -- The certificate's place lies in the payload, whatever the payload is.
 use Prim.Native.Nat.{_+_, _≤_}
 use mathlib.Core.Path.{_∙_}

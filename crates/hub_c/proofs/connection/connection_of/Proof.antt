@@ -1,3 +1,4 @@
+-- SPDX-License-Identifier: MPL-2.0
 -- The array holds the bytes of the buffer.
 use mathlib.Core.Path.{ap, _∙_}
 use borrow.Author.Needs.{needs}

@@ -1,3 +1,4 @@
+-- SPDX-License-Identifier: MPL-2.0
 -- The buffers have their sizes or not; the step is that of the connection in the state.
 use lib.ListN.{length}
 use Rattle.wire.specs.Fields.{mostPieces}

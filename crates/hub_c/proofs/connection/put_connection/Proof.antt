@@ -1,3 +1,4 @@
+-- SPDX-License-Identifier: MPL-2.0
 -- The bytes of the connection fill the buffer.
 use mathlib.Core.Path.{_∙_}
 use borrow.Author.Needs.{needs}

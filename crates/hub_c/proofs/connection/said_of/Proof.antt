@@ -1,3 +1,4 @@
+-- SPDX-License-Identifier: MPL-2.0
 -- By the answer.
 use mathlib.Core.Path.{sym, ap, _∙_}
 use borrow.Author.Needs.{needs}

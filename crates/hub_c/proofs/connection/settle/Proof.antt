@@ -1,3 +1,4 @@
+-- SPDX-License-Identifier: MPL-2.0
 -- A refusal leaves state and answer alone.
 use mathlib.Core.Path.{sym, ap, _∙_}
 use borrow.Author.Tests.{eq-eqb, ne-eqb}

@@ -1,3 +1,4 @@
+-- SPDX-License-Identifier: MPL-2.0
 -- The words have their size or not; the cutter refuses or not.
 use Rattle.joining.proofs.Cuts.{cuttable}
 use Rattle.hub_c.proofs.Sizing.{cut-refused, cut-told}

@@ -1,3 +1,4 @@
+-- SPDX-License-Identifier: MPL-2.0
 -- The output has its size or not.
 use mathlib.Core.Path.{_∙_}
 use borrow.Author.Tests.{eq-eqb, ne-eqb}

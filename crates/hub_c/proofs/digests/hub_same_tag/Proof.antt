@@ -1,3 +1,4 @@
+-- SPDX-License-Identifier: MPL-2.0
 -- Both tags have their size or not; they are the same or not.
 use lib.ListN.{length}
 use Rattle.hub_c.specs.Digesting.{sameTag}

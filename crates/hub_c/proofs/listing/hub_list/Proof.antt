@@ -1,3 +1,4 @@
+-- SPDX-License-Identifier: MPL-2.0
 -- The buffers have their sizes or not; the line is that of the message.
 use Prim.Native.Nat.{ℕ}
 use mathlib.Core.List.{_∷_, []}

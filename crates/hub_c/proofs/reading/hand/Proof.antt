@@ -1,3 +1,4 @@
+-- SPDX-License-Identifier: MPL-2.0
 -- A refusal leaves the words alone; else the fields and the place fill them.
 use mathlib.Core.List.{_∷_, []}
 use Rattle.joining.specs.Heard.{bit}

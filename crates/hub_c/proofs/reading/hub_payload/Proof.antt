@@ -1,3 +1,4 @@
+-- SPDX-License-Identifier: MPL-2.0
 -- A buffer of another size is answered with its number; else the place is that of the words.
 use lib.ListN.{length}
 use Rattle.hub_c.proofs.Sizing.{both-sized}

@@ -1,3 +1,4 @@
+-- SPDX-License-Identifier: MPL-2.0
 -- The words have their size or not; what was read is handed out.
 use Rattle.hub_c.specs.declared.reading.Found.{Found}
 use Rattle.hub_c.specs.Headers.{ofHeader, handed}

@@ -1,3 +1,4 @@
+-- SPDX-License-Identifier: MPL-2.0
 -- The header beside a refusal is the empty one.
 use Rattle.hub_c.proofs.reading.nothing.Statement.{statement}
 use Rattle.hub_c.proofs.reading.nothing.Tie as tie

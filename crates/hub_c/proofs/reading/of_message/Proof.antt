@@ -1,3 +1,4 @@
+-- SPDX-License-Identifier: MPL-2.0
 -- By what the reader answered.
 use Rattle.hub_c.specs.Headers.{ofMessage}
 use mathlib.Core.Path.{sym, ap}

@@ -1,3 +1,4 @@
+-- SPDX-License-Identifier: MPL-2.0
 -- By the two tests of the definition.
 use Rattle.hub_c.specs.Headers.{placeOf}
 use Rattle.hub_c.proofs.reading.place_of.Statement.{statement}

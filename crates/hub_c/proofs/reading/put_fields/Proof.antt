@@ -1,3 +1,4 @@
+-- SPDX-License-Identifier: MPL-2.0
 -- The words of the fields, each where those before it end: one run.
 use mathlib.Core.List.{_∷_, []}
 use mathlib.Core.Path.{refl}

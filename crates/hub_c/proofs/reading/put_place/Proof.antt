@@ -1,3 +1,4 @@
+-- SPDX-License-Identifier: MPL-2.0
 -- Three words after the fields.
 use borrow.Author.Needs.{needs}
 use Rattle.hub_c.proofs.reading.put_place.Statement.{statement}

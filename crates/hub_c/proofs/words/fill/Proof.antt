@@ -1,3 +1,4 @@
+-- SPDX-License-Identifier: MPL-2.0
 -- A copy over the whole of the buffer.
 use mathlib.Core.Path.{_∙_}
 use Rattle.laws.proofs.Lists.{copied-whole}

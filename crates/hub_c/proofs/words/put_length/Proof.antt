@@ -1,3 +1,4 @@
+-- SPDX-License-Identifier: MPL-2.0
 -- One word over the whole of the buffer.
 use mathlib.Core.List.{_∷_, []}
 use mathlib.Core.Path.{_∙_}

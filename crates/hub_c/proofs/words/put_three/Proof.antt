@@ -1,3 +1,4 @@
+-- SPDX-License-Identifier: MPL-2.0
 -- Three words, each after the one before it.
 use Prim.Native.Nat.{_+_}
 use mathlib.Core.List.{_∷_, []}

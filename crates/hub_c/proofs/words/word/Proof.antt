@@ -1,3 +1,4 @@
+-- SPDX-License-Identifier: MPL-2.0
 -- Past the end `getD` gives its default.
 use lib.ListN.{List·getD-eq-default}
 use mathlib.Core.Path.{sym}

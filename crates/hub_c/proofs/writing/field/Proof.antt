@@ -1,3 +1,4 @@
+-- SPDX-License-Identifier: MPL-2.0
 -- A number that has room, or not.
 use mathlib.Core.Path.{sym}
 use native.Mathlib.Omega.{arith}

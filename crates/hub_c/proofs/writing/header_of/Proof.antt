@@ -1,3 +1,4 @@
+-- SPDX-License-Identifier: MPL-2.0
 -- Each field is what its word gives.
 use borrow.Author.Needs.{needs}
 use Rattle.hub_c.proofs.writing.header_of.Statement.{statement}

@@ -1,3 +1,4 @@
+-- SPDX-License-Identifier: MPL-2.0
 -- The words have their sizes or not; the writer answers to the narrowed header what it answers to the words.
 use mathlib.Core.Bool.{false, not, _||_}
 use lib.Dec.{eqb, ltb}

@@ -1,3 +1,4 @@
+-- SPDX-License-Identifier: MPL-2.0
 -- By what the writer answered.
 use borrow.Author.Needs.{needs}
 use Rattle.hub_c.proofs.writing.of_written.Statement.{statement}

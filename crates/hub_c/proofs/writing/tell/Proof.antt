@@ -1,3 +1,4 @@
+-- SPDX-License-Identifier: MPL-2.0
 -- A refusal leaves the word alone.
 use Rattle.hub_c.specs.Written.{lengthAfter}
 use mathlib.Core.Path.{refl, sym}

@@ -1,3 +1,4 @@
+-- SPDX-License-Identifier: MPL-2.0
 -- A refusal, a Repeat or a new piece: each is one way of the definitions.
 use Prim.Native.Nat.{_+_, _*_, _≤_}
 use mathlib.Core.Path.{refl, sym, ap, _∙_}

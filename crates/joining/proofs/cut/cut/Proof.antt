@@ -1,3 +1,4 @@
+-- SPDX-License-Identifier: MPL-2.0
 -- The count stands beside no refusal.
 use mathlib.Core.Path.{sym, _∙_}
 use borrow.Author.Tests.{eq-eqb, ne-eqb}

@@ -1,3 +1,4 @@
+-- SPDX-License-Identifier: MPL-2.0
 -- What is not refused begins within the report.
 use Prim.Native.Nat.{_*_}
 use mathlib.Core.Path.{sym, _∙_}

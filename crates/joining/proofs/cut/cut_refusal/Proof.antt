@@ -1,3 +1,4 @@
+-- SPDX-License-Identifier: MPL-2.0
 -- The row of the fragment size, then the one that divides by it.
 use Prim.Native.Nat.{ℕ, _≤_, _<_}
 use mathlib.Core.Bool.{Bool}

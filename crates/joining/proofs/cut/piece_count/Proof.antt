@@ -1,3 +1,4 @@
+-- SPDX-License-Identifier: MPL-2.0
 -- The empty report is one piece; a quotient is at most what is divided.
 use Prim.Native.Nat.{_-_}
 use native.Mathlib.Omega.{arith}

@@ -1,3 +1,4 @@
+-- SPDX-License-Identifier: MPL-2.0
 -- The count so far is that of the indexes passed.
 use Prim.Native.Nat.{ℕ, _≤_, _-_}
 use mathlib.Core.Bool.{false}

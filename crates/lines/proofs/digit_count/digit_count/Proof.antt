@@ -1,3 +1,4 @@
+-- SPDX-License-Identifier: MPL-2.0
 -- Each row of the table is a branch of the code.
 use Rattle.laws.proofs.Tests.{tests}
 use Rattle.lines.specs.Text.{digitCount}

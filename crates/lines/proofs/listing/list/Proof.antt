@@ -1,3 +1,4 @@
+-- SPDX-License-Identifier: MPL-2.0
 -- Between two turns the run is that of the definition, with the turns that are left.
 use mathlib.Core.Path.{_≡_, refl}
 use native.Mathlib.Omega.{arith}

@@ -1,3 +1,4 @@
+-- SPDX-License-Identifier: MPL-2.0
 -- Five fields, each where the one before it ends.
 use Prim.Native.Nat.{_+_}
 use mathlib.Core.Path.{_≡_}

@@ -1,3 +1,4 @@
+-- SPDX-License-Identifier: MPL-2.0
 -- There is room or not; the line goes by the answer.
 use Prim.Native.Nat.{_+_, _≤_}
 use mathlib.Core.Path.{sym, _∙_}

@@ -1,3 +1,4 @@
+-- SPDX-License-Identifier: MPL-2.0
 -- Nothing is added.
 use native.Mathlib.Nat.{add-zero}
 use Rattle.lines.proofs.listing.stopped.Statement.{statement}

@@ -1,3 +1,4 @@
+-- SPDX-License-Identifier: MPL-2.0
 -- The line is put behind what is written.
 use mathlib.Core.Path.{sym, _∙_}
 use Rattle.lines.specs.Listing.{lineOf}

@@ -1,3 +1,4 @@
+-- SPDX-License-Identifier: MPL-2.0
 -- The turn by its cases: no room, and what the stream begins with.
 use Prim.Native.Nat.{_+_, _-_, _≤_}
 use mathlib.Core.Path.{_≡_, sym, _∙_}

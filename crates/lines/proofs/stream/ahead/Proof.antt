@@ -1,3 +1,4 @@
+-- SPDX-License-Identifier: MPL-2.0
 -- By the tests. What is taken fits sixteen bits, as MessageLength does.
 use denote.Ref.{now}
 use native.Mathlib.Omega.{arith}

@@ -1,3 +1,4 @@
+-- SPDX-License-Identifier: MPL-2.0
 -- Putting what is left of the digits into the buffer as it is gives what putting them all into the first one gives.
 use borrow.Author.Needs.{needs}
 use Prim.Native.Nat.{_≤_}

@@ -1,3 +1,4 @@
+-- SPDX-License-Identifier: MPL-2.0
 -- The digits, then the byte behind them: two stores, the second where the first ends.
 use borrow.Author.Needs.{needs}
 use native.Mathlib.Omega.{arith}

@@ -1,3 +1,4 @@
+-- SPDX-License-Identifier: MPL-2.0
 -- The name, then the number where the name ends.
 use mathlib.Core.Path.{refl}
 use native.Mathlib.Omega.{arith}

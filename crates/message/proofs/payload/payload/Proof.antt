@@ -1,3 +1,4 @@
+-- SPDX-License-Identifier: MPL-2.0
 -- One of the two, and there the part or nothing.
 use native.Mathlib.Omega.{arith}
 use Rattle.message.proofs.Handing.{within, nothing, whole, of-working, of-message}

@@ -1,3 +1,4 @@
+-- SPDX-License-Identifier: MPL-2.0
 -- The rows from the top are the table.
 use mathlib.Core.Path.{refl}
 use Rattle.laws.proofs.Nexts.{down-first}

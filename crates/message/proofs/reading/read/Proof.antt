@@ -1,3 +1,4 @@
+-- SPDX-License-Identifier: MPL-2.0
 -- By what the header's reader answered.
 use mathlib.Core.Path.{sym, _∙_}
 use Rattle.message.proofs.Readers.{header-refused, plain-fits, read-plainly, read-sealedly}

@@ -1,3 +1,4 @@
+-- SPDX-License-Identifier: MPL-2.0
 -- The payload's part is judged where it stands.
 use Rattle.message.proofs.Readers.{plain-refused, plain-accepted}
 use borrow.Author.Needs.{needs}

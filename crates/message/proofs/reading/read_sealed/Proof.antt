@@ -1,3 +1,4 @@
+-- SPDX-License-Identifier: MPL-2.0
 -- What was opened stands in the working buffer, and its payload is judged there.
 use Rattle.message.proofs.Readers.{not-opened, payload-fits, sealed-refused, sealed-accepted}
 use borrow.Author.Needs.{needs}

@@ -1,3 +1,4 @@
+-- SPDX-License-Identifier: MPL-2.0
 -- The sums are short.
 use native.Mathlib.Omega.{arith}
 use Rattle.seal.specs.Padding.{sealedSize}

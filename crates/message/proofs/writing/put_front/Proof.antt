@@ -1,3 +1,4 @@
+-- SPDX-License-Identifier: MPL-2.0
 -- The chain stands where the header ends.
 use Rattle.message.proofs.Written.{front-written}
 use borrow.Author.Needs.{needs}

@@ -1,3 +1,4 @@
+-- SPDX-License-Identifier: MPL-2.0
 -- Three tables one after the other. The length is formed where the rows above it leave a chain and a payload that are short.
 use Prim.Native.Nat.{ℕ}
 use mathlib.Core.Bool.{Bool, false}

@@ -1,3 +1,4 @@
+-- SPDX-License-Identifier: MPL-2.0
 -- Refused, or header, chain and payload one behind the other, the payload as it is or sealed.
 use Prim.Native.Nat.{_≤_}
 use mathlib.Core.Path.{_≡_, sym, _∙_}

@@ -1,3 +1,4 @@
+-- SPDX-License-Identifier: MPL-2.0
 -- Past the end at once, or by what is left.
 use Prim.Native.Nat.{ℕ, _+_, _-_, _≤_}
 use mathlib.Core.Path.{_≡_, sym}

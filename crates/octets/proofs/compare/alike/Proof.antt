@@ -1,3 +1,4 @@
+-- SPDX-License-Identifier: MPL-2.0
 -- What is told so far is of the bytes passed.
 use Prim.Native.Nat.{ℕ, _+_, _≤_, _<_, _-_}
 use mathlib.Core.Bool.{Bool, _&&_}

@@ -1,3 +1,4 @@
+-- SPDX-License-Identifier: MPL-2.0
 -- Past the end `getD` gives its default.
 use mathlib.Core.Path.{sym}
 use lib.ListN.{List·getD-eq-default}

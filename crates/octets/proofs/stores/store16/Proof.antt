@@ -1,3 +1,4 @@
+-- SPDX-License-Identifier: MPL-2.0
 -- Two stores, the second where the first ends.
 use Prim.Native.Nat.{_+_, _/_, _%_}
 use mathlib.Core.List.{[], _∷_}

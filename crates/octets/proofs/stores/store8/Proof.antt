@@ -1,3 +1,4 @@
+-- SPDX-License-Identifier: MPL-2.0
 -- Past the end `set` changes nothing.
 use mathlib.Core.Path.{sym}
 use lib.Seq.{set-out}

@@ -1,3 +1,4 @@
+-- SPDX-License-Identifier: MPL-2.0
 -- The part that was lent comes back with the bytes over its first ones; what has no room is dropped by `sets` too.
 use Prim.Native.Nat.{_-_}
 use mathlib.Core.Path.{sym, _∙_}

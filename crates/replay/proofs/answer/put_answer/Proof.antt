@@ -1,3 +1,4 @@
+-- SPDX-License-Identifier: MPL-2.0
 -- There is room for any line, and the line is put, or there is not.
 use mathlib.Core.Path.{sym, _∙_}
 use borrow.Author.Needs.{needs}

@@ -1,3 +1,4 @@
+-- SPDX-License-Identifier: MPL-2.0
 -- The count is put as it is shown.
 use borrow.Author.Needs.{needs}
 use Rattle.replay.proofs.answer.put_count.Statement.{statement}

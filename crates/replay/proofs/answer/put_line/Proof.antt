@@ -1,3 +1,4 @@
+-- SPDX-License-Identifier: MPL-2.0
 -- The line goes by the answer: what was put is its name and its number.
 use Prim.Native.Nat.{_+_, _≤_}
 use native.Mathlib.Omega.{arith}

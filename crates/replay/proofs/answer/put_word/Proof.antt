@@ -1,3 +1,4 @@
+-- SPDX-License-Identifier: MPL-2.0
 -- There is room for the name and its number, so they are put.
 use Prim.Native.Nat.{_+_, _≤_}
 use native.Mathlib.Omega.{arith}

@@ -1,3 +1,4 @@
+-- SPDX-License-Identifier: MPL-2.0
 -- The number fits or not.
 use borrow.Author.Needs.{needs}
 use borrow.Author.Tests.{lt-ltb, le-ltb}

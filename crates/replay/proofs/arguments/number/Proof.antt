@@ -1,3 +1,4 @@
+-- SPDX-License-Identifier: MPL-2.0
 -- Digit by digit to the end.
 use Prim.Native.Nat.{_≤_, _-_}
 use lib.ListN.{length}

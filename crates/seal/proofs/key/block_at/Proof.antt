@@ -1,3 +1,4 @@
+-- SPDX-License-Identifier: MPL-2.0
 -- The sixteen bytes are copied over the whole of the block.
 use borrow.Author.Needs.{needs}
 use mathlib.Core.Path.{_∙_, refl}

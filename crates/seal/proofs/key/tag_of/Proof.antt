@@ -1,3 +1,4 @@
+-- SPDX-License-Identifier: MPL-2.0
 -- The parts handed on are the definition's, the last one being all of the body from 4 on.
 use mathlib.Core.Path.{_∙_}
 use Rattle.laws.proofs.Lists.{part-from}

@@ -1,3 +1,4 @@
+-- SPDX-License-Identifier: MPL-2.0
 -- Each call gives one piece of the definition.
 use Rattle.seal.specs.Keys.{vector}
 use borrow.Author.Needs.{needs}

@@ -1,3 +1,4 @@
+-- SPDX-License-Identifier: MPL-2.0
 -- Each field is read byte by byte at its place.
 use mathlib.Core.Path.{refl}
 use Rattle.laws.specs.Bytes.{bytesAt}

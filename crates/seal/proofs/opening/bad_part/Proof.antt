@@ -1,3 +1,4 @@
+-- SPDX-License-Identifier: MPL-2.0
 -- The two blocks are those of the opened sealed part.
 use Rattle.seal.proofs.Opened.{part-judged}
 use borrow.Author.Needs.{needs}

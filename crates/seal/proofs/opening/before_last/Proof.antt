@@ -1,3 +1,4 @@
+-- SPDX-License-Identifier: MPL-2.0
 -- A sealed part of one block chains the vector into it, a longer one the block before the last.
 use mathlib.Core.Path.{_∙_}
 use Rattle.seal.proofs.Opened.{before-only, before-of-more}

@@ -1,3 +1,4 @@
+-- SPDX-License-Identifier: MPL-2.0
 -- Where the tag does not fit, nothing stands before it.
 use Prim.Native.Nat.{_-_}
 use native.Mathlib.Omega.{arith}

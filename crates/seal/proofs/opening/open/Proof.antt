@@ -1,3 +1,4 @@
+-- SPDX-License-Identifier: MPL-2.0
 -- The tables one after the other: the tag is judged where the part and the keys are there, the part is opened where the tag is right.
 use Prim.Native.Nat.{ℕ}
 use mathlib.Core.Bool.{Bool}

@@ -1,3 +1,4 @@
+-- SPDX-License-Identifier: MPL-2.0
 -- Keys and vector are the definition's, so what is judged and written is the opened sealed part.
 use mathlib.Core.Path.{_∙_, sym}
 use Rattle.seal.proofs.Opened.{part-12, part-13, part-opened, opens, judged, decrypted}

@@ -1,3 +1,4 @@
+-- SPDX-License-Identifier: MPL-2.0
 -- The tag of the body, against the message's last bytes.
 use native.Mathlib.Nat.{sub-zero}
 use Rattle.laws.proofs.Lists.{part-from}

@@ -1,3 +1,4 @@
+-- SPDX-License-Identifier: MPL-2.0
 -- The told size, its padding and the last block's end are what `badBlocks` asks for.
 use Rattle.seal.proofs.Padded.{blocks-judged}
 use borrow.Author.Needs.{needs}

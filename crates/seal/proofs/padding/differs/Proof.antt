@@ -1,3 +1,4 @@
+-- SPDX-License-Identifier: MPL-2.0
 -- Going down from the block's end, the bytes looked at are `drop i block`: one byte more is one `∷` more on both sides of `same`.
 use mathlib.Core.Path.{_≡_}
 use mathlib.Core.Bool.{not}

@@ -1,3 +1,4 @@
+-- SPDX-License-Identifier: MPL-2.0
 -- The code is the definition, and a remainder by 16 is below 16.
 use native.Mathlib.Omega.{arith}
 use mathlib.Core.Path.{refl}

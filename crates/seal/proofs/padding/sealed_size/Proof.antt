@@ -1,3 +1,4 @@
+-- SPDX-License-Identifier: MPL-2.0
 -- Size, payload and padding.
 use Rattle.seal.specs.Padding.{sealedSize}
 use borrow.Author.Needs.{needs}

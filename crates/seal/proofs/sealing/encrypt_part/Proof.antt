@@ -1,3 +1,4 @@
+-- SPDX-License-Identifier: MPL-2.0
 -- The plain text is whole blocks, so it is encrypted where it stands.
 use Rattle.seal.proofs.Seals.{encrypted}
 use borrow.Author.Needs.{needs}

@@ -1,3 +1,4 @@
+-- SPDX-License-Identifier: MPL-2.0
 -- The tag of what stands before it.
 use native.Mathlib.Nat.{sub-zero}
 use borrow.Author.Needs.{needs}

@@ -1,3 +1,4 @@
+-- SPDX-License-Identifier: MPL-2.0
 -- The room is judged where the rows above it leave a sum that fits.
 use Prim.Native.Nat.{ℕ, _+_, _≤_}
 use mathlib.Core.Bool.{Bool}

@@ -1,3 +1,4 @@
+-- SPDX-License-Identifier: MPL-2.0
 -- A start or a size past 65,535 makes the message too long.
 use Prim.Native.Nat.{_+_}
 use mathlib.Core.Path.{sym}

@@ -1,3 +1,4 @@
+-- SPDX-License-Identifier: MPL-2.0
 -- The words that were loaded are the block's.
 use borrow.Author.Needs.{needs}
 use Rattle.sha256.specs.Digests.{afterBlock}

@@ -1,3 +1,4 @@
+-- SPDX-License-Identifier: MPL-2.0
 -- The key copied over zeros.
 use borrow.Author.Needs.{needs}
 use Rattle.sha256.proofs.Keys.{filled-by}

@@ -1,3 +1,4 @@
+-- SPDX-License-Identifier: MPL-2.0
 -- The invariant: the bytes passed are masked.
 use mathlib.Core.Path.{_≡_, sym, _∙_}
 use Prim.Native.Nat.{_≤_, _-_}

@@ -1,3 +1,4 @@
+-- SPDX-License-Identifier: MPL-2.0
 -- From the hash value after the block the parts are hashed as if they stood after it.
 use mathlib.Core.Path.{_∙_, sym, ap}
 use mathlib.Core.List.{List}

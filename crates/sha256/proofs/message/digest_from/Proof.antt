@@ -1,3 +1,4 @@
+-- SPDX-License-Identifier: MPL-2.0
 -- A message that has a digest is hashed with its padding; another gives zeros.
 use mathlib.Core.Path.{refl, _∙_, sym, ap}
 use mathlib.Core.List.{[], List}

@@ -1,3 +1,4 @@
+-- SPDX-License-Identifier: MPL-2.0
 -- The padding is a fourth part after the three.
 use mathlib.Core.Path.{_≡_, _∙_, ap}
 use Prim.Native.Nat.{ℕ, _+_, _-_}

@@ -1,3 +1,4 @@
+-- SPDX-License-Identifier: MPL-2.0
 -- A part that is too long by itself makes the sum too large.
 use mathlib.Core.Path.{sym}
 use Prim.Native.Nat.{ℕ, _+_, _^_}

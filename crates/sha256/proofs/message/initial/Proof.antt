@@ -1,3 +1,4 @@
+-- SPDX-License-Identifier: MPL-2.0
 -- The eight words are the definition's.
 use mathlib.Core.Path.{refl}
 use Rattle.sha256.specs.Digests.{H0}

@@ -1,3 +1,4 @@
+-- SPDX-License-Identifier: MPL-2.0
 -- Zeros are the block of no message; each part laid makes it the block of the parts so far.
 use mathlib.Core.Path.{refl}
 use mathlib.Core.List.{[], _++_, append-assoc}

@@ -1,3 +1,4 @@
+-- SPDX-License-Identifier: MPL-2.0
 -- A part that lies outside the block changes nothing; else the places laid are those that part and block have in common.
 use mathlib.Core.Path.{_∙_}
 use native.Mathlib.Omega.{arith}

@@ -1,3 +1,4 @@
+-- SPDX-License-Identifier: MPL-2.0
 -- The invariant: n blocks of the message are hashed.
 use mathlib.Core.Path.{_≡_, ap, _∙_}
 use mathlib.Core.List.{_++_}

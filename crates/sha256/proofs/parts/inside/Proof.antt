@@ -1,3 +1,4 @@
+-- SPDX-License-Identifier: MPL-2.0
 -- Sixty-four bytes are handed out only where the block lies in the part.
 use native.Mathlib.Omega.{arith}
 use borrow.Author.Needs.{needs}

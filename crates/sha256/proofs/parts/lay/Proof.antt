@@ -1,3 +1,4 @@
+-- SPDX-License-Identifier: MPL-2.0
 -- The invariant: the block has the bytes of the message so far, up to the place that comes next.
 use mathlib.Core.Path.{_≡_, _∙_, refl}
 use mathlib.Core.List.{List, _++_}

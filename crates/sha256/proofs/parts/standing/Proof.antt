@@ -1,3 +1,4 @@
+-- SPDX-License-Identifier: MPL-2.0
 -- Each of the two parts with what stands before and after it is the message.
 use mathlib.Core.List.{[], _++_, append-assoc, append-nil}
 use native.Mathlib.Omega.{arith}

@@ -1,3 +1,4 @@
+-- SPDX-License-Identifier: MPL-2.0
 -- Eight runs of four fill the thirty-two bytes.
 use borrow.Author.Needs.{needs}
 use Rattle.sha256.specs.Digests.{bytesOf}

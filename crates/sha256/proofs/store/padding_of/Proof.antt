@@ -1,3 +1,4 @@
+-- SPDX-License-Identifier: MPL-2.0
 -- The byte 0x80, zeros that were there, and eight bytes stored after them.
 use mathlib.Core.Path.{refl}
 use native.Mathlib.Omega.{arith}

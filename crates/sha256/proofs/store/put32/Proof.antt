@@ -1,3 +1,4 @@
+-- SPDX-License-Identifier: MPL-2.0
 -- The part that was lent comes back with the word's bytes over its first ones.
 use mathlib.Core.Path.{_∙_, ap}
 use native.Mathlib.Omega.{arith}

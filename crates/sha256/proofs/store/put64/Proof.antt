@@ -1,3 +1,4 @@
+-- SPDX-License-Identifier: MPL-2.0
 -- Two runs of four, one after the other, are a run of eight.
 use Prim.Native.Nat.{_/_, _%_}
 use native.Mathlib.Omega.{arith}

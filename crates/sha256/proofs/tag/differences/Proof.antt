@@ -1,3 +1,4 @@
+-- SPDX-License-Identifier: MPL-2.0
 -- The invariant: no bit is set exactly where the bytes passed are the same.
 use mathlib.Core.Path.{_≡_, _∙_, ap₂}
 use Prim.Native.Nat.{_≤_, _-_}

@@ -1,3 +1,4 @@
+-- SPDX-License-Identifier: MPL-2.0
 -- The loop looks at eleven round keys.
 use Prim.Native.Nat.{_≤_, _-_}
 use borrow.Author.Needs.{needs}

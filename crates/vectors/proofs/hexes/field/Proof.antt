@@ -1,3 +1,4 @@
+-- SPDX-License-Identifier: MPL-2.0
 -- A pair of digits was found two bytes before the end at the latest; what was stored stays within the room.
 use native.Mathlib.Omega.{arith}
 use borrow.Author.Needs.{needs}

@@ -1,3 +1,4 @@
+-- SPDX-License-Identifier: MPL-2.0
 -- By the entry at the start: each case is a law of `chain`. The bytes that are left fall.
 use mathlib.Core.Path.{sym, _∙_, ap}
 use lib.ListN.{length}

@@ -1,3 +1,4 @@
+-- SPDX-License-Identifier: MPL-2.0
 -- The walk, from the most entries on.
 use Rattle.wire.specs.Chain.{readChain, mostEntries}
 use borrow.Author.Needs.{needs}

@@ -1,3 +1,4 @@
+-- SPDX-License-Identifier: MPL-2.0
 -- Test by test, as the definition.
 use Rattle.laws.proofs.Tests.{tests}
 use native.Mathlib.Omega.{arith}

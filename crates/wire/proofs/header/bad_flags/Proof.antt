@@ -1,3 +1,4 @@
+-- SPDX-License-Identifier: MPL-2.0
 -- The code is the definition, with what `is_sealed` answers.
 use Rattle.wire.specs.Fields.{badFlags}
 use Rattle.wire.proofs.header.bad_flags.Statement.{statement}

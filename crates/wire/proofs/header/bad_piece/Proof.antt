@@ -1,3 +1,4 @@
+-- SPDX-License-Identifier: MPL-2.0
 -- The code is the definition.
 use mathlib.Core.Path.{refl}
 use Rattle.wire.specs.Fields.{badPiece, mostPieces}

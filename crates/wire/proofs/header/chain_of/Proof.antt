@@ -1,3 +1,4 @@
+-- SPDX-License-Identifier: MPL-2.0
 -- The room is the part of the message from the fixed header to the tag.
 use mathlib.Core.Path.{sym}
 use Rattle.wire.proofs.Chains.{no-room}

@@ -1,3 +1,4 @@
+-- SPDX-License-Identifier: MPL-2.0
 -- Each field is what its load answers.
 use Rattle.wire.proofs.header.fields.Statement.{statement}
 use Rattle.wire.proofs.header.fields.Tie as tie

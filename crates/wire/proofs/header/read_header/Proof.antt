@@ -1,3 +1,4 @@
+-- SPDX-License-Identifier: MPL-2.0
 -- Each call answers its part of the definition. A message that is not refused has room for its tag and for what its chain leaves.
 use native.Mathlib.Omega.{arith}
 use Prim.Native.Nat.{_+_, _≤_}

@@ -1,3 +1,4 @@
+-- SPDX-License-Identifier: MPL-2.0
 -- What the loads and the chain answer goes into the table.
 use Rattle.wire.specs.Reader.{refusalWith, rowsOf}
 use Rattle.wire.proofs.header.refusal.Statement.{statement}

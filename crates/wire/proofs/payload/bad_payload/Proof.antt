@@ -1,3 +1,4 @@
+-- SPDX-License-Identifier: MPL-2.0
 -- By the test, with what `is_shaped` answers.
 use Rattle.wire.specs.Payload.{badPayload}
 use borrow.Author.Needs.{needs}

@@ -1,3 +1,4 @@
+-- SPDX-License-Identifier: MPL-2.0
 -- Within the payload the default does not matter; past its end `getD` gives it.
 use mathlib.Core.Path.{sym}
 use lib.ListN.{List·getD-eq-default}

@@ -1,3 +1,4 @@
+-- SPDX-License-Identifier: MPL-2.0
 -- By the test.
 use Rattle.laws.proofs.Tests.{tests}
 use Rattle.wire.specs.Payload.{certificateOf}

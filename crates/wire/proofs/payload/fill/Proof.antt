@@ -1,3 +1,4 @@
+-- SPDX-License-Identifier: MPL-2.0
 -- The first `i` bytes are those of `s`, the others as they were.
 use borrow.Author.Needs.{needs}
 use Prim.Native.Nat.{_≤_, _<_, _-_}

@@ -1,3 +1,4 @@
+-- SPDX-License-Identifier: MPL-2.0
 -- The code joins the rows of the list, without the list's end.
 use Rattle.laws.proofs.Bools.{or-assoc, or-none}
 use Rattle.wire.specs.Payload.{isShaped}

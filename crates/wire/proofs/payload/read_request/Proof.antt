@@ -1,3 +1,4 @@
+-- SPDX-License-Identifier: MPL-2.0
 -- Each array holds what `fill` put there.
 use Rattle.wire.specs.Payload.{readRequest}
 use borrow.Author.Needs.{needs}

@@ -1,3 +1,4 @@
+-- SPDX-License-Identifier: MPL-2.0
 -- The code is the definition, with what the calls answer.
 use Rattle.wire.specs.Payload.{starts}
 use borrow.Author.Needs.{needs}

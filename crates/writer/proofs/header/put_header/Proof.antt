@@ -1,3 +1,4 @@
+-- SPDX-License-Identifier: MPL-2.0
 -- Eleven stores, each where the one before it ends: one run. The names are those of the fields.
 use mathlib.Core.Path.{refl}
 use mathlib.Core.List.{[], _∷_}

@@ -1,3 +1,4 @@
+-- SPDX-License-Identifier: MPL-2.0
 -- Three stores, each where the one before it ends.
 use mathlib.Core.Path.{refl}
 use mathlib.Core.List.{[], _∷_}

@@ -1,3 +1,4 @@
+-- SPDX-License-Identifier: MPL-2.0
 -- Two stores, the second where the first ends.
 use native.Mathlib.Omega.{arith}
 use Prim.Native.Nat.{_+_}

@@ -1,3 +1,4 @@
+-- SPDX-License-Identifier: MPL-2.0
 -- Five runs, each where the one before it ends.
 use mathlib.Core.Path.{refl, ap, _∙_}
 use native.Mathlib.Omega.{arith}

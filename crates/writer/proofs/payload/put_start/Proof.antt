@@ -1,3 +1,4 @@
+-- SPDX-License-Identifier: MPL-2.0
 -- Two stores, the second where the first ends.
 use mathlib.Core.Path.{refl}
 use mathlib.Core.List.{[], _∷_}

@@ -1,3 +1,4 @@
+-- SPDX-License-Identifier: MPL-2.0
 -- By the Result: one that is Pending is an exchange, another is 4 bytes.
 use borrow.Author.Tests.{ne-eqb}
 use Rattle.laws.proofs.Bools.{or-none}

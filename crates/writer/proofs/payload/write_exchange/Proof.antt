@@ -1,3 +1,4 @@
+-- SPDX-License-Identifier: MPL-2.0
 -- Refused, or one run of stores from the start of the output.
 use mathlib.Core.Path.{refl}
 use Rattle.writer.proofs.Writing.{refused, wrote}
