@@ -6,9 +6,10 @@ use mathlib.Core.List.{List}
 use mathlib.Core.Bool.{Bool, true, false, cond}
 use native.Mathlib.Omega.{arith}
 use native.Mathlib.Numerals.{sub-one}
-use lib.ListN.{length, drop, length-append, length-drop}
+use lib.ListN.{length, take, drop, length-append, length-drop}
 use lib.Dec.{ltb}
 use lib.Seq.{sets, length-sets}
+use Rattle.laws.proofs.Lists.{part-from}
 use Rattle.laws.proofs.Stores.{stored-twice}
 use Rattle.lines.specs.declared.listing.Listed.{Listed}
 use Rattle.lines.specs.declared.stream.Next.{Next}
@@ -18,16 +19,6 @@ use Rattle.lines.specs.Listing.{Turn, stops, turnBy, turnAt, Run, begun,
 use Rattle.lines.proofs.Streams.{ahead-fits}
 
 module _ (rest : List ℕ) (ended : Bool) (room written : ℕ) where
-  -- There is no room for a line.
-  pub turnAt-full : ltb room (written + 64) ≡ true → turnAt rest ended room written ≡ stops false
-  unfolding turnAt
-  turnAt-full e = rw e
-
-  -- There is room.
-  pub turnAt-by : (found : Next) → ltb room (written + 64) ≡ false → found ≡ ahead rest ended → turnAt rest ended room written ≡ turnBy rest found
-  unfolding turnAt
-  turnAt-by found e f = rw (e, f)
-
   by-fits : (found : Next) → ahead rest ended ≡ found → turnBy rest found .size ≤ length rest
   by-fits (Message size) e = ahead-fits rest ended size e
   by-fits More e = omega arith
@@ -68,10 +59,35 @@ module _ (stream : List ℕ) (ended : Bool) (room : ℕ) where
   many-none zero b e = refl
   many-none (suc n) b e = absurd (omega arith)
 
--- A message that is found in the rest of a stream lies in the stream.
-pub found-within : (stream : List ℕ) (from size : ℕ) (ended : Bool) → from ≤ length stream → ahead (drop from stream) ended ≡ Message size
-    → from + size ≤ length stream
-found-within stream from size ended h e = omega (arith, ahead-fits (drop from stream) ended size e, length-drop from stream)
+-- What is found in the rest of a stream, as the code lends it.
+module _ (stream : List ℕ) (from : ℕ) (ended : Bool) {seen found : Next} where
+  found-ahead : seen ≡ ahead (take (length stream - from) (drop from stream)) ended → seen ≡ found → ahead (drop from stream) ended ≡ found
+  found-ahead p q = rw part-from at (sym p ∙ q)
+
+-- A message that is found lies in the stream.
+pub found-within : (stream : List ℕ) (from : ℕ) (ended : Bool) {seen : Next} {size : ℕ}
+    → seen ≡ ahead (take (length stream - from) (drop from stream)) ended → seen ≡ Message size → from ≤ length stream → from + size ≤ length stream
+found-within stream from ended {size = size} p q h =
+    omega (arith, ahead-fits (drop from stream) ended size (found-ahead stream from ended p q), length-drop from stream)
+
+-- The code's run and output after a turn.
+abbrev Taken : Listed → List ℕ → Bool → List ℕ → Listed → List ℕ → Type 0
+Taken run rest ended out run′ out′ = (run′ ≡ turned run (turnAt rest ended (length out) (run .written)))
+    × (out′ ≡ sets out (run .written) (turnAt rest ended (length out) (run .written) .line))
+
+module _ (run : Listed) (stream : List ℕ) (ended : Bool) (out : List ℕ) {lacks : Bool} (told : lacks ≡ ltb (length out) (run .written + 64)) where
+  -- There is no room for a line.
+  pub taken-full : lacks ≡ true → {run′ : Listed} → run′ ≡ turned run (stops false) → Taken run (drop (run .read) stream) ended out run′ out
+  unfolding turnAt
+  taken-full e p = (rw (← told, e) p, rw (← told, e))
+
+  -- There is room.
+  pub taken-by : lacks ≡ false → {seen found : Next} → seen ≡ ahead (take (length stream - run .read) (drop (run .read) stream)) ended
+      → seen ≡ found → {run′ : Listed} {out′ : List ℕ} → run′ ≡ turned run (turnBy (drop (run .read) stream) found)
+      → out′ ≡ sets out (run .written) (turnBy (drop (run .read) stream) found .line)
+      → Taken run (drop (run .read) stream) ended out run′ out′
+  unfolding turnAt
+  taken-by e p q r s = let f = found-ahead stream (run .read) ended p q in (rw (← told, e, f) r, rw (← told, e, f) s)
 
 -- What holds between two turns: the code's run and output are those of a run whose turns to come lead to the listing.
 pub record Reached (stream : List ℕ) (ended : Bool) (out₀ : List ℕ) (run : Listed) (out : List ℕ) (turns : ℕ) : Type 0 where

@@ -1,24 +1,16 @@
 -- SPDX-License-Identifier: MPL-2.0
 -- The line is put behind what is written.
-use mathlib.Core.Path.{sym, _∙_}
-use Rattle.lines.specs.Listing.{lineOf}
-use Rattle.lines.proofs.Puts.{room}
+use Rattle.lines.proofs.Puts.{told}
 use borrow.Author.Needs.{needs}
 use Rattle.lines.proofs.listing.tell.Statement.{statement}
 use Rattle.lines.proofs.listing.tell.Tie as tie
 
 returns : tie.Need-returns
 returns c =
-    let a = c .before .before .before .before .before .before .before .before .before .args in
-    let answer = c .before .before .before .before .before .before .read-header in
-    let p = c .before .before .before .before .put-line .ensures in
-    let r = room 64 (a .run .written) (lineOf (answer .result) (a .size)) (a .out .now)
-    (c .before .before .before .before .before .before .before .before .before .pre .1) in
-    let w = p .0 ∙ sym (r .0) in
-    (rw (w, c .before .is-refused .ensures, answer .ensures), rw (answer .ensures) at (p .1 ∙ sym (r .1)))
+    let line = c .before .before .before .before in
+    let answer = line .before .before in
+    let w = told 64 _ _ _ (answer .before .before .before .pre .1) (line .put-line .ensures) in
+    (rw (w .0, c .before .is-refused .ensures, answer .read-header .ensures), rw (answer .read-header .ensures) at (w .1))
 
 pub tell-spec : {M : Type 1} → statement M
-tell-spec =
-    tie.close (tie.spec
-    (λ c κs. search needs) (λ c κs. search needs) (λ c κs. search needs) (λ c. search needs) (λ c. search needs)
-    returns)
+tell-spec = tie.close (tie.spec _ _ _ (λ c. search needs) (λ c. search needs) returns)

@@ -1,10 +1,8 @@
 -- SPDX-License-Identifier: MPL-2.0
 -- The name, then the number where the name ends.
 use mathlib.Core.Path.{refl}
-use native.Mathlib.Omega.{arith}
-use lib.ListN.{length-append}
-use Rattle.laws.proofs.Stores.{stored-twice}
 use Rattle.lines.specs.Text.{field, named}
+use Rattle.lines.proofs.Puts.{putting, more}
 use borrow.Author.Needs.{needs}
 use Rattle.lines.proofs.text.put_name.Statement.{statement}
 use Rattle.lines.proofs.text.put_name.Tie as tie
@@ -12,13 +10,11 @@ use Rattle.lines.proofs.text.put_name.Tie as tie
 returns : tie.Need-returns
 unfolding named
 returns c =
-    let a = c .before .before .before .before .before .before .before .before .before .before .args in
-    let f = c .before .before .put-field .ensures in (
-      omega (arith, f .1 .0, length-append (a .name .now) (field (a .number) 10)),
-      stored-twice (a .name .now) (field (a .number) 10) (a .out .now) (a .at) _
-          (c .before .before .before .before .before .before .store-bytes .ensures) (f .1 .1) refl,
-    )
+    let number = c .before .before in
+    let name = number .before .before .before .before in
+    let a = name .before .before .before .before .args in
+    let first = more (a .name .now) (putting (a .at) (a .out .now)) (refl, name .store-bytes .ensures) in
+    more (field (a .number) 10) first (number .put-field .ensures .1) .both
 
 pub put-name-spec : {M : Type 1} → statement M
-put-name-spec =
-    tie.close (tie.spec (λ c κs. search needs) (λ c. search needs) (λ c κs. search needs) (λ c. search needs) returns)
+put-name-spec = tie.close (tie.spec _ (λ c. search needs) (λ c κs. search needs) (λ c. search needs) returns)

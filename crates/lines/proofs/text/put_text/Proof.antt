@@ -1,35 +1,23 @@
 -- SPDX-License-Identifier: MPL-2.0
 -- There is room or not.
-use Prim.Native.Nat.{_+_, _≤_}
-use mathlib.Core.Path.{sym, _∙_}
+use mathlib.Core.Path.{refl}
 use native.Mathlib.Omega.{arith}
-use borrow.Author.Tests.{ltb-true, ltb-false}
-use lib.ListN.{length}
-use Rattle.lines.proofs.Puts.{no-room, room}
+use Rattle.lines.proofs.Puts.{lacking, fitting, no-room, roomy}
 use borrow.Author.Needs.{needs}
 use Rattle.lines.proofs.text.put_text.Statement.{statement}
 use Rattle.lines.proofs.text.put_text.Tie as tie
 
 returns : tie.Need-returns
-returns c =
-    let a = c .before .before .before .before .args in
-    no-room (length (a .text .now)) (a .at) (a .text .now) (a .out .now) (ltb-true _ _ (sym (c .before .lacks .ensures) ∙ c .if1 .taken))
+returns c = no-room _ _ _ _ (lacking (c .if1 .taken) _ _ (c .before .lacks .ensures))
 
 add-result : tie.Need-add-result
-add-result c =
-    let a = c .before .before .before .before .before .before .before .before .args in
-    let h : a .at + length (a .text .now) ≤ length (a .out .now) = ltb-false _ _
-    (sym (c .before .before .before .before .before .lacks .ensures) ∙ c .before .before .before .before .if1 .left) in
-    omega arith
+add-result c = omega (arith, fitting (c .before .before .before .before .if1 .left))
 
 returns-2 : tie.Need-returns-2
 returns-2 c =
-    let a = c .before .before .before .before .before .before .before .before .args in
-    let h : a .at + length (a .text .now) ≤ length (a .out .now) = ltb-false _ _
-    (sym (c .before .before .before .before .before .lacks .ensures) ∙ c .before .before .before .before .if1 .left) in
-    let r = room (length (a .text .now)) (a .at) (a .text .now) (a .out .now) h in
-    (r .0, c .before .before .store-bytes .ensures ∙ r .1)
+    let put = c .before .before in
+    let judged = put .before .before in
+    roomy _ _ _ _ (fitting (judged .if1 .left) _ _ (judged .before .lacks .ensures)) (refl, put .store-bytes .ensures)
 
 pub put-text-spec : {M : Type 1} → statement M
-put-text-spec =
-    tie.close (tie.spec (λ c κs. search needs) returns (λ c κs. search needs) add-result (λ c. search needs) returns-2)
+put-text-spec = tie.close (tie.spec _ returns _ add-result (λ c. search needs) returns-2)
