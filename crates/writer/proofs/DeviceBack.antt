@@ -4,7 +4,6 @@ use Prim.Native.Nat.{ℕ, _+_, _≤_}
 use mathlib.Core.Path.{_≡_, refl, ap, _∙_}
 use mathlib.Core.List.{List, [], _∷_, _++_, append-assoc}
 use mathlib.Core.Bool.{Bool, true, false, not, _&&_, true≢false}
-use mathlib.Core.Logic.{inl, inr}
 use native.Mathlib.Omega.{arith}
 use native.Mathlib.Nat.{div-add-mod'}
 use borrow.Author.Tests.{le-leb, le-ltb, eq-eqb, eqb-true}
@@ -12,11 +11,12 @@ use lib.ListN.{length, take, drop}
 use lib.Seq.{take-at}
 use lib.Dec.{eqb}
 use Rattle.laws.specs.Bytes.{be16, bytes16}
+use Rattle.laws.proofs.Bools.{or-true}
 use Rattle.laws.proofs.Numbers.{be16-at}
-use Rattle.wire.specs.Payload.{starts, isDeviceAuthentication, badPayload, certificateOf}
+use Rattle.wire.specs.Payload.{starts, isDeviceAuthentication, isShaped, badPayload, certificateOf}
 use Rattle.writer.specs.Payload.{badDevice, deviceAuthentication}
 use Rattle.writer.proofs.Payloads.{device, length-device}
-use Rattle.writer.proofs.PayloadBack.{shaped-device, starts-back}
+use Rattle.writer.proofs.PayloadBack.{starts-back}
 
 module _ (connect mode : ℕ) (c t : List ℕ) where
   abbrev front-device : List ℕ
@@ -67,9 +67,10 @@ module _ (connect mode : ℕ) (c t : List ℕ) where
         )
 
     pub device-good : badPayload 2 true bytes-device ≡ false
+    unfolding badPayload isShaped
     device-good = by (eqb connect 2) (eqb connect 3) refl refl (device connect mode c t good .kinds)
       where
         by : (a b : Bool) → eqb connect 2 ≡ a → eqb connect 3 ≡ b → (not a && not b) ≡ false → badPayload 2 true bytes-device ≡ false
-        by true b p q e = shaped-device bytes-device connect shaped (inl (eqb-true connect 2 p))
-        by false true p q e = shaped-device bytes-device connect shaped (inr (eqb-true connect 3 q))
+        by true b p q e = rw (← eqb-true connect 2 p, shaped)
+        by false true p q e = rw (← eqb-true connect 3 q, shaped, or-true)
         by false false p q e = absurd (true≢false e)

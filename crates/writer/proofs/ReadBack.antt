@@ -102,7 +102,4 @@ module _ (h : Header) (chain body tag : List ℕ) where
     read-back =
         let t : length tag ≡ tagSize (be16 message 6) = a .tagged ∙ ap (λ (g : Header). tagSize (g .flags)) (sym fields) in
         let start : length message - tagSize (be16 message 6) - length body ≡ 40 + length chain = omega (arith, length-message) in
-        read-good message accepted
-        ∙ ap (λ (g : Header). Read g (length message - tagSize (be16 message 6) - leaves (chainOf message)) (leaves (chainOf message))) fields
-        ∙ ap (λ (k : Chain). Read h (length message - tagSize (be16 message 6) - leaves k) (leaves k)) chained
-        ∙ ap (λ (s : ℕ). Read h s (length body)) start
+        read-good message accepted ∙ rw (chained, start) (ap (λ (g : Header). Read g (40 + length chain) (length body)) fields)

@@ -6,7 +6,6 @@ use native.Mathlib.Omega.{arith}
 use Rattle.laws.specs.Bytes.{bytes16, bytes32, bytes64}
 use Rattle.laws.proofs.Stores.{run, then}
 use Rattle.writer.specs.Header.{headerBytes}
-use borrow.Author.Needs.{needs}
 use Rattle.writer.proofs.header.put_header.Statement.{statement}
 use Rattle.writer.proofs.header.put_header.Tie as tie
 
@@ -35,20 +34,12 @@ returns c =
     let r7 = then (bytes16 (s .h .index)) 20 r6 (index .store164 .ensures) refl in
     let r8 = then (bytes16 (s .h .count)) 22 r7 (count .store165 .ensures) refl in
     let r9 = then (bytes64 (s .h .session)) 24 r8 (session .store642 .ensures) refl in
-    let r10 = then (bytes64 (s .h .channel)) 32 r9 (channel .store643 .ensures) refl in
-    r10 .is
+    then (bytes64 (s .h .channel)) 32 r9 (channel .store643 .ensures) refl .is
 
 same-length : tie.Need-same-length
-same-length c = omega (
-  arith,
-  c .before .before .before .before .before .before .before .before .before .before .before .before .before .before .before .before,
-  c .before .before .before .before .before .before .before .before .before .before .before .before .before .before .before .before
-      .before .before .before .before .before .before .before .before .before .before .before .before .before .before .before .before,
-)
+same-length c =
+    let half = c .before .before .before .before .before .before .before .before .before .before .before .before .before .before .before .before in
+    omega (arith, half, half .before .before .before .before .before .before .before .before .before .before .before .before .before .before .before .before)
 
 pub put-header-spec : {M : Type 1} → statement M
-put-header-spec =
-    tie.close (tie.spec
-    (λ c κs. search needs) (λ c κs. search needs) (λ c κs. search needs) (λ c κs. search needs) (λ c κs. search needs)
-    (λ c κs. search needs) (λ c κs. search needs) (λ c κs. search needs) (λ c κs. search needs) (λ c κs. search needs)
-    (λ c κs. search needs) same-length returns)
+put-header-spec = tie.close (tie.spec _ _ _ _ _ _ _ _ _ _ _ same-length returns)

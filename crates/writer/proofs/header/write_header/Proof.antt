@@ -7,9 +7,6 @@ use borrow.Author.Needs.{needs}
 use Rattle.writer.proofs.header.write_header.Statement.{statement}
 use Rattle.writer.proofs.header.write_header.Tie as tie
 
-returns : tie.Need-returns
-returns c = refused _ _ _ _ _ (c .before .put-refusal .ensures) (c .if1 .taken)
-
 returns-2 : tie.Need-returns-2
 unfolding headerBytes
 returns-2 c =
@@ -19,4 +16,4 @@ returns-2 c =
 
 pub write-header-spec : {M : Type 1} → statement M
 write-header-spec =
-    tie.close (tie.spec (λ c κs. search needs) returns (λ c κs. search needs) (λ c. search needs) returns-2)
+    tie.close (tie.spec _ (λ c. refused _ _ _ _ _ (c .before .put-refusal .ensures) (c .if1 .taken)) _ (λ c. search needs) returns-2)

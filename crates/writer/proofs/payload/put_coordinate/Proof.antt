@@ -20,4 +20,4 @@ returns c =
 pub put-coordinate-spec : {M : Type 1} → statement M
 put-coordinate-spec =
     tie.close (tie.spec
-    (λ c κs. search needs) (λ c. search needs) (λ c. search needs) (λ c κs. search needs) (λ c. search needs) returns)
+    _ (λ c. search needs) (λ c. search needs) _ (λ c. search needs) returns)

@@ -35,5 +35,5 @@ returns c =
 pub put-exchange-spec : {M : Type 1} → statement M
 put-exchange-spec =
     tie.close (tie.spec
-    (λ c κs. search needs) (λ c κs. search needs) (λ c κs. search needs) (λ c κs. search needs) (λ c κs. search needs)
+    _ _ _ _ _
     (λ c. search needs) returns)

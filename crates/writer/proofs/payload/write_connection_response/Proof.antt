@@ -18,4 +18,4 @@ returns-2 c = rw (ne-eqb _ _ (c .before .before .before .before .if1 .left)) (c 
 pub write-connection-response-spec : {M : Type 1} → statement M
 write-connection-response-spec =
     tie.close (tie.spec
-    (λ c κs. search needs) (λ c. search needs) returns (λ c κs. search needs) (λ c. search needs) returns-2)
+    _ (λ c. search needs) returns _ (λ c. search needs) returns-2)

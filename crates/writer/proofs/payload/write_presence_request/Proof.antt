@@ -6,9 +6,6 @@ use borrow.Author.Needs.{needs}
 use Rattle.writer.proofs.payload.write_presence_request.Statement.{statement}
 use Rattle.writer.proofs.payload.write_presence_request.Tie as tie
 
-returns : tie.Need-returns
-returns c = refused _ _ _ _ _ (c .before .put-refusal .ensures) (c .if1 .taken)
-
 returns-2 : tie.Need-returns-2
 returns-2 c =
     let put = c .before .before in
@@ -17,4 +14,4 @@ returns-2 c =
 
 pub write-presence-request-spec : {M : Type 1} → statement M
 write-presence-request-spec =
-    tie.close (tie.spec (λ c κs. search needs) returns (λ c κs. search needs) (λ c. search needs) returns-2)
+    tie.close (tie.spec _ (λ c. refused _ _ _ _ _ (c .before .put-refusal .ensures) (c .if1 .taken)) _ (λ c. search needs) returns-2)
