@@ -15,10 +15,9 @@ use Rattle.laws.specs.Bytes.{be16}
 use Rattle.laws.specs.Rows.{first}
 use Rattle.laws.proofs.Firsts.{quiet-first}
 use Rattle.wire.specs.Fields.{badType, badFlags, badPiece, isSealed, tagSize}
-use Rattle.wire.specs.Chain.{readChain, leaves, isBroken, badChain}
+use Rattle.wire.specs.Chain.{readChain, badChain}
 use Rattle.wire.specs.Reader.{headerOf, roomOf, chainOf, headerRows, rowsOf, refusalWith, refusalOf, readHeader}
 use Rattle.writer.specs.Header.{headerBytes}
-use Rattle.wire.specs.declared.chain.Chain.{Chain}
 use Rattle.wire.specs.declared.chain.Chain.the-variants.{Leaves}
 use Rattle.wire.specs.declared.header.Header.{Header}
 use Rattle.wire.specs.declared.header.HeaderRead.the-variants.{Read}
@@ -72,11 +71,13 @@ module _ (h : Header) (chain body tag : List ℕ) where
   fields = fields-back h size (chain ++ (body ++ tag))
 
   module _ (a : Accepted h chain body tag) where
+    tags : length tag ≡ tagSize (be16 message 6)
+    tags = a .tagged ∙ ap (λ (g : Header). tagSize (g .flags)) (sym fields)
+
     room : roomOf (tagSize (be16 message 6)) message ≡ chain ++ body
     unfolding roomOf headerBytes
     room =
-        let t : length tag ≡ tagSize (be16 message 6) = a .tagged ∙ ap (λ (g : Header). tagSize (g .flags)) (sym fields) in
-        let n : length (chain ++ body) ≡ length message - tagSize (be16 message 6) - 40 = omega (arith, length-message, length-append chain body) in
+        let n : length (chain ++ body) ≡ length message - tagSize (be16 message 6) - 40 = omega (arith, tags, length-message, length-append chain body) in
         ap (take (length message - tagSize (be16 message 6) - 40)) (sym (append-assoc chain body tag))
         ∙ take-at (chain ++ body) tag (length message - tagSize (be16 message 6) - 40) n
 
@@ -92,14 +93,11 @@ module _ (h : Header) (chain body tag : List ℕ) where
     accepted =
         let n = length message in
         let said : be16 message 2 ≡ n = div-add-mod' size 256 ∙ sym length-message in
-        ap (λ (s : ℕ). first (headerRows n 0x3030 s 3 (headerOf message) (isBroken (chainOf message)) (leaves (chainOf message)))) said
-        ∙ ap (λ (g : Header). first (headerRows n 0x3030 n 3 g (isBroken (chainOf message)) (leaves (chainOf message)))) fields
-        ∙ ap (λ (k : Chain). first (headerRows n 0x3030 n 3 h (isBroken k) (leaves k))) chained
+        rw (said, chained) (ap (λ (g : Header). first (headerRows n 0x3030 n 3 g false (length body))) fields)
         ∙ none n (length body) h long (a .kind) (a .flags) (a .piece) (a .blocks)
 
     -- What is written reads back.
     pub read-back : readHeader message ≡ Read h (40 + length chain) (length body)
     read-back =
-        let t : length tag ≡ tagSize (be16 message 6) = a .tagged ∙ ap (λ (g : Header). tagSize (g .flags)) (sym fields) in
-        let start : length message - tagSize (be16 message 6) - length body ≡ 40 + length chain = omega (arith, length-message) in
+        let start : length message - tagSize (be16 message 6) - length body ≡ 40 + length chain = omega (arith, tags, length-message) in
         read-good message accepted ∙ rw (chained, start) (ap (λ (g : Header). Read g (40 + length chain) (length body)) fields)

@@ -30,9 +30,7 @@ returns-3 : tie.Need-returns-3
 returns-3 c =
     let put = c .before .before in
     let judged = put .before .before in
-    let s = judged .before .before .before .before .before .args in
-    let long = length-device (s .connect) (s .mode) (s .certificate .now) (s .thumbprint .now) in
-    wrote _ _ _ _ _ (told-none _ _ (judged .before .if1 .left) (judged .if2 .left)) refl long (put .put-device .ensures)
+    wrote _ _ _ _ _ (told-none _ _ (judged .before .if1 .left) (judged .if2 .left)) refl (length-device _ _ _ _) (put .put-device .ensures)
 
 pub write-device-authentication-spec : {M : Type 1} → statement M
 write-device-authentication-spec =
