@@ -1,23 +1,12 @@
 -- SPDX-License-Identifier: MPL-2.0
 -- Two stores, the second where the first ends.
-use Prim.Native.Nat.{_+_, _/_, _%_}
-use native.Mathlib.Omega.{arith}
-use Rattle.laws.specs.Bytes.{bytes16}
-use Rattle.laws.proofs.Stores.{stored-twice}
 use borrow.Author.Needs.{needs}
+use Rattle.octets.proofs.Places.{past-two}
 use Rattle.octets.proofs.stores.store32.Statement.{statement}
 use Rattle.octets.proofs.stores.store32.Tie as tie
-
-returns : tie.Need-returns
-returns c =
-    let second = c .before .before in
-    let first = second .before .before .before .before in
-    let s = first .before .before .before .args in
-    stored-twice (bytes16 (s .x / 65536)) (bytes16 (s .x % 65536)) (s .out .now) (s .at) (s .at + 2)
-    (first .store16 .ensures) (second .store162 .ensures) (omega arith)
 
 pub store32-spec : {M : Type 1} → statement M
 store32-spec =
     tie.close (tie.spec
-    (λ c. search needs) (λ c κs. search needs) (λ c. search needs) (λ c. search needs) (λ c κs. search needs)
-    (λ c. search needs) returns)
+    (λ c. search needs) _ (λ c. search needs) (λ c. search needs) _ (λ c. search needs)
+    (λ c. rw (c .before .before .store162 .ensures, c .before .before .before .before .before .before .store16 .ensures, past-two)))
