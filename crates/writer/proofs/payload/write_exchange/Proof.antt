@@ -9,8 +9,10 @@ use Rattle.writer.proofs.payload.write_exchange.Tie as tie
 returns-2 : tie.Need-returns-2
 returns-2 c =
     let put = c .before .before in
-    let judged = put .before .before .before .before .before .before in
-    wrote _ _ _ _ _ (judged .before .put-refusal .ensures) (judged .if1 .left) (omega (arith, put .put-exchange .ensures .1)) (cc)
+    let start = put .before .before .before .before in
+    let judged = start .before .before in
+    let e = put .put-exchange .ensures in
+    wrote _ _ _ _ _ (judged .before .put-refusal .ensures) (judged .if1 .left) (omega (arith, e .1)) (rw (e .0, start .put-coded .ensures))
 
 pub write-exchange-spec : {M : Type 1} → statement M
 write-exchange-spec =
