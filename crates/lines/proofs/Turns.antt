@@ -128,15 +128,16 @@ module _ (stream : List ℕ) (ended : Bool) (out₀ : List ℕ) where
           within = turn-fits stream ended (length out₀) b (r .within);
         }
 
-    last : manyTurns turns stream ended (length out₀) (r .so) ≡ r .so
-        → (run ≡ listed (list stream ended (length out₀))) × (out ≡ sets out₀ 0 (list stream ended (length out₀) .text))
+    abbrev Whole : Type 0
+    Whole = (run ≡ listed (list stream ended (length out₀))) × (out ≡ sets out₀ 0 (list stream ended (length out₀) .text))
+
+    last : manyTurns turns stream ended (length out₀) (r .so) ≡ r .so → Whole
     last e = rw (← r .leads, e) (r .is, r .holds)
 
     -- The run goes on no more.
-    pub reached-stop : run .going ≡ false → (run ≡ listed (list stream ended (length out₀)))
-        × (out ≡ sets out₀ 0 (list stream ended (length out₀) .text))
+    pub reached-stop : run .going ≡ false → Whole
     reached-stop g = last (many-stop stream ended (length out₀) turns (r .so) (sym (ap (λ (l : Listed). l .going) (r .is)) ∙ g))
 
     -- There are no more turns.
-    pub reached-last : turns ≡ 0 → (run ≡ listed (list stream ended (length out₀))) × (out ≡ sets out₀ 0 (list stream ended (length out₀) .text))
+    pub reached-last : turns ≡ 0 → Whole
     reached-last z = last (many-none stream ended (length out₀) turns (r .so) z)

@@ -77,7 +77,8 @@ module _ (h : Header) (chain body tag : List ℕ) where
     room : roomOf (tagSize (be16 message 6)) message ≡ chain ++ body
     unfolding roomOf headerBytes
     room =
-        let n : length (chain ++ body) ≡ length message - tagSize (be16 message 6) - 40 = omega (arith, tags, length-message, length-append chain body) in
+        let n : length (chain ++ body) ≡ length message - tagSize (be16 message 6) - 40 =
+        rw length-append (omega (arith, tags, length-message)) in
         ap (take (length message - tagSize (be16 message 6) - 40)) (sym (append-assoc chain body tag))
         ∙ take-at (chain ++ body) tag (length message - tagSize (be16 message 6) - 40) n
 

@@ -56,7 +56,6 @@ returns-4 c =
 pub turn-spec : {M : Type 1} → statement M
 turn-spec =
     tie.close (tie.spec
-    _ _ returns (λ c. search needs) (λ c. search needs) (λ c. search needs)
-    _ (λ c. search needs) (λ c. search needs) (λ c. search needs) (λ c. search needs)
-    (λ c. search needs) part-tell-end tell-requires (λ c. search needs) _ (λ c. search needs)
-    _ (λ c. search needs) returns-2 returns-3 returns-4)
+    _ _ returns (λ c. search needs) (λ c. search needs) (λ c. search needs) _ (λ c. search needs) (λ c. search needs) (λ c. search needs)
+    (λ c. search needs) (λ c. search needs) part-tell-end tell-requires (λ c. search needs) _ (λ c. search needs) _ (λ c. search needs) returns-2
+    returns-3 returns-4)

@@ -39,7 +39,7 @@ returns c =
 same-length : tie.Need-same-length
 same-length c =
     let half = c .before .before .before .before .before .before .before .before .before .before .before .before .before .before .before .before in
-    omega (arith, half, half .before .before .before .before .before .before .before .before .before .before .before .before .before .before .before .before)
+    omega (arith, half, half .before .before .before .before .before .before .before .before .before .before .before .before .before .before .before)
 
 pub put-header-spec : {M : Type 1} → statement M
 put-header-spec = tie.close (tie.spec _ _ _ _ _ _ _ _ _ _ _ same-length returns)

@@ -11,6 +11,4 @@ returns c =
     (rw (second .store-bytes .ensures, second .before .before .before .before .before .store16 .ensures, past-two), search needs)
 
 pub put-coordinate-spec : {M : Type 1} → statement M
-put-coordinate-spec =
-    tie.close (tie.spec
-    _ (λ c. search needs) (λ c. search needs) _ (λ c. search needs) returns)
+put-coordinate-spec = tie.close (tie.spec _ (λ c. search needs) (λ c. search needs) _ (λ c. search needs) returns)

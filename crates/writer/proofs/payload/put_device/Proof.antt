@@ -34,6 +34,5 @@ returns c =
 pub put-device-spec : {M : Type 1} → statement M
 put-device-spec =
     tie.close (tie.spec
-    _ (λ c. search needs) _ _ (λ c. search needs)
-    (λ c. search needs) (λ c. search needs) _ (λ c. search needs) _
-    (λ c. search needs) returns)
+    _ (λ c. search needs) _ _ (λ c. search needs) (λ c. search needs) (λ c. search needs) _ (λ c. search needs) _ (λ c. search needs)
+    returns)

@@ -33,7 +33,4 @@ returns c =
     (r4 .is ∙ ap (sets (s .out .now) 4) (exchange-stored (s .request)), simp length-append (omega arith))
 
 pub put-exchange-spec : {M : Type 1} → statement M
-put-exchange-spec =
-    tie.close (tie.spec
-    _ _ _ _ _
-    (λ c. search needs) returns)
+put-exchange-spec = tie.close (tie.spec _ _ _ _ _ (λ c. search needs) returns)

@@ -16,6 +16,4 @@ unfolding responseSize connectionResponse
 returns-2 c = rw (ne-eqb _ _ (c .before .before .before .before .if1 .left)) (c .before .before .write-coded .ensures)
 
 pub write-connection-response-spec : {M : Type 1} → statement M
-write-connection-response-spec =
-    tie.close (tie.spec
-    _ (λ c. search needs) returns _ (λ c. search needs) returns-2)
+write-connection-response-spec = tie.close (tie.spec _ (λ c. search needs) returns _ (λ c. search needs) returns-2)

@@ -35,5 +35,5 @@ returns-3 c =
 pub write-device-authentication-spec : {M : Type 1} → statement M
 write-device-authentication-spec =
     tie.close (tie.spec
-    (λ c. search needs) (λ c. search needs) returns (λ c. search needs) add-size-2 returns-2 put-device-requires
-    (λ c. search needs) returns-3)
+    (λ c. search needs) (λ c. search needs) returns (λ c. search needs) add-size-2 returns-2 put-device-requires (λ c. search needs)
+    returns-3)

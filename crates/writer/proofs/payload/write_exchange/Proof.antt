@@ -16,5 +16,4 @@ returns-2 c =
 
 pub write-exchange-spec : {M : Type 1} → statement M
 write-exchange-spec =
-    tie.close (tie.spec
-    _ (λ c. refused _ _ _ _ _ (c .before .put-refusal .ensures) (c .if1 .taken)) _ _ (λ c. search needs) returns-2)
+    tie.close (tie.spec _ (λ c. refused _ _ _ _ _ (c .before .put-refusal .ensures) (c .if1 .taken)) _ _ (λ c. search needs) returns-2)
