@@ -17,13 +17,6 @@ sets-sets (x ∷ a) b l i j e = sets-sets a b (set l i x) (suc i) j (omega arith
 pub stored-twice : (a b l : List ℕ) {m n : List ℕ} (i j : ℕ) → m ≡ sets l i a → n ≡ sets m j b → j ≡ i + length a → n ≡ sets l i (a ++ b)
 stored-twice a b l i j p q e = rw (q, p) (sets-sets a b l i j e)
 
--- One more element of s, where the first i are stored.
-pub stored-more : (s l : List ℕ) (at i b : ℕ) {m n : List ℕ} → i < length s → b ≡ getD s i 0 → m ≡ sets l at (take i s) → n ≡ sets m (at + i) (b ∷ [])
-    → n ≡ sets l at (take (i + 1) s)
-stored-more s l at i b h e p q =
-    let k : length (take i s) ≡ i = length-take-le i s (omega arith) in
-    rw (add-one, take-suc s i 0 h, ← e) (stored-twice (take i s) (b ∷ []) l at (at + i) p q (rw k))
-
 -- A run from the start that the list has room for.
 pub sets-start : (a l : List ℕ) → length a ≤ length l → sets l 0 a ≡ a ++ drop (length a) l
 sets-start a l h = sets-eq a l 0 (omega arith) ∙ ap (λ (k : ℕ). a ++ drop k l) (zero-add (length a))
@@ -39,7 +32,7 @@ sets-cut s l at zero h = sym (sets-past s l at (omega arith))
 sets-cut [] l at (suc n) h = refl
 sets-cut (x ∷ s) l at (suc n) h = sets-cut s (set l at x) (suc at) n (rw length-set (omega arith))
 
--- `m` is `l` with `bs` stored from place i on. A store behind them makes the run longer.
+-- `m` is `l` with `bs` stored from place i on. A store after them makes the run longer.
 pub record Run (i : ℕ) (l bs m : List ℕ) : Type 0 where
   pub is : m ≡ sets l i bs
 

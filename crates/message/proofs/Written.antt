@@ -53,7 +53,7 @@ allowed h chain payload keys room e =
       roomy = ltb-false room (lengthOf h chain payload) (at noRoom);
     }
 
--- What stands behind a front of the output,
+-- What stands after a front of the output,
 rest-kept : (front out : List ℕ) (k j : ℕ) {m : List ℕ} → length front ≡ k → m ≡ front ++ drop k out → drop (k + j) m ≡ drop (k + j) out
 rest-kept front out k j {m} l p = rw (← drop-drop j k m, p, drop-at front (drop k out) k l) (drop-drop j k out)
 
