@@ -1,13 +1,12 @@
 -- SPDX-License-Identifier: MPL-2.0
 -- Runs of stores: two, the second where the first ends, are one; what is stored past the end is dropped.
-use Prim.Native.Nat.{ℕ, zero, suc, _+_, _≤_, _<_}
+use Prim.Native.Nat.{ℕ, zero, suc, _+_, _≤_}
 use mathlib.Core.Path.{_≡_, refl, sym, ap, _∙_}
 use mathlib.Core.List.{List, [], _∷_, _++_}
 use native.Mathlib.Omega.{arith}
 use native.Mathlib.Nat.{add-zero, zero-add}
-use native.Mathlib.Numerals.{add-one}
-use lib.ListN.{length, getD, take, drop, set, length-set}
-use lib.Seq.{sets, sets-eq, set-out, take-suc, length-take-le}
+use lib.ListN.{length, take, drop, set, length-set}
+use lib.Seq.{sets, sets-eq, set-out}
 
 pub sets-sets : (a b l : List ℕ) (i j : ℕ) → j ≡ i + length a → sets (sets l i a) j b ≡ sets l i (a ++ b)
 sets-sets [] b l i j e = ap (λ (k : ℕ). sets l k b) (e ∙ add-zero i)
