@@ -22,7 +22,7 @@ lengthTold (Taken k) = 0
 lengthTold (Repeat k) = 0
 lengthTold (Complete length k) = length
 
--- What is remembered, what the report buffer holds, and the length that the last answer told.
+-- What is remembered, what the report buffer holds, and the length that the last answer reported.
 pub record Course : Type 0 where
   pub progress : Progress
   pub report : List ℕ

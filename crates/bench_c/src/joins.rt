@@ -84,7 +84,7 @@ fn not_one(size: u64, count: u64) -> bool
     (16384 < size) | (64 < count)
 }
 
-// Joins so many pieces of a source, each of `size` bytes, into a report buffer, on a connection that has heard nothing; answers the report's
+// Joins `count` pieces of a source, each of `size` bytes, into a report buffer, on a connection that has heard nothing; answers the report's
 // length where the last of them completes it, else 0. Nothing comes of more than 64 pieces, or of pieces over 16,384 bytes.
 #[no_mangle]
 pub extern "C" fn bench_join(size: u64, count: u64, source: &[u8], report: &mut [u8]) -> u64

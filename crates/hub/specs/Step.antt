@@ -17,7 +17,7 @@ use Rattle.hub.specs.declared.Stepped.{Stepped}
 use Rattle.hub.specs.Host.{refuse}
 use Rattle.hub.specs.Hear.{heard, reportHeard}
 
--- What the reader's answer comes to.
+-- What becomes of the reader's answer.
 abbrev pub afterRead : Connection → List ℕ → List ℕ → List ℕ → ℕ → MessageRead → Stepped
 afterRead c message working report verdict (Refused n) = refuse c n
 afterRead c message working report verdict (Read h sealed from size) = heard c h (payload message working sealed from size) report verdict

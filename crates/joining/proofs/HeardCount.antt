@@ -26,7 +26,7 @@ come-came S es (suc n) l e =
     let b : bit (has S n) ≡ bit (came n es) = ap bit (e n) in
     omega (arith, come-suc S n, come-came S es n (omega arith) e)
 
--- Nothing stands in a set behind its first n indexes: they are all that is counted.
+-- Nothing stands in a set after its first n indexes: they are all that is counted.
 pub tally-come : (n : ℕ) (S : List Bool) → ((j : ℕ) → n ≤ j → has S j ≡ false) → tally S ≡ come n S
 tally-come zero [] e = refl
 tally-come (suc n) [] e = refl

@@ -32,7 +32,7 @@ module _ (h : List Bool) (x : ℕ) where
       go (yes l) = rw (lt-ltb x i l)
       go (no l) = rw (le-ltb x i (omega arith)) (sym (getD-set-other h x i true false d))
 
-  -- The next place: a count that comes to n at the index tells what stands there.
+  -- The next place: a count that is n at the index says what stands there.
   pub marking-at : x < length h → (n i t : ℕ) → t + x ≡ n + i → (has (marking i) i || eqb t n) ≡ has (mark h x) i
   marking-at l n i t e = go (ℕ-discrete i x)
     where

@@ -15,7 +15,7 @@ use Rattle.joining.specs.Report.{part}
 abbrev pub badSize : ℕ → Bool
 badSize F = eqb F 0 || ltb 16384 F
 
--- How many pieces a report of so many bytes makes.
+-- How many pieces a report of n bytes makes.
 abbrev pub pieceCount : ℕ → ℕ → ℕ
 pieceCount F bytes = cond (eqb bytes 0) 1 ((bytes - 1) / F + 1)
 

@@ -26,7 +26,7 @@ pub fn bad_size(size: usize) -> bool
     (size == 0) | (LARGEST < size)
 }
 
-// How many pieces a report of so many bytes makes.
+// How many pieces a report of n bytes makes.
 fn piece_count(size: usize, bytes: usize) -> usize
     requires { ⌜ 0 < size ⌝ }
     ensures { λ r. ⌜ r ≡ pieceCount size bytes ⌝ }
@@ -37,7 +37,7 @@ fn piece_count(size: usize, bytes: usize) -> usize
     (bytes - 1) / size + 1
 }
 
-// 24 or 7, or 0 where piece i of a report of so many bytes can be cut.
+// 24 or 7, or 0 where piece i of a report of n bytes can be cut.
 fn cut_refusal(size: usize, bytes: usize, i: usize) -> u8
     ensures { λ r. ⌜ r ≡ cutRefusal size bytes i ⌝ }
 {

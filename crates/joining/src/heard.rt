@@ -28,7 +28,7 @@ pub(crate) fn count_heard(heard: &[bool; PIECES], count: usize) -> usize
 }
 
 // The set with this index heard, counted. All places are written and counted by bytes, sixteen at once: a store to the one place would hold
-// up whoever reads the set next, and a sum of words would go place by place. `turn` comes to PIECES at the index.
+// up whoever reads the set next, and a sum of words would go place by place. `turn` is PIECES at the index.
 pub(crate) fn mark(heard: [bool; PIECES], index: usize) -> Marked
     requires { ⌜ index < most ⌝ }
     ensures { λ r. ⌜ (r .heard ≡ mark heard index) × (r .all ≡ tally (mark heard index)) ⌝ }

@@ -50,7 +50,7 @@ pub struct Piece {
     pub index: usize,
 }
 
-// What the arrival of a piece comes to. `heard` is how many different pieces of its message have come.
+// What the arrival of a piece is answered. `heard` is how many different pieces of its message have come.
 pub enum Arrival {
     // The refusal's number in document 01.
     Refused(u8),
@@ -205,7 +205,7 @@ fn last_of(last: u16, piece: Piece, given: usize) -> u16
     last
 }
 
-// Every index under the count is in this set of so many. Where these are fewer, the set need not be looked at.
+// Every index under the count is in this set of `all` indexes. Where these are fewer, the set need not be looked at.
 fn completes(heard: [bool; PIECES], all: usize, count: usize) -> bool
     requires { ⌜ (all ≡ tally heard) × (count ≤ most) ⌝ }
     ensures { λ r. ⌜ r ≡ eqb (come count heard) count ⌝ }
@@ -216,7 +216,7 @@ fn completes(heard: [bool; PIECES], all: usize, count: usize) -> bool
     heard::count_heard(&heard, count) == count
 }
 
-// A new piece of so many bytes is counted, `heard` being the set with it, of so many: with it its message is complete or not.
+// A new piece of `given` bytes is counted; `heard` is the set with it, of `all` indexes: with it its message is complete or not.
 fn advance(
     size: usize,
     held: Progress,

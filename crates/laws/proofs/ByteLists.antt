@@ -21,7 +21,7 @@ cons-at x m h w (suc i) = w .at i
 pub cons-bytes : {x : ℕ} {m : List ℕ} → x < 256 → AllBytes m → AllBytes (x ∷ m)
 cons-bytes {x} {m} h w = record { at = cons-at x m h w }
 
--- What stands behind the first element.
+-- What stands after the first element.
 rest-bytes : (x : ℕ) (m : List ℕ) → AllBytes (x ∷ m) → AllBytes m
 rest-bytes x m w = record { at = λ i. w .at (suc i) }
 

@@ -1,5 +1,5 @@
 -- SPDX-License-Identifier: MPL-2.0
--- Bytes as numbers: the bounds of what is read, and what stands behind the front of a list.
+-- Bytes as numbers: the bounds of what is read, and what stands after the front of a list.
 use Prim.Native.Nat.{ℕ, _+_, _<_}
 use mathlib.Core.Path.{_≡_, sym, ap, _∙_}
 use mathlib.Core.List.{List, _++_}
@@ -16,7 +16,7 @@ module _ (m : List ℕ) (bytes : (i : ℕ) → be8 m i < 256) where
   pub be32-below : (at : ℕ) → be32 m at < 4294967296
   be32-below at = omega (arith, be16-below at, be16-below (at + 2))
 
--- Numbers behind the first n elements of a list.
+-- Numbers after the first n elements of a list.
 module _ (a b : List ℕ) (n : ℕ) (e : length a ≡ n) where
   pub be8-past : (i : ℕ) → be8 (a ++ b) (n + i) ≡ be8 b i
   be8-past i = ap (λ (k : ℕ). be8 (a ++ b) (k + i)) (sym e) ∙ getD-append-add a b i 0

@@ -1,13 +1,12 @@
 -- SPDX-License-Identifier: MPL-2.0
 -- Runs of stores: two, the second where the first ends, are one; what is stored past the end is dropped.
-use Prim.Native.Nat.{ℕ, zero, suc, _+_, _≤_, _<_}
+use Prim.Native.Nat.{ℕ, zero, suc, _+_, _≤_}
 use mathlib.Core.Path.{_≡_, refl, sym, ap, _∙_}
 use mathlib.Core.List.{List, [], _∷_, _++_}
 use native.Mathlib.Omega.{arith}
 use native.Mathlib.Nat.{add-zero, zero-add}
-use native.Mathlib.Numerals.{add-one}
-use lib.ListN.{length, getD, take, drop, set, length-set}
-use lib.Seq.{sets, sets-eq, set-out, take-suc, length-take-le}
+use lib.ListN.{length, take, drop, set, length-set}
+use lib.Seq.{sets, sets-eq, set-out}
 
 pub sets-sets : (a b l : List ℕ) (i j : ℕ) → j ≡ i + length a → sets (sets l i a) j b ≡ sets l i (a ++ b)
 sets-sets [] b l i j e = ap (λ (k : ℕ). sets l k b) (e ∙ add-zero i)
@@ -16,13 +15,6 @@ sets-sets (x ∷ a) b l i j e = sets-sets a b (set l i x) (suc i) j (omega arith
 -- The same, as what two calls leave.
 pub stored-twice : (a b l : List ℕ) {m n : List ℕ} (i j : ℕ) → m ≡ sets l i a → n ≡ sets m j b → j ≡ i + length a → n ≡ sets l i (a ++ b)
 stored-twice a b l i j p q e = rw (q, p) (sets-sets a b l i j e)
-
--- One more element of s, where the first i are stored.
-pub stored-more : (s l : List ℕ) (at i b : ℕ) {m n : List ℕ} → i < length s → b ≡ getD s i 0 → m ≡ sets l at (take i s) → n ≡ sets m (at + i) (b ∷ [])
-    → n ≡ sets l at (take (i + 1) s)
-stored-more s l at i b h e p q =
-    let k : length (take i s) ≡ i = length-take-le i s (omega arith) in
-    rw (add-one, take-suc s i 0 h, ← e) (stored-twice (take i s) (b ∷ []) l at (at + i) p q (rw k))
 
 -- A run from the start that the list has room for.
 pub sets-start : (a l : List ℕ) → length a ≤ length l → sets l 0 a ≡ a ++ drop (length a) l
@@ -39,7 +31,7 @@ sets-cut s l at zero h = sym (sets-past s l at (omega arith))
 sets-cut [] l at (suc n) h = refl
 sets-cut (x ∷ s) l at (suc n) h = sets-cut s (set l at x) (suc at) n (rw length-set (omega arith))
 
--- `m` is `l` with `bs` stored from place i on. A store behind them makes the run longer.
+-- `m` is `l` with `bs` stored from place i on. A store after them makes the run longer.
 pub record Run (i : ℕ) (l bs m : List ℕ) : Type 0 where
   pub is : m ≡ sets l i bs
 

@@ -10,7 +10,7 @@ ghost use Prim.Native.Nat.{_≤_};
 ghost use lib.ListN.{length};
 
 // A buffer. A message has at most 65,535 bytes, so a part of one leaves room to read on; and a line is shorter than the message
-// that it tells of, so the lines of a buffer full of messages have room in another.
+// that it is about, so the lines of a buffer full of messages have room in another.
 fn buffer() -> [u8; 262144]
     ensures { λ r. ⌜ 262144 ≡ length r ⌝ }
 {
@@ -36,7 +36,7 @@ fn turn(input: &mut [u8], held: Held, out: &mut [u8]) -> Held
     refill(input, listed.read, end)
 }
 
-// Turn after turn; every turn reads a byte or is among the last, so that no input comes to the end of the counter.
+// Turn after turn; every turn reads a byte or is among the last, so that no input reaches the end of the counter.
 fn run(input: &mut [u8], out: &mut [u8]) {
     let mut held = Held {
         held: 0,

@@ -16,7 +16,7 @@ use Rattle.wire.specs.Fields.{badType, badFlags, badPiece, isSealed}
 use Rattle.wire.specs.Chain.{badChain}
 use Rattle.wire.specs.Payload.{badPayload}
 use Rattle.writer.specs.Header.{headerBytes}
-use Rattle.writer.specs.Written.{output}
+use Rattle.writer.specs.Written.{output, putRefusal}
 use Rattle.wire.specs.declared.header.Header.{Header}
 use Rattle.writer.specs.declared.Written.{Written}
 use Rattle.writer.specs.declared.Written.the-variants.{Refused, Bytes}
@@ -53,14 +53,14 @@ allowed h chain payload keys room e =
       roomy = ltb-false room (lengthOf h chain payload) (at noRoom);
     }
 
--- What stands behind a front of the output,
+-- What stands after a front of the output,
 rest-kept : (front out : List ℕ) (k j : ℕ) {m : List ℕ} → length front ≡ k → m ≡ front ++ drop k out → drop (k + j) m ≡ drop (k + j) out
 rest-kept front out k j {m} l p = rw (← drop-drop j k m, p, drop-at front (drop k out) k l) (drop-drop j k out)
 
 -- and bytes that are put there.
-put-behind : (front bytes out : List ℕ) (k : ℕ) {m n : List ℕ} → length front ≡ k → k + length bytes ≤ length out
+put-after : (front bytes out : List ℕ) (k : ℕ) {m n : List ℕ} → length front ≡ k → k + length bytes ≤ length out
     → m ≡ front ++ drop k out → n ≡ sets m k bytes → n ≡ (front ++ bytes) ++ drop (k + length bytes) out
-put-behind front bytes out k {m} l fits p q =
+put-after front bytes out k {m} l fits p q =
     let d = length-drop k out in
     let long : length m ≡ length out = ap length p ∙ rw (length-append, l, d) (omega arith) in
     let f : take k m ≡ front = rw p (take-at front (drop k out) k l) in
@@ -74,9 +74,9 @@ length-header h size = refl
 pub front-written : (h : Header) (size : ℕ) (chain out : List ℕ) {m n : List ℕ} → 40 + length chain ≤ length out
     → m ≡ output false 40 (headerBytes h size) out → n ≡ sets m 40 chain
     → n ≡ (headerBytes h size ++ chain) ++ drop (40 + length chain) out
-unfolding output Rattle.writer.specs.Written.writeRefusal
+unfolding output putRefusal
 front-written h size chain out fits p q =
-    put-behind (headerBytes h size) chain out 40 (length-header h size) fits (p ∙ rw (le-ltb (length out) 40 (omega arith))) q
+    put-after (headerBytes h size) chain out 40 (length-header h size) fits (p ∙ rw (le-ltb (length out) 40 (omega arith))) q
 
 -- A message that the writer accepts is short,
 pub length-short : (sealed : Bool) (chain payload : ℕ) → chain ≤ 2058 → payload ≤ 16384 → finishedLength sealed chain payload ≤ 18530
@@ -171,7 +171,7 @@ module _ (h : Header) (chain payload keys out : List ℕ) where
       pub wrote-plain : {n : List ℕ} → sealed ≡ false → n ≡ sets m (40 + length chain) payload → Answered (Bytes size) n
       wrote-plain {n} s q =
           let fits : start + length payload ≤ length out = omega (arith, plain-length s, roomy) in
-          answer n (put-behind front payload out start front-long fits before q ∙ rw (plain-bytes s, plain-length s))
+          answer n (put-after front payload out start front-long fits before q ∙ rw (plain-bytes s, plain-length s))
 
       pub wrote-sealed : {n : List ℕ} → sealed ≡ true → n ≡ sealedInto keys (40 + length chain) payload m → Answered (Bytes size) n
       unfolding sealedInto

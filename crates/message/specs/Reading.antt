@@ -36,7 +36,7 @@ payloadRows kind sealed payload = (wrongPayload, badPayload kind sealed payload)
 unfoldable pub plainRead : List ℕ → Header → ℕ → ℕ → MessageRead
 plainRead m h start size = unless (first (payloadRows (h .kind) false (take size (drop start m)))) (Read h false start size)
 
--- A sealed message: 10 to 13, then 14; "handed out as a part … of the working buffer if it was sealed", behind the four bytes of its size.
+-- A sealed message: 10 to 13, then 14; "handed out as a part … of the working buffer if it was sealed", after the four bytes of its size.
 unfoldable pub sealedRead : List ℕ → List ℕ → Header → ℕ → ℕ → MessageRead
 sealedRead m keys h start room = unless
     (orElse (openRefusal keys m start room) (first (payloadRows (h .kind) true (payloadOf (opened m keys start)))))

@@ -52,7 +52,7 @@ fn read_plain(message: &[u8], header: Header, start: usize, size: usize) -> Mess
     }
 }
 
-// A sealed payload: the sealed part is opened into the working buffer, and the payload stands behind its size.
+// A sealed payload: the sealed part is opened into the working buffer, and the payload stands after its size.
 fn read_sealed(
     message: &[u8],
     keys: &[u8],

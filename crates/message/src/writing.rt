@@ -40,7 +40,7 @@ pub const MOST_PAYLOAD: usize = 16384;
 // The bytes of the keys.
 const KEYS: usize = 64;
 
-// The length of a message with a chain and a payload of so many bytes.
+// The length of a message with a chain and a payload of n bytes.
 fn finished_length(sealed: bool, chain: usize, payload: usize) -> usize
     requires { ⌜ (chain ≤ 2058) × (payload ≤ 16384) ⌝ }
     ensures { λ r. ⌜ r ≡ finishedLength sealed chain payload ⌝ }

@@ -1,6 +1,6 @@
 -- SPDX-License-Identifier: MPL-2.0
 -- Demand 2's count: "each also tells how many different pieces of this message have come", "the count being that of different indexes
--- accepted". It is told over any course of steps, of any messages.
+-- accepted". It is stated over any course of steps, of any messages.
 use Prim.Native.Nat.{ℕ}
 use mathlib.Core.Path.{_≡_}
 use mathlib.Core.List.{List, [], _∷_}
@@ -32,7 +32,7 @@ abbrev pub acceptedAll : Standing → List Call → List Event → List Event
 acceptedAll p [] es = es
 acceptedAll p (x ∷ xs) es = acceptedAll (after p x) xs (accepted (answer p x) (indexIn x) es)
 
--- The count told is that of the different indexes accepted, this one with them; the index is a new one where it is Taken or Complete, one of
+-- The count reported is that of the different indexes accepted, this one with them; the index is a new one where it is Taken or Complete, one of
 -- those accepted where it is Repeat.
 abbrev pub Counts : Answer → ℕ → List Event → Type 0
 Counts (Refused n) i es = Unit {0}

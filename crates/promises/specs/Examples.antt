@@ -1,5 +1,5 @@
 -- SPDX-License-Identifier: MPL-2.0
--- Document 01's numbered examples, P1 to P13: each row is what the definitions give, and what document 01 wants.
+-- Document 01's numbered examples, P1 to P13: each row is what the definitions give, and what document 01 asks.
 use Prim.Native.Nat.{ℕ, zero, suc}
 use mathlib.Core.Path.{_≡_}
 use mathlib.Core.List.{List, [], _∷_, _++_, map}
@@ -26,7 +26,7 @@ abbrev pub firstPieces : ℕ → ℕ → ℕ → List ℕ
 firstPieces F bytes zero = []
 firstPieces F bytes (suc n) = firstPieces F bytes n ++ (length (cutPiece F (replicate bytes 0) n) ∷ [])
 
--- The lengths of the pieces of a report of so many bytes.
+-- The lengths of the pieces of a report of n bytes.
 abbrev pub pieces : ℕ → ℕ → List ℕ
 pieces F bytes = firstPieces F bytes (cutCount F bytes 0)
 

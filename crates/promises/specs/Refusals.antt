@@ -43,7 +43,7 @@ module _ (m : List ℕ) where
   abbrev pub sealed : Bool
   sealed = isSealed (be16 m 6)
 
-  -- Where the payload or the sealed part starts: behind the chain.
+  -- Where the payload or the sealed part starts: after the chain.
   abbrev pub start : ℕ
   start = length m - tagSize (be16 m 6) - leaves (chainOf m)
 

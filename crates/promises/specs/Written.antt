@@ -21,8 +21,8 @@ use Rattle.hub.specs.Step.{step, reportStepped}
 use Rattle.promises.specs.Refusals.{AreBytes}
 use Rattle.message.specs.Widths.{InWidth}
 
--- The writer, called with these fields, this chain, payload and keys, answered a length, and `message` is so many bytes of its output. (The
--- fields have their widths and the lists are bytes: what the call's types say.)
+-- The writer, called with these fields, this chain, payload and keys, answered a length, and `message` is that many first bytes of its
+-- output. (The fields have their widths and the lists are bytes: what the call's types say.)
 pub record Wrote (h : Header) (chain payload keys message : List ℕ) : Type 0 where
   pub widths : InWidth h
   pub of-chain : AreBytes chain

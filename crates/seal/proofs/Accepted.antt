@@ -62,7 +62,7 @@ module _ (keys m : List ℕ) (start : ℕ) (working : List ℕ) (ok : Accepted k
   unfolding plainOf
   plain-long = cbcDecrypt-length _ _ (sealedPart m start) (part-long .1)
 
-  -- The size told fits the sealed part.
+  -- The size that stands there fits the sealed part.
   told-fits : 4 + be32 plain 0 ≤ length plain
   unfolding badPlain sealedSize
   told-fits =

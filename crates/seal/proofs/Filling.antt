@@ -17,7 +17,7 @@ take-replicate x k n h =
     ∙ ap (take k) (sym (replicate-append-replicate k (n - k) x))
     ∙ take-at (replicate k x) (replicate (n - k) x) k (length-replicate k x)
 
--- Size, payload and padding one behind the other, over a room of just their length, are the plain text.
+-- Size, payload and padding one after the other, over a room of just their length, are the plain text.
 module _ (payload room : List ℕ) (fits : length room ≡ sealedSize (length payload)) (one two three told pad : List ℕ) (count : ℕ)
     (size : told ≡ bytes32 (length payload)) (pads : count ≡ padding (length payload)) (few : count ≤ 16) (padded : pad ≡ replicate 16 count)
     (a : one ≡ sets room 0 told) (b : two ≡ sets one 4 payload) (c : three ≡ sets two (4 + length payload) pad) where

@@ -106,7 +106,7 @@ decrypted ks v sealed working after blocks room e =
     e ∙ rw (eq-eqb (length sealed % 16) 0 blocks, le-leb (length sealed) (length working) room)
 
 module _ (keys m sealed working : List ℕ) where
-  -- Refusal 12, and 13 behind it.
+  -- Refusal 12, and 13 after it.
   pub part-12 : length working < length sealed
       → (12 ≡ partRefusal keys m sealed (length working)) × (working ≡ partInto keys m sealed working)
   unfolding partRefusal partInto intoUnless

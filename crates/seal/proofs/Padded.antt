@@ -46,7 +46,7 @@ last-end plain p h e =
     let k : length plain - 16 + (16 - padding p) ≡ 4 + p = omega (arith, padding-le p) in
     rw (drop-drop, k)
 
--- Two tests behind a first one agree where they do so under it.
+-- Two tests after a first one agree where they do so under it.
 behind : (t x y : Bool) → (t ≡ true → x ≡ y) → not t || x ≡ not t || y
 behind true x y h = h refl
 behind false x y h = refl

@@ -1,5 +1,5 @@
 -- SPDX-License-Identifier: MPL-2.0
--- The way through `seal`: part and tag, one behind the other, make the sealed message.
+-- The way through `seal`: part and tag, one after the other, make the sealed message.
 use Prim.Native.Nat.{ℕ, _+_, _-_, _%_, _≤_, _<_}
 use mathlib.Core.Path.{_≡_, refl, sym, _∙_}
 use mathlib.Core.List.{List, _++_, append-assoc}
@@ -89,7 +89,7 @@ pub refused-into : (keys payload out : List ℕ) (start n : ℕ) → (n ≡ 0 �
 unfolding sealedInto
 refused-into keys payload out start n h e = rw (← e, ne-eqb n 0 h)
 
--- The output step by step: the part is encrypted where it stands, and the tag put behind it.
+-- The output step by step: the part is encrypted where it stands, and the tag put after it.
 module _ (keys payload out : List ℕ) (start end : ℕ) (allowed : sealRefusal (length keys) start (length payload) (length out) ≡ 0)
     (ends : end ≡ start + sealedSize (length payload)) (v part tagged : List ℕ)
     (first : v ≡ vector keys out)

@@ -34,7 +34,7 @@ badPlain plain =
 abbrev pub payloadOf : List ℕ → List ℕ
 payloadOf plain = take (be32 plain 0) (drop 4 plain)
 
--- Refusal 13 by the first and the last block of an opened sealed part of so many bytes: no other block can hold padding.
+-- Refusal 13 by the first and the last block of an opened sealed part of n bytes: no other block can hold padding.
 unfoldable pub badBlocks : ℕ → List ℕ → List ℕ → Bool
 badBlocks size front end =
     not (eqb size (sealedSize (be32 front 0)))

@@ -16,7 +16,7 @@ use Rattle.seal.specs.Padding.{sealedSize, plainText}
 unfoldable pub sealedBody : List ℕ → List ℕ → List ℕ → List ℕ
 sealedBody keys before payload = before ++ cbcEncrypt (expandKey (encryptionKey keys)) (vector keys before) (plainText payload)
 
--- The whole message, its tag behind it.
+-- The whole message, its tag after it.
 unfoldable pub sealedMessage : List ℕ → List ℕ → List ℕ → List ℕ
 sealedMessage keys before payload = sealedBody keys before payload ++ tagOf keys (sealedBody keys before payload)
 
@@ -41,7 +41,7 @@ sealRows keys start size room = lengthRows keys start size ++ roomRows start siz
 unfoldable pub sealRefusal : (keys start size room : ℕ) → ℕ
 sealRefusal keys start size room = first (sealRows keys start size room)
 
--- The output afterwards: untouched by a refusal; else the sealed message, and what stood behind it.
+-- The output afterwards: untouched by a refusal; else the sealed message, and what stood after it.
 unfoldable pub sealedInto : List ℕ → ℕ → List ℕ → List ℕ → List ℕ
 sealedInto keys start payload out =
     cond (eqb (sealRefusal (length keys) start (length payload) (length out)) 0)

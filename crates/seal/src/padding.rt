@@ -12,14 +12,14 @@ ghost use Rattle.laws.specs.Bytes.{be32};
 ghost use Rattle.laws.specs.Same.{same};
 ghost use Rattle.seal.specs.Padding.{padding, sealedSize, badBlocks};
 
-// How many padding bytes follow a payload of so many bytes.
+// How many padding bytes follow a payload of n bytes.
 pub(crate) fn padding(size: u32) -> usize
     ensures { λ r. ⌜ (r ≡ padding size) × (r ≤ 16) ⌝ }
 {
     (16 - (4 + size as usize) % 16) % 16
 }
 
-// How many bytes the sealed part of a payload of so many bytes has. No size wraps.
+// How many bytes the sealed part of a payload of n bytes has. No size wraps.
 pub fn sealed_size(size: u32) -> usize
     ensures { λ r. ⌜ r ≡ sealedSize size ⌝ }
 {
@@ -40,7 +40,7 @@ fn differs(block: [u8; 16], from: usize, byte: u8) -> bool
     bad
 }
 
-// The payload's size, as the first block of the plain text tells it.
+// The payload's size, as the first block of the plain text says.
 fn told_size(front: [u8; 16]) -> u32
     ensures { λ r. ⌜ r ≡ be32 front 0 ⌝ }
 {

@@ -43,7 +43,7 @@ fn put_plain(payload: &[u8], room: &mut [u8])
     store_bytes(room, 4 + payload.len(), &pad);
 }
 
-// The tag of the first `end` bytes, behind them.
+// The tag of the first `end` bytes, after them.
 fn put_tag(keys: &[u8], end: usize, out: &mut [u8])
     requires { ⌜ (length (now keys) ≡ 64) × (4 ≤ end) × (end < 65536) × (end + 32 ≤ length (now out)) ⌝ }
     ensures { λ _. ⌜ now (out .exit) ≡ sets (now (out .entry)) end (tagOf (now (keys .entry)) (take end (now (out .entry)))) ⌝ }
@@ -99,8 +99,8 @@ fn refused(keys: usize, start: usize, size: usize, room: usize) -> u8
     next(n, NO_ROOM, room < end + TAG)
 }
 
-// Seals a payload behind the first `start` bytes of the output, which hold the message's header and chain: the number of the first refusal that
-// applies, or 0. A refusal leaves the output as it was; else the whole message stands at its start, and what stood behind it is unchanged.
+// Seals a payload after the first `start` bytes of the output, which hold the message's header and chain: the number of the first refusal that
+// applies, or 0. A refusal leaves the output as it was; else the whole message stands at its start, and what stood after it is unchanged.
 pub fn seal(keys: &[u8], payload: &[u8], start: usize, out: &mut [u8]) -> u8
     ensures { λ r. ⌜ r ≡ sealRefusal (length (now (keys .entry))) start (length (now (payload .entry))) (length (now (out .entry))) ⌝ }
     ensures { λ _. ⌜ now (out .exit) ≡ sealedInto (now (keys .entry)) start (now (payload .entry)) (now (out .entry)) ⌝ }

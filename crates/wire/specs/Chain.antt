@@ -1,6 +1,6 @@
 -- SPDX-License-Identifier: MPL-2.0
 -- The chain of additional headers, as a recursive definition on the bytes that are left, and its answer: how many bytes it leaves
--- behind it, or that there is no chain (refusal 8).
+-- after it, or that there is no chain (refusal 8).
 use Prim.Native.Nat.{ℕ, zero, suc, _+_, _-_}
 use mathlib.Core.List.{List}
 use mathlib.Core.Bool.{Bool, true, false, cond, not, _||_}
@@ -21,7 +21,7 @@ entryOf m =
     (cond (ltb (length m) (2 + be8 m 1)) Wrong
     (Spans (2 + be8 m 1)))))
 
--- What the entry at the start of m makes of the chain: its end leaves what stands behind it, an entry hands what stands behind it
+-- What the entry at the start of m makes of the chain: its end leaves what stands after it, an entry hands what stands after it
 -- to `next`.
 abbrev pub follow : Entry → List ℕ → (List ℕ → Chain) → Chain
 follow Wrong m next = Broken
@@ -41,7 +41,7 @@ mostEntries = 8
 unfoldable pub readChain : List ℕ → Chain
 readChain room = chain mostEntries room
 
--- How many bytes stand behind the chain; 0 where there is none.
+-- How many bytes stand after the chain; 0 where there is none.
 abbrev pub leaves : Chain → ℕ
 leaves (Leaves k) = k
 leaves Broken = 0

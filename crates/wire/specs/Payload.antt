@@ -61,7 +61,7 @@ shapes =
     ∷ (2, true, isDoneResponse)
     ∷ []
 
--- Sealed as the shape wants it.
+-- Sealed as the shape asks.
 abbrev pub sealedAs : Bool → Bool → Bool
 sealedAs sealed true = sealed
 sealedAs sealed false = not sealed

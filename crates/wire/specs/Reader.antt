@@ -40,7 +40,7 @@ roomOf tag m = take (length m - tag - 40) (drop 40 m)
 unfoldable pub chainOf : List ℕ → Chain
 chainOf m = readChain (roomOf (tagSize (be16 m 6)) m)
 
--- The table, row by row, over the bytes given and what was read of them; `rest` is what stands behind the chain.
+-- The table, row by row, over the bytes given and what was read of them; `rest` is what stands after the chain.
 unfoldable pub headerRows : (given signature size version : ℕ) → Header → (broken : Bool) → (rest : ℕ) → List (ℕ × Bool)
 headerRows given signature size version h broken rest =
     (tooShort, ltb given 42)

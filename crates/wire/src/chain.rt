@@ -3,20 +3,20 @@
 //
 //     | type | size | size bytes | type | size | size bytes | … | 0 | 0 | payload
 //
-// The chain is read entry by entry: what stands behind an entry is again a chain, and shorter.
+// The chain is read entry by entry: what stands after an entry is again a chain, and shorter.
 ghost use mathlib.Core.Path.{_≡_};
 ghost use Rattle.wire.specs.Chain.{entryOf, chain, readChain, leaves, isBroken, badChain};
 
 // The most entries that may stand before the end.
 pub const MOST_ENTRIES: u8 = 8;
 
-// What a chain is: one that leaves so many bytes behind it, or none.
+// What a chain is: one that leaves n bytes after it, or none.
 pub enum Chain {
     Leaves(usize),
     Broken,
 }
 
-// What stands at the start of a chain: its end, an entry of so many bytes in all, or neither.
+// What stands at the start of a chain: its end, an entry of n bytes in all, or neither.
 pub enum Entry {
     End,
     Spans(usize),
@@ -79,7 +79,7 @@ pub fn is_broken(chain: Chain) -> bool
     }
 }
 
-// How many bytes stand behind the chain; 0 where there is none.
+// How many bytes stand after the chain; 0 where there is none.
 pub fn leaves(chain: Chain) -> usize
     ensures { λ r. ⌜ r ≡ leaves chain ⌝ }
 {

@@ -162,7 +162,7 @@ fn fields(message: &[u8]) -> Header
     }
 }
 
-// The chain's room is the message behind the fixed header, less the tag. Where the tag reaches into the header there is none.
+// The chain's room is the message after the fixed header, less the tag. Where the tag reaches into the header there is none.
 fn chain_of(message: &[u8], tag: usize) -> Chain
     requires { ⌜ tag ≤ 32 ⌝ }
     ensures { λ r. ⌜ r ≡ readChain (roomOf tag (now (message .entry))) ⌝ }
@@ -215,7 +215,7 @@ fn refusal(message: &[u8], header: Header, chain: Chain) -> u8
 }
 
 // What the reader of headers answers: the number of a refusal, or the header, and where the payload or the sealed part lies:
-// behind the chain and before the tag.
+// after the chain and before the tag.
 pub enum HeaderRead {
     Refused(u8),
     Read {

@@ -71,7 +71,7 @@ fn starts(connect: u8, p: &[u8]) -> bool
     (number16(p, 0) <= 2) & (byte(p, 2) == connect)
 }
 
-// The fields from HMACSize on are there, and nothing behind them.
+// The fields from HMACSize on are there, and nothing after them.
 fn exchanges(p: &[u8]) -> bool
     ensures { λ r. ⌜ r ≡ exchanges (now (p .entry)) ⌝ }
 {
@@ -106,7 +106,7 @@ fn is_connection_response(p: &[u8]) -> bool
     starts(CONNECTION_RESPONSE, p) & (pending | other)
 }
 
-// A Device Authentication Request or Response: certificate and thumbprint, each behind its length, and nothing more.
+// A Device Authentication Request or Response: certificate and thumbprint, each after its length, and nothing more.
 fn is_device_authentication(connect: u8, p: &[u8]) -> bool
     ensures { λ r. ⌜ r ≡ isDeviceAuthentication connect (now (p .entry)) ⌝ }
 {
@@ -173,7 +173,7 @@ pub fn connect_type(payload: &[u8]) -> u8
     byte_or_none(payload, 2)
 }
 
-// The byte behind the type, the Result of a Connection Response and the Status of an Authentication Done Response, or `NONE`.
+// The byte after the type, the Result of a Connection Response and the Status of an Authentication Done Response, or `NONE`.
 pub fn code_of(payload: &[u8]) -> u8
     ensures { λ r. ⌜ r ≡ codeOf (now (payload .entry)) ⌝ }
 {

@@ -1,5 +1,5 @@
 -- SPDX-License-Identifier: MPL-2.0
--- The heard set is looked at only where count or channel differs: else there is nothing to tell.
+-- The heard set is looked at only where count or channel differs: else there is nothing to find.
 use mathlib.Core.Path.{_≡_, refl, sym, ap, _∙_}
 use native.Mathlib.Omega.{arith}
 use lib.Seq.{take-all}

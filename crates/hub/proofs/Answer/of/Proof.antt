@@ -19,7 +19,4 @@ returns-4 : tie.Need-returns-4
 returns-4 c = ap answerOf (sym (c .before .arrival4 .given .1))
 
 pub of-spec : {M : Type 1} → statement M
-of-spec =
-    tie.close (tie.spec
-    (λ c. search needs) (λ c. search needs) (λ c. search needs) (λ c. search needs) returns returns-2 returns-3
-    returns-4)
+of-spec = tie.close (tie.spec (λ c. search needs) (λ c. search needs) (λ c. search needs) (λ c. search needs) returns returns-2 returns-3 returns-4)

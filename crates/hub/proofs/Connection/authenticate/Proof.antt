@@ -22,7 +22,4 @@ returns-4 c =
     rw (d .before .if1 .left, d .if2 .left, ← (a .alike .ensures), c .before .if3 .left, c .refuse .ensures)
 
 pub authenticate-spec : {M : Type 1} → statement M
-authenticate-spec =
-    tie.close (tie.spec
-    _ returns _ returns-2 (λ c. search needs) (λ c. search needs)
-    _ returns-3 _ returns-4)
+authenticate-spec = tie.close (tie.spec _ returns _ returns-2 (λ c. search needs) (λ c. search needs) _ returns-3 _ returns-4)

@@ -42,7 +42,4 @@ returns-4 c =
     )
 
 pub connect-spec : {M : Type 1} → statement M
-connect-spec =
-    tie.close (tie.spec
-    _ _ _ returns _
-    _ returns-2 _ returns-3 _ returns-4)
+connect-spec = tie.close (tie.spec _ _ _ returns _ _ returns-2 _ returns-3 _ returns-4)

@@ -43,7 +43,4 @@ returns-4 c =
     (rw (f, ne-eqb _ _ (k .if2 .left), j .if3 .left) (c .refuse2 .ensures), rw (f, j .if3 .left))
 
 pub hear-spec : {M : Type 1} → statement M
-hear-spec =
-    tie.close (tie.spec
-    _ _ returns _ returns-2 _
-    (λ c. search needs) returns-3 _ returns-4)
+hear-spec = tie.close (tie.spec _ _ returns _ returns-2 _ (λ c. search needs) returns-3 _ returns-4)

@@ -1,5 +1,5 @@
 -- SPDX-License-Identifier: MPL-2.0
--- Three comparisons, one behind the other.
+-- Three comparisons, one after the other.
 use borrow.Author.Needs.{needs}
 use Rattle.hub.proofs.Connection.knows.Statement.{statement}
 use Rattle.hub.proofs.Connection.knows.Tie as tie

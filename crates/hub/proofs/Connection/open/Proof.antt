@@ -13,5 +13,4 @@ unfolding opened
 returns-2 c = rw (← (c .before .before .bad-size .ensures), c .before .if1 .left, c .blank2 .ensures)
 
 pub open-spec : {M : Type 1} → statement M
-open-spec =
-    tie.close (tie.spec _ _ returns _ returns-2)
+open-spec = tie.close (tie.spec _ _ returns _ returns-2)

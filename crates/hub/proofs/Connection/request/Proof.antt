@@ -16,6 +16,4 @@ returns-3 c =
     rw (ne-eqb _ _ (k .before .if1 .left), ← (k .knows .ensures), c .before .if2 .left, c .refuse .ensures)
 
 pub request-spec : {M : Type 1} → statement M
-request-spec =
-    tie.close
-    (tie.spec _ returns _ returns-2 _ returns-3)
+request-spec = tie.close (tie.spec _ returns _ returns-2 _ returns-3)

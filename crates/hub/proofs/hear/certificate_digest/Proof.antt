@@ -25,7 +25,4 @@ returns : tie.Need-returns
 returns c = c .digest .ensures ∙ rw (add-sub-cancel-left, c .before .before .before .certificate-of .ensures)
 
 pub certificate-digest-spec : {M : Type 1} → statement M
-certificate-digest-spec =
-    tie.close (tie.spec
-    _ add-end (λ c. search needs) (λ c. search needs) part-digest-end _
-    returns)
+certificate-digest-spec = tie.close (tie.spec _ add-end (λ c. search needs) (λ c. search needs) part-digest-end _ returns)

@@ -1,11 +1,10 @@
 -- SPDX-License-Identifier: MPL-2.0
 -- The state has its size or not.
-use mathlib.Core.Path.{ap, _∙_}
+use mathlib.Core.Path.{ap}
 use borrow.Author.Tests.{eq-eqb, ne-eqb}
 use borrow.Author.Needs.{needs}
 use Rattle.wire.specs.Fields.{mostPieces}
 use Rattle.hub.specs.declared.Opened.{Opened}
-use Rattle.state.specs.State.{stateBytes}
 use Rattle.hub_c.proofs.connection.hub_open.Statement.{statement}
 use Rattle.hub_c.proofs.connection.hub_open.Tie as tie
 
@@ -20,7 +19,7 @@ returns-2 c =
     let at-open = at-put .before .before .before in
     let k = eq-eqb _ _ (at-open .before .if1 .left) in
     let e = at-open .«open» .ensures in
-    (rw k (ap (λ (o : Opened). o .refusal) e), rw k (at-put .put-connection .ensures ∙ ap (λ (o : Opened). stateBytes (o .connection)) e))
+    (rw k (ap (λ (o : Opened). o .refusal) e), rw k (rw e at (at-put .put-connection .ensures)))
 
 pub hub-open-spec : {M : Type 1} → statement M
 unfolding mostPieces

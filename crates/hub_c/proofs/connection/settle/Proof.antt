@@ -15,12 +15,6 @@ returns c =
     let k = ne-eqb _ _ (c .if1 .taken) in
     (ap (λ (t : Said). t .refusal) e, (rw (← e, k), rw (← e, k)))
 
-put-connection-requires : tie.Need-put-connection-requires
-put-connection-requires c κs = c .before .before .before .before .before .before .before .pre .0
-
-put-triple-requires : tie.Need-put-triple-requires
-put-triple-requires c κs = c .before .before .before .before .before .before .before .before .before .before .before .pre .1
-
 returns-2 : tie.Need-returns-2
 unfolding stateAfter answerAfter
 returns-2 c =
@@ -33,4 +27,4 @@ returns-2 c =
     (z, (rw (← e, k) (at-put .put-connection .ensures), rw (← e, k) (at-triple .put-triple .ensures)))
 
 pub settle-spec : {M : Type 1} → statement M
-settle-spec = tie.close (tie.spec _ returns put-connection-requires put-triple-requires (λ c. search needs) (λ c. search needs) returns-2)
+settle-spec = tie.close (tie.spec _ returns (λ c κs. search needs) (λ c κs. search needs) (λ c. search needs) (λ c. search needs) returns-2)

@@ -4,13 +4,10 @@ use mathlib.Core.Bool.{false, not, _||_}
 use lib.Dec.{eqb, ltb}
 use lib.ListN.{length}
 use Rattle.laws.proofs.Bools.{or-false}
-use Rattle.wire.specs.declared.header.Header.{Header}
-use Rattle.message.specs.Writing.{writeAnswer, writtenInto}
-use Rattle.hub_c.specs.declared.writing.Wrote.{Wrote}
-use Rattle.hub_c.specs.Written.{fieldsOf, ofWritten, lengthAfter, wrongFields}
+use Rattle.hub_c.specs.Written.{fieldsOf, wrongFields}
 use Rattle.hub_c.proofs.Narrowing.{narrow-answer, narrow-output}
 use Rattle.hub_c.proofs.Sizing.{both-sized}
-use mathlib.Core.Path.{ap, _∙_, _≡_}
+use mathlib.Core.Path.{_∙_, _≡_}
 use borrow.Author.Needs.{needs}
 use Rattle.hub_c.proofs.writing.hub_write.Statement.{statement}
 use Rattle.hub_c.proofs.writing.hub_write.Tie as tie
@@ -45,13 +42,11 @@ returns-2 c =
     let keys = s .keys .now in
     let out = s .out .now in
     let fits = or-false (not (eqb (length (s .fields .now)) 8) || not (eqb (length (s .size .now)) 1)) (ltb 4294967295 (h .sequence)) w .1 in
-    let g = at-header-of .header-of .ensures in
-    let answer = at-write .write .ensures .0 ∙ ap (λ (g : Header). writeAnswer g chain payload (length keys) (length out)) g
-    ∙ narrow-answer chain payload h fits (length keys) (length out) in
-    let e = at-of-written .of-written .ensures ∙ ap ofWritten answer in
-    let o = at-write .write .ensures .1 ∙ ap (λ (g : Header). writtenInto g chain payload keys out) g ∙ narrow-output chain payload h fits keys out in
-    let size = at-tell .tell .ensures .1 ∙ ap (λ (k : Wrote). lengthAfter k (s .size .now)) e in
-    (rw w (at-tell .tell .ensures .0 ∙ ap (λ (k : Wrote). k .refusal) e), (rw w o, rw w size))
+    let written = rw (at-header-of .header-of .ensures) at (at-write .write .ensures) in
+    let answer = written .0 ∙ narrow-answer chain payload h fits (length keys) (length out) in
+    let wrote = rw answer at (at-of-written .of-written .ensures) in
+    let said = rw wrote at (at-tell .tell .ensures) in
+    (rw w (said .0), (rw w (written .1 ∙ narrow-output chain payload h fits keys out), rw w (said .1)))
 
 pub hub-write-spec : {M : Type 1} → statement M
 hub-write-spec = tie.close (tie.spec _ returns _ _ _ tell-requires (λ c. search needs) (λ c. search needs) returns-2)

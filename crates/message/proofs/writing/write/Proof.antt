@@ -1,5 +1,5 @@
 -- SPDX-License-Identifier: MPL-2.0
--- Refused, or header, chain and payload one behind the other, the payload as it is or sealed.
+-- Refused, or header, chain and payload one after the other, the payload as it is or sealed.
 use Prim.Native.Nat.{_≤_}
 use mathlib.Core.Path.{_≡_, sym, _∙_}
 use native.Mathlib.Omega.{arith}

@@ -1,5 +1,5 @@
 -- SPDX-License-Identifier: MPL-2.0
--- The told size, its padding and the last block's end are what `badBlocks` asks for.
+-- The size that stands there, its padding and the last block's end are what `badBlocks` asks for.
 use Rattle.seal.proofs.Padded.{blocks-judged}
 use borrow.Author.Needs.{needs}
 use Rattle.seal.proofs.padding.bad_blocks.Statement.{statement}

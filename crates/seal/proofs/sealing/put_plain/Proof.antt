@@ -1,5 +1,5 @@
 -- SPDX-License-Identifier: MPL-2.0
--- Three runs one behind the other fill the room.
+-- Three runs one after the other fill the room.
 use mathlib.Core.Path.{refl}
 use Rattle.seal.proofs.Filling.{plain-stored}
 use borrow.Author.Needs.{needs}

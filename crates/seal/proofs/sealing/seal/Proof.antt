@@ -1,5 +1,5 @@
 -- SPDX-License-Identifier: MPL-2.0
--- The part is encrypted in its room and the tag put behind it, where none of the rows applies.
+-- The part is encrypted in its room and the tag put after it, where none of the rows applies.
 use mathlib.Core.Path.{_∙_, sym, ap, refl}
 use Prim.Native.Nat.{ℕ, _+_}
 use lib.ListN.{length}

@@ -26,7 +26,7 @@ walk-at t = and 1 walk-kinds.ps (is 1 walk-kinds.ps μ-walk t) walk.Pre
 abbrev walk-below : ℕ → In 1 walk-kinds.ps
 walk-below t = and 1 walk-kinds.ps (falls 1 walk-kinds.ps _<_ μ-walk t) walk.Pre
 
--- In the order of the code: the entry is read; its three cases; the chain that is full; the part behind the entry; the returns.
+-- In the order of the code: the entry is read; its three cases; the chain that is full; the part after the entry; the returns.
 pub +walk-spec : {M : Type 1} → statement M
 +walk-spec =
     close μ-walk λ t. walk-lts.spec (read-entry-reads.Asked, read-entry-reads.Learnt, walk-below t, walk.Post) (walk-at t) walk.Post
