@@ -19,7 +19,7 @@ pub fn least(a: usize, b: usize) -> usize
     if a < b { a } else { b }
 }
 
-// The place behind the next byte of a text that is the mark, or the text's end.
+// The place after the next byte of a text that is the mark, or the text's end.
 pub fn behind(text: &[u8], at: usize, mark: u8) -> usize
     ensures { λ r. ⌜ r ≤ length (now (text .entry)) ⌝ }
 {
@@ -42,7 +42,7 @@ fn keep(input: &mut [u8], from: usize, to: usize) -> usize
     left
 }
 
-// Reads on behind the first `held` bytes. A read that fails counts as the end of the input.
+// Reads on after the first `held` bytes. A read that fails counts as the end of the input.
 fn read_on(input: &mut [u8], held: usize) -> Held
     requires { ⌜ held ≤ length (now input) ⌝ }
     ensures { λ r. ⌜ r .held ≤ length (now (input .exit)) ⌝ }
@@ -56,7 +56,7 @@ fn read_on(input: &mut [u8], held: usize) -> Held
     }
 }
 
-// Keeps what the buffer holds between two places, at its front, and reads on behind it. What is kept is less than a whole message,
+// Keeps what the buffer holds between two places, at its front, and reads on after it. What is kept is less than a whole message,
 // so that there is room.
 pub fn refill(input: &mut [u8], from: usize, to: usize) -> Held
     ensures { λ r. ⌜ r .held ≤ length (now (input .exit)) ⌝ }

@@ -21,7 +21,7 @@ unfolding digits
 digits-more zero n h = absurd (omega arith)
 digits-more (suc k) n h = rw sub-one
 
--- A store behind a run may as well come before it.
+-- A store after a run may as well come before it.
 sets-set : (vs l : List ℕ) (i j a : ℕ) → i + length vs ≤ j → sets (set l j a) i vs ≡ set (sets l i vs) j a
 sets-set [] l i j a h = refl
 sets-set (v ∷ vs) l i j a h =

@@ -9,7 +9,7 @@ use Rattle.lines.specs.Listing.{Run}
 abbrev pub p1Line : List ℕ
 p1Line = 49 ∷ 32 ∷ 48 ∷ 32 ∷ 48 ∷ 32 ∷ 49 ∷ 32 ∷ 52 ∷ 51 ∷ 10 ∷ []
 
--- A run that took so many bytes, wrote this text and is over.
+-- A run that took n bytes, wrote this text and is over.
 abbrev pub ended : ℕ → List ℕ → Run
 ended read text = record { read = read; text = text; going = false; over = true }
 

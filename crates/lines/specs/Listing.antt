@@ -15,7 +15,7 @@ use Rattle.lines.specs.declared.stream.Next.{Next}
 use Rattle.lines.specs.declared.stream.Next.the-variants.{Message, More, End}
 use Rattle.lines.specs.declared.listing.Listed.{Listed}
 
--- "one line, in decimal: type, sequence, index, count, length", with a blank (32) between them and the line's end (10) behind.
+-- "one line, in decimal: type, sequence, index, count, length", with a blank (32) between them and the line's end (10) after.
 unfoldable pub headerLine : Header → ℕ → List ℕ
 headerLine h size =
     field (h .kind) 32 ++ field (h .sequence) 32 ++ field (h .index) 32 ++ field (h .count) 32 ++ field size 10
@@ -29,7 +29,7 @@ unfoldable pub lineOf : HeaderRead → ℕ → List ℕ
 lineOf (Refused n) size = named refusedName n
 lineOf (Read h start rest) size = headerLine h size
 
--- The room that a line wants.
+-- The room that a line needs.
 abbrev pub lineRoom : ℕ
 lineRoom = 64
 
@@ -50,7 +50,7 @@ pub record Turn : Type 0 where
 abbrev pub stops : Bool → Turn
 stops over = record { line = []; size = 0; going = false; over = over }
 
--- A turn that tells of a message. "A refusal .. ends the run."
+-- A turn that lists a message. "A refusal .. ends the run."
 abbrev pub tells : ℕ → HeaderRead → Turn
 tells size answer = record { line = lineOf answer size; size = size; going = not (isRefused answer); over = isRefused answer }
 
@@ -60,7 +60,7 @@ turnBy rest (Message size) = tells size (readHeader (take size rest))
 turnBy rest More = stops false
 turnBy rest End = stops true
 
--- The turn, with an output of `room` bytes of which so many are written.
+-- The turn, with an output of `room` bytes of which some are written.
 unfoldable pub turnAt : List ℕ → Bool → (room written : ℕ) → Turn
 turnAt rest ended room written = cond (ltb room (written + lineRoom)) (stops false) (turnBy rest (ahead rest ended))
 
@@ -75,7 +75,7 @@ pub record Run : Type 0 where
 abbrev pub begun : Run
 begun = record { read = 0; text = []; going = true; over = false }
 
--- The run behind a turn.
+-- The run after a turn.
 abbrev pub behind : Run → Turn → Run
 behind b s = record { read = b .read + s .size; text = b .text ++ s .line; going = s .going; over = s .over }
 
@@ -88,7 +88,7 @@ unfoldable pub manyTurns : ℕ → List ℕ → Bool → ℕ → Run → Run
 manyTurns zero stream ended room b = b
 manyTurns (suc n) stream ended room b = cond (b .going) (manyTurns n stream ended room (turn stream ended room b)) b
 
--- The listing of a stream into an output of so many bytes. A message takes 42 bytes of it, but for the last, and the last turn none:
+-- The listing of a stream into an output of n bytes. A message takes 42 bytes of it, but for the last, and the last turn none:
 -- more turns than these there are not.
 unfoldable pub list : List ℕ → Bool → ℕ → Run
 list stream ended room = manyTurns (length stream / 42 + 2) stream ended room begun

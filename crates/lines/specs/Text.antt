@@ -1,5 +1,5 @@
 -- SPDX-License-Identifier: MPL-2.0
--- Text in ASCII: a number below 2^32 in decimal, a number with the byte behind it, a name with a number; and a text that is put into a
+-- Text in ASCII: a number below 2^32 in decimal, a number with the byte after it, a name with a number; and a text that is put into a
 -- buffer at a place, if there is room.
 use Prim.Native.Nat.{ℕ, zero, suc, _+_, _/_, _%_}
 use mathlib.Core.List.{List, [], _∷_, _++_}
@@ -14,7 +14,7 @@ unfoldable pub digits : ℕ → ℕ → List ℕ
 digits zero n = []
 digits (suc k) n = digits k (n / 10) ++ ((48 + n % 10) ∷ [])
 
--- The number of digits, and the power of ten that a number of so many digits does not reach.
+-- The number of digits, and the power of ten that a number of n digits does not reach.
 abbrev pub digitRows : ℕ → List (ℕ × Bool)
 digitRows n =
     (1, ltb n 10)
@@ -37,7 +37,7 @@ digitCount n = first (digitRows n)
 abbrev pub decimal : ℕ → List ℕ
 decimal n = digits (digitCount n) n
 
--- A number in decimal, and a byte behind it.
+-- A number in decimal, and a byte after it.
 unfoldable pub field : ℕ → ℕ → List ℕ
 field n behind = decimal n ++ (behind ∷ [])
 
@@ -49,6 +49,6 @@ named name n = name ++ field n 10
 unfoldable pub put : (need at : ℕ) → List ℕ → List ℕ → List ℕ
 put need at text out = cond (ltb (length out) (at + need)) out (sets out at text)
 
--- The place behind such a text; the place itself where there is no room.
+-- The place after such a text; the place itself where there is no room.
 unfoldable pub putEnd : (need at : ℕ) → List ℕ → List ℕ → ℕ
 putEnd need at text out = cond (ltb (length out) (at + need)) at (at + length text)

@@ -16,7 +16,7 @@ ghost use Rattle.wire.specs.Reader.{readHeader};
 ghost use Rattle.lines.specs.Text.{put, putEnd};
 ghost use Rattle.lines.specs.Listing.{headerLine, lineOf, isRefused, stops, tells, turnAt, turned, list, listed};
 
-// The room that a line wants in the output.
+// The room that a line needs in the output.
 pub const LINE: usize = 64;
 
 // Puts the line of a header and a message's length.
@@ -32,8 +32,8 @@ fn put_header(header: Header, size: u16, out: &mut [u8], at: usize) -> usize
     put_field(size as u32, b'\n', out, length)
 }
 
-// Puts the line of a message of so many bytes at a place, and answers the place behind it; where there is less room than a line
-// wants, nothing is put and the place itself is the answer.
+// Puts the line of a message of n bytes at a place, and answers the place after it; where there is less room than a line
+// needs, nothing is put and the place itself is the answer.
 pub fn put_line(answer: HeaderRead, size: u16, out: &mut [u8], at: usize) -> usize
     ensures { λ r. ⌜ r ≡ putEnd 64 at (lineOf answer size) (now (out .entry)) ⌝ }
     ensures { λ _. ⌜ now (out .exit) ≡ put 64 at (lineOf answer size) (now (out .entry)) ⌝ }
@@ -89,7 +89,7 @@ fn stopped(run: Listed, over: bool) -> Listed
     }
 }
 
-// Writes the line of a message that has so many bytes.
+// Writes the line of a message that has n bytes.
 fn tell(run: Listed, message: &[u8], size: u16, out: &mut [u8]) -> Listed
     requires { ⌜ run .read + size < 2 ^ 64 ⌝ }
     requires { ⌜ run .written + 64 ≤ length (now out) ⌝ }

@@ -6,7 +6,7 @@ ghost use Rattle.lines.specs.Stream.{ahead};
 
 // What a stream begins with.
 pub enum Next {
-    // A message of so many bytes; where the input has ended, also what is left of one.
+    // A message of n bytes; where the input has ended, also what is left of one.
     Message(u16),
     // The beginning of a message, or nothing yet.
     More,

@@ -9,7 +9,7 @@ ghost use lib.ListN.{length};
 ghost use lib.Seq.{sets};
 ghost use Rattle.lines.specs.Text.{digits, field, named, putEnd, put};
 
-// The most bytes that a number and the byte behind it take.
+// The most bytes that a number and the byte after it take.
 pub const FIELD: usize = 11;
 
 // Puts the last `count` digits of a number at a place, the last one first.
@@ -33,7 +33,7 @@ fn digit(number: u32) -> u8
     48 + (number % 10) as u8
 }
 
-// Puts a number at a place, and a byte behind it; answers the place behind that.
+// Puts a number at a place, and a byte after it; answers the place after that.
 pub(crate) fn put_field(number: u32, behind: u8, out: &mut [u8], at: usize) -> usize
     requires { ⌜ at + 11 ≤ length (now out) ⌝ }
     ensures { λ r. ⌜ r ≤ at + 11 ⌝ }
@@ -47,7 +47,7 @@ pub(crate) fn put_field(number: u32, behind: u8, out: &mut [u8], at: usize) -> u
     end + 1
 }
 
-// Puts the line of a name, which ends in a blank, and a number at a place, and answers the place behind it.
+// Puts the line of a name, which ends in a blank, and a number at a place, and answers the place after it.
 pub(crate) fn put_name(name: &[u8], number: u32, out: &mut [u8], at: usize) -> usize
     requires { ⌜ at + (length (now name) + 11) ≤ length (now out) ⌝ }
     ensures { λ r. ⌜ r ≡ at + length (named (now (name .entry)) number) ⌝ }
@@ -57,7 +57,7 @@ pub(crate) fn put_name(name: &[u8], number: u32, out: &mut [u8], at: usize) -> u
     put_field(number, b'\n', out, at + name.len())
 }
 
-// The same for a caller that has not looked for room. It wants room for the name and 11 bytes more; where there is less, nothing is
+// The same for a caller that has not looked for room. It needs room for the name and 11 bytes more; where there is less, nothing is
 // put and the place itself is the answer.
 pub fn put_named(name: &[u8], number: u32, out: &mut [u8], at: usize) -> usize
     ensures { λ r. ⌜ r ≡ putEnd (length (now (name .entry)) + 11) at (named (now (name .entry)) number) (now (out .entry)) ⌝ }
@@ -72,7 +72,7 @@ pub fn put_named(name: &[u8], number: u32, out: &mut [u8], at: usize) -> usize
     put_name(name, number, out, at)
 }
 
-// Puts a text at a place, and answers the place behind it; where there is no room, nothing is put and the place itself is the answer.
+// Puts a text at a place, and answers the place after it; where there is no room, nothing is put and the place itself is the answer.
 pub fn put_text(text: &[u8], out: &mut [u8], at: usize) -> usize
     ensures { λ r. ⌜ r ≡ putEnd (length (now (text .entry))) at (now (text .entry)) (now (out .entry)) ⌝ }
     ensures { λ _. ⌜ now (out .exit) ≡ put (length (now (text .entry))) at (now (text .entry)) (now (out .entry)) ⌝ }

@@ -23,7 +23,7 @@ fn short(number: usize) -> u32
     }
 }
 
-// Puts a name and a number at a place where there is room for any line, and answers the place behind them.
+// Puts a name and a number at a place where there is room for any line, and answers the place after them.
 fn put_word(name: &[u8], number: u32, out: &mut [u8], at: usize) -> usize
     requires { ⌜ (length (now name) ≤ 9) × (at + 64 ≤ length (now out)) ⌝ }
     ensures { λ r. ⌜ r ≡ at + length (named (now (name .entry)) number) ⌝ }
@@ -58,7 +58,7 @@ fn put_line(answer: Answer, out: &mut [u8], at: usize) -> usize
     }
 }
 
-// Puts the line of an answer at a place, and answers the place behind it; where there is less room than a line wants, nothing is put
+// Puts the line of an answer at a place, and answers the place after it; where there is less room than a line needs, nothing is put
 // and the place itself is the answer.
 pub(crate) fn put_answer(answer: Answer, out: &mut [u8], at: usize) -> usize
     ensures { λ r. ⌜ r ≡ putEnd 64 at (answerLine answer) (now (out .entry)) ⌝ }

@@ -121,7 +121,7 @@ fn turn(
     }
 }
 
-// Turn after turn; every turn takes a byte or is among the last, so that no input comes to the end of the counter.
+// Turn after turn; every turn takes a byte or is among the last, so that no input reaches the end of the counter.
 fn run(
     connection: Connection,
     keys: &[u8],

@@ -60,7 +60,7 @@ pub(crate) fn block_line(text: &[u8], at: usize) -> Said {
     }
 }
 
-// Whether so many bytes came out, and are these.
+// Whether n bytes came out, and are these.
 fn came_out(out: &[u8], n: usize, bytes: &[u8]) -> bool {
     if out.len() < n {
         return false;

@@ -1,5 +1,5 @@
 -- SPDX-License-Identifier: MPL-2.0
--- A chain is the same whatever stands behind it, so one that the writer accepts is read back.
+-- A chain is the same whatever stands after it, so one that the writer accepts is read back.
 use Prim.Native.Nat.{ℕ, zero, suc, _+_, _-_, _≤_}
 use mathlib.Core.Path.{_≡_, refl, ap, _∙_}
 use mathlib.Core.List.{List, [], _∷_, _++_}
@@ -60,7 +60,7 @@ module _ (rest : List ℕ) where
       rw (entry-append m rest (not-wrong m (chain left) k q))
       (follow-append m (entryOf m) (chain left) k refl (chain-append left) q)
 
-  -- A chain that the writer accepts is read back, and leaves what stands behind it.
+  -- A chain that the writer accepts is read back, and leaves what stands after it.
   pub chain-back : (given : List ℕ) → badChain given ≡ false → readChain (given ++ rest) ≡ Leaves (length rest)
   unfolding badChain readChain
   chain-back given b = chain-append mostEntries given 0 (whole (readChain given) refl b) ∙ ap Leaves (zero-add (length rest))

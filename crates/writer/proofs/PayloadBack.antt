@@ -15,7 +15,7 @@ pub starts-back : (mode connect : ℕ) (rest : List ℕ) → mode ≤ 2 → star
 unfolding starts
 starts-back mode connect rest h = rw (div-add-mod' mode 256, le-leb mode 2 h, eq-eqb connect connect refl)
 
--- The type, and the byte behind it, are read back.
+-- The type, and the byte after it, are read back.
 pub type-back : (mode connect : ℕ) (rest : List ℕ) → connectType (bytes16 mode ++ (connect ∷ rest)) ≡ connect
 type-back mode connect rest = refl
 

@@ -1,5 +1,5 @@
 -- SPDX-License-Identifier: MPL-2.0
--- The parts of a payload as they are stored one behind the other, its length, and what its tests make sure of.
+-- The parts of a payload as they are stored one after the other, its length, and what its tests make sure of.
 use Prim.Native.Nat.{ℕ, _+_, _≤_}
 use mathlib.Core.Path.{_≡_}
 use mathlib.Core.List.{List, [], _∷_, _++_, append-assoc}

@@ -20,7 +20,7 @@ badMode mode = ltb 2 mode
 abbrev pub presenceRequest : List ℕ
 presenceRequest = 0 ∷ []
 
--- Mode, type and the byte behind it, which is a curve, a Result or a Status.
+-- Mode, type and the byte after it, which is a curve, a Result or a Status.
 abbrev pub coded : (mode connect code : ℕ) → List ℕ
 coded mode connect code = bytes16 mode ++ (connect ∷ code ∷ [])
 

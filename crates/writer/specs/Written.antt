@@ -19,6 +19,6 @@ unfoldable pub written : (bad : Bool) → (size : ℕ) → (out : List ℕ) → 
 written bad size out =
     cond (eqb (putRefusal bad size (length out)) 0) (Bytes size) (Refused (putRefusal bad size (length out)))
 
--- What its output then holds: the bytes and behind them what stood there; on a refusal all that stood there.
+-- What its output then holds: the bytes and after them what stood there; on a refusal all that stood there.
 unfoldable pub output : (bad : Bool) → (size : ℕ) → (bytes out : List ℕ) → List ℕ
 output bad size bytes out = cond (eqb (putRefusal bad size (length out)) 0) (bytes ++ drop size out) out

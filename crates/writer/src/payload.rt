@@ -95,7 +95,7 @@ pub fn write_presence_request(out: &mut [u8]) -> Written
     Written::Bytes(1)
 }
 
-// Puts mode, type and the byte behind it.
+// Puts mode, type and the byte after it.
 fn put_coded(out: &mut [u8], mode: u16, connect: u8, code: u8)
     ensures { λ _. ⌜ now (out .exit) ≡ sets (now (out .entry)) 0 (coded mode connect code) ⌝ }
 {

@@ -1,5 +1,5 @@
 -- SPDX-License-Identifier: MPL-2.0
--- The line is put behind what is written.
+-- The line is put after what is written.
 use Rattle.lines.proofs.Puts.{told}
 use borrow.Author.Needs.{needs}
 use Rattle.lines.proofs.listing.tell.Statement.{statement}

@@ -1,5 +1,5 @@
 -- SPDX-License-Identifier: MPL-2.0
--- What is told so far is of the bytes passed.
+-- What is known so far is of the bytes passed.
 use Prim.Native.Nat.{ℕ, _+_, _≤_, _<_, _-_}
 use mathlib.Core.Bool.{Bool, _&&_}
 use mathlib.Core.Path.{_≡_, sym, ap, ap₂, _∙_}
