@@ -11,7 +11,7 @@ use Rattle.hub.specs.declared.Stepped.{Stepped}
 use Rattle.state.specs.Layout.{stateSize}
 use Rattle.state.specs.State.{stateBytes}
 use Rattle.hub_c.specs.declared.connection.Said.{Said}
-use Rattle.hub_c.specs.Sizes.{tripleSize}
+use Rattle.hub_c.specs.Sizes.{answerSize}
 
 -- The words of an answer that is no refusal.
 abbrev pub words : (kind value length : ℕ) → Said
@@ -38,4 +38,4 @@ answerAfter s answer =
 
 -- The state buffer or the buffer of the answer has another size.
 abbrev pub wrongStep : (state answer : List ℕ) → Bool
-wrongStep state answer = not (eqb (length state) stateSize) || not (eqb (length answer) tripleSize)
+wrongStep state answer = not (eqb (length state) stateSize) || not (eqb (length answer) answerSize)

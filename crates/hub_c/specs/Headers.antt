@@ -16,7 +16,7 @@ use Rattle.message.specs.declared.reading.MessageRead.{MessageRead}
 use Rattle.message.specs.declared.reading.MessageRead.the-variants.{Refused, Read}
 use Rattle.joining.specs.Heard.{bit}
 use Rattle.hub_c.specs.declared.reading.Found.{Found}
-use Rattle.hub_c.specs.Sizes.{headerSize, tripleSize}
+use Rattle.hub_c.specs.Sizes.{headerSize, placeSize}
 
 -- What stands beside a refusal: the empty header and no place.
 abbrev pub nothing : ℕ → Found
@@ -46,7 +46,7 @@ handed f words = cond (eqb (f .refusal) 0) (foundWords f) words
 
 -- One of the two buffers of words has another size.
 abbrev pub wrongPlace : (header place : List ℕ) → Bool
-wrongPlace header place = not (eqb (length header) headerSize) || not (eqb (length place) tripleSize)
+wrongPlace header place = not (eqb (length header) headerSize) || not (eqb (length place) placeSize)
 
 -- The numbers of a header say that this buffer, of `room` bytes, holds the payload: 0 is the message, 1 the working buffer.
 abbrev pub holds : (buffer room which from size : ℕ) → Bool

@@ -22,9 +22,17 @@ headerSize = 11
 abbrev pub fieldsSize : ℕ
 fieldsSize = 8
 
--- The words of a place, of a cut and of an answer.
-abbrev pub tripleSize : ℕ
-tripleSize = 3
+-- The words of a place.
+abbrev pub placeSize : ℕ
+placeSize = 3
+
+-- The words of an answer.
+abbrev pub answerSize : ℕ
+answerSize = 3
+
+-- The words of a piece.
+abbrev pub pieceSize : ℕ
+pieceSize = 3
 
 -- The bytes of a line.
 abbrev pub lineSize : ℕ

@@ -1,6 +1,6 @@
 // SPDX-License-Identifier: MPL-2.0
 // Opening a connection and stepping it, in its state buffer.
-use super::words::TRIPLE;
+use super::words::ANSWER;
 use super::words::WRONG_BUFFER;
 use super::words::fill;
 use super::words::put_triple;
@@ -17,7 +17,7 @@ ghost use Rattle.hub.specs.Opening.{opened};
 ghost use Rattle.hub.specs.Step.{step, reportStepped, workingStepped};
 ghost use Rattle.state.specs.Layout.{stateSize};
 ghost use Rattle.state.specs.State.{connectionAt, stateBytes};
-ghost use Rattle.hub_c.specs.Sizes.{wrongBuffer, tripleSize, sized, kept};
+ghost use Rattle.hub_c.specs.Sizes.{wrongBuffer, answerSize, sized, kept};
 ghost use Rattle.hub_c.specs.Answered.{words, said, stateAfter, answerAfter, wrongStep};
 
 // An answer in words; the refusal is 0 where there is none, and beside a refusal all is 0.
@@ -100,7 +100,7 @@ pub extern "C" fn hub_open(fragment_size: u64, state: &mut [u8]) -> u8
 
 // Hands out what a step gives: the next state and the answer's words, or the refusal's number.
 fn settle(stepped: Stepped, state: &mut [u8], answer: &mut [u64]) -> u8
-    requires { ⌜ (length (now state) ≡ stateSize) × (length (now answer) ≡ tripleSize) ⌝ }
+    requires { ⌜ (length (now state) ≡ stateSize) × (length (now answer) ≡ answerSize) ⌝ }
     ensures { λ r. ⌜ r ≡ said (stepped .answer) .refusal ⌝ }
     ensures { λ _. ⌜ now (state .exit) ≡ stateAfter stepped (now (state .entry)) ⌝ }
     ensures { λ _. ⌜ now (answer .exit) ≡ answerAfter stepped (now (answer .entry)) ⌝ }
@@ -143,7 +143,7 @@ pub extern "C" fn hub_step(
         (answerAfter (step (connectionAt (now (state .entry))) (now (message .entry)) (now (keys .entry)) (now (working .entry))
         (now (report .entry)) verdict) (now (answer .entry))) ⌝ }
 {
-    if (state.len() != STATE) | (answer.len() != TRIPLE) {
+    if (state.len() != STATE) | (answer.len() != ANSWER) {
         return WRONG_BUFFER;
     }
     let connection = connection_of(state);

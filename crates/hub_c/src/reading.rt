@@ -4,7 +4,7 @@
 //     0      1       2          3         4       5       6         7         8        9      10
 //     | type | flags | sequence | request | index | count | session | channel | sealed | from | length
 //
-use super::words::TRIPLE;
+use super::words::PLACE;
 use super::words::WRONG_BUFFER;
 use super::words::put_three;
 use super::words::put_triple;
@@ -215,7 +215,7 @@ pub extern "C" fn hub_payload(
         (placeOf (length (now (message .entry))) (length (now (working .entry))) (getD (now (header .entry)) 8 0)
         (getD (now (header .entry)) 9 0) (getD (now (header .entry)) 10 0)) ⌝ }
 {
-    if (header.len() != HEADER) | (place.len() != TRIPLE) {
+    if (header.len() != HEADER) | (place.len() != PLACE) {
         return WRONG_BUFFER;
     }
     let found = place_of(

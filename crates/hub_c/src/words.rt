@@ -8,8 +8,12 @@ ghost use lib.Seq.{sets};
 // The number of a call that was lent a buffer of the wrong size.
 pub(crate) const WRONG_BUFFER: u8 = 255;
 
-// The words of a place, of a cut and of an answer.
-pub(crate) const TRIPLE: usize = 3;
+// The words of a place, of an answer and of a piece.
+pub(crate) const PLACE: usize = 3;
+
+pub(crate) const ANSWER: usize = 3;
+
+pub(crate) const PIECE: usize = 3;
 
 // Fills the whole of a buffer with bytes, as many as it has.
 pub(crate) fn fill(out: &mut [u8], bytes: &[u8])

@@ -6,6 +6,7 @@
 //
 use octets::stores::store_bytes;
 use rows::next;
+use seal::KEYS;
 use seal::padding::sealed_size;
 use wire::chain::bad_chain;
 use wire::header::Header;
@@ -36,9 +37,6 @@ ghost use Rattle.message.specs.Writing.{finishedLength, fieldRows, partR
 
 // The most bytes of a Session payload.
 pub const MOST_PAYLOAD: usize = 16384;
-
-// The bytes of the keys.
-const KEYS: usize = 64;
 
 // The length of a message with a chain and a payload of n bytes.
 fn finished_length(sealed: bool, chain: usize, payload: usize) -> usize

@@ -2,14 +2,14 @@
 // The arguments: KEYS F [VERDICT].
 
 // Room for the 64 key bytes, and one more, by which a longer file is known.
-pub(crate) const KEYS: usize = 65;
+pub(crate) const KEY_ROOM: usize = 65;
 
 // What the command line asks for. Where it is no good, a line on standard error has said what is wrong.
 pub(crate) struct Asked {
     pub good: bool,
     pub size: usize,
     pub verdict: u8,
-    pub keys: [u8; KEYS],
+    pub keys: [u8; KEY_ROOM],
 }
 
 // A line on standard error: what is wrong, and the usage.
@@ -24,7 +24,7 @@ fn complain(what: &[u8]) -> Asked {
         good: false,
         size: 0,
         verdict: 0,
-        keys: [0u8; KEYS],
+        keys: [0u8; KEY_ROOM],
     }
 }
 
@@ -81,7 +81,7 @@ fn verdict_asked(given: bool) -> u8 {
 }
 
 // Reads the key file, argument 1, and answers how many bytes it has, 65 for any more; 66 where it cannot be read.
-fn read_keys(keys: &mut [u8; KEYS]) -> usize {
+fn read_keys(keys: &mut [u8; KEY_ROOM]) -> usize {
     let mut path = io::buffer();
     let length = os::arg(1, &mut path);
     let file = os::open_read(&path[..length]);
@@ -103,7 +103,7 @@ pub(crate) fn read_arguments() -> Asked {
     if 1 < verdict {
         return complain(b"VERDICT is neither 0 nor 1");
     }
-    let mut keys = [0u8; KEYS];
+    let mut keys = [0u8; KEY_ROOM];
     let read = read_keys(&mut keys);
     if read == 66 {
         return complain(b"KEYS cannot be read");

@@ -6,7 +6,7 @@ mod arguments;
 mod report;
 
 use answer::put_answer;
-use arguments::KEYS;
+use arguments::KEY_ROOM;
 use arguments::read_arguments;
 use hub::Answer;
 use hub::Connection;
@@ -162,7 +162,7 @@ fn run_in(connection: Connection, keys: &[u8], verdict: u8, report: &mut [u8], r
 }
 
 // Opens the connection and runs with a report buffer for 64 pieces.
-fn run_with(size: usize, keys: &[u8; KEYS], verdict: u8, report: &mut [u8; LONGEST]) {
+fn run_with(size: usize, keys: &[u8; KEY_ROOM], verdict: u8, report: &mut [u8; LONGEST]) {
     let opened = Connection::open(size);
     let connection = opened.connection;
     let room = PIECES * least(size, 16384);

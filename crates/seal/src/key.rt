@@ -5,8 +5,6 @@ ghost use Prim.Native.Nat.{_+_, _≤_, _<_};
 ghost use lib.ListN.{length, take, drop};
 ghost use Rattle.seal.specs.Keys.{vectorBlock, vector, tagOf};
 
-pub(crate) const KEYS: usize = 64;
-
 // The sixteen bytes from `at` on.
 pub(crate) fn block_at(bytes: &[u8], at: usize) -> [u8; 16]
     requires { ⌜ at + 16 ≤ length (now bytes) ⌝ }

@@ -4,3 +4,6 @@ mod key;
 pub mod opening;
 pub mod padding;
 pub mod sealing;
+
+// How many key bytes there are.
+pub const KEYS: usize = 64;

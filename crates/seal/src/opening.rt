@@ -5,7 +5,7 @@
 //     0                start                        length - 32   length
 //
 // The first and the last block of the sealed part decide 13 in locals, so that nothing is written to the working buffer before.
-use crate::key::KEYS;
+use crate::KEYS;
 use crate::key::block_at;
 use crate::key::tag_of;
 use crate::key::vector;

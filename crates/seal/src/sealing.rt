@@ -4,7 +4,7 @@
 //     | header and chain, written before | size, payload, padding: encrypted where they stand | tag |
 //     0                                start                                                 end   end + 32
 //
-use crate::key::KEYS;
+use crate::KEYS;
 use crate::key::block_at;
 use crate::key::tag_of;
 use crate::key::vector;

@@ -30,7 +30,7 @@ walk-below t = and 1 walk-kinds.ps (falls 1 walk-kinds.ps _<_ μ-walk t) walk.Pr
 pub +walk-spec : {M : Type 1} → statement M
 +walk-spec =
     close μ-walk λ t. walk-lts.spec (read-entry-reads.Asked, read-entry-reads.Learnt, walk-below t, walk.Post) (walk-at t) walk.Post
-    (λ c κs. search needs)
+    _
     (λ c. search needs)
     (λ c. search needs)
     (λ c. end-within _ (sym (c .before .before .read-entry .ensures) ∙ c .enum-told2 .given .1))

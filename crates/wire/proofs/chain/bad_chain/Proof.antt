@@ -1,7 +1,6 @@
 -- SPDX-License-Identifier: MPL-2.0
 -- The code is the definition, with what the calls answer.
 use Rattle.wire.specs.Chain.{badChain}
-use borrow.Author.Needs.{needs}
 use Rattle.wire.proofs.chain.bad_chain.Statement.{statement}
 use Rattle.wire.proofs.chain.bad_chain.Tie as tie
 
@@ -11,4 +10,4 @@ returns c = rw (c .leaves .ensures, c .before .is-broken .ensures, c .before .be
 
 pub bad-chain-spec : {M : Type 1} → statement M
 bad-chain-spec =
-    tie.close (tie.spec (λ c κs. search needs) (λ c κs. search needs) (λ c κs. search needs) returns)
+    tie.close (tie.spec _ _ _ returns)

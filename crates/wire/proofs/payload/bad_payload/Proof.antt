@@ -1,7 +1,6 @@
 -- SPDX-License-Identifier: MPL-2.0
 -- By the test, with what `is_shaped` answers.
 use Rattle.wire.specs.Payload.{badPayload}
-use borrow.Author.Needs.{needs}
 use Rattle.wire.proofs.payload.bad_payload.Statement.{statement}
 use Rattle.wire.proofs.payload.bad_payload.Tie as tie
 
@@ -14,4 +13,4 @@ unfolding badPayload
 returns-2 c = rw (c .if1 .left)
 
 pub bad-payload-spec : {M : Type 1} → statement M
-bad-payload-spec = tie.close (tie.spec (λ c κs. search needs) returns returns-2)
+bad-payload-spec = tie.close (tie.spec _ returns returns-2)

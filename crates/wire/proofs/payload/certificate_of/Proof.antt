@@ -15,4 +15,4 @@ unfolding certificateOf
 returns-2 c = rw (← c .before .number16 .ensures) (search tests)
 
 pub certificate-of-spec : {M : Type 1} → statement M
-certificate-of-spec = tie.close (tie.spec (λ c κs. search needs) (λ c. search needs) (λ c. search needs) returns returns-2)
+certificate-of-spec = tie.close (tie.spec _ (λ c. search needs) (λ c. search needs) returns returns-2)

@@ -1,7 +1,6 @@
 -- SPDX-License-Identifier: MPL-2.0
 -- The code is the definition, with what the calls answer.
 use Rattle.wire.specs.Payload.{exchanges}
-use borrow.Author.Needs.{needs}
 use Rattle.wire.proofs.payload.exchanges.Statement.{statement}
 use Rattle.wire.proofs.payload.exchanges.Tie as tie
 
@@ -13,4 +12,4 @@ returns c =
 pub exchanges-spec : {M : Type 1} → statement M
 exchanges-spec =
     tie.close
-    (tie.spec (λ c κs. search needs) (λ c κs. search needs) (λ c κs. search needs) (λ c κs. search needs) returns)
+    (tie.spec _ _ _ _ returns)

@@ -1,14 +1,13 @@
 -- SPDX-License-Identifier: MPL-2.0
 -- The code is the definition, with what the calls answer.
 use Rattle.wire.specs.Payload.{isConnectionRequest}
-use borrow.Author.Needs.{needs}
 use Rattle.wire.proofs.payload.is_connection_request.Statement.{statement}
 use Rattle.wire.proofs.payload.is_connection_request.Tie as tie
 
 returns : tie.Need-returns
 unfolding isConnectionRequest
-returns c = cc
+returns c = rw (c .exchanges .ensures, c .before .byte .ensures, c .before .before .starts .ensures)
 
 pub is-connection-request-spec : {M : Type 1} → statement M
 is-connection-request-spec =
-    tie.close (tie.spec (λ c κs. search needs) (λ c κs. search needs) (λ c κs. search needs) returns)
+    tie.close (tie.spec _ _ _ returns)

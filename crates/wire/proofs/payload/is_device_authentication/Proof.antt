@@ -12,5 +12,5 @@ returns c = rw (c .starts .ensures, c .before .number162 .ensures, c .before .be
 pub is-device-authentication-spec : {M : Type 1} → statement M
 is-device-authentication-spec =
     tie.close (tie.spec
-    (λ c κs. search needs) (λ c. search needs) (λ c. search needs) (λ c κs. search needs) (λ c. search needs)
-    (λ c. search needs) (λ c. search needs) (λ c. search needs) (λ c κs. search needs) returns)
+    _ (λ c. search needs) (λ c. search needs) _ (λ c. search needs)
+    (λ c. search needs) (λ c. search needs) (λ c. search needs) _ returns)

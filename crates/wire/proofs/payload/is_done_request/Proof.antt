@@ -1,13 +1,12 @@
 -- SPDX-License-Identifier: MPL-2.0
 -- The code is the definition, with what the calls answer.
 use Rattle.wire.specs.Payload.{isDoneRequest}
-use borrow.Author.Needs.{needs}
 use Rattle.wire.proofs.payload.is_done_request.Statement.{statement}
 use Rattle.wire.proofs.payload.is_done_request.Tie as tie
 
 returns : tie.Need-returns
 unfolding isDoneRequest
-returns c = cc
+returns c = rw (c .starts .ensures)
 
 pub is-done-request-spec : {M : Type 1} → statement M
-is-done-request-spec = tie.close (tie.spec (λ c κs. search needs) returns)
+is-done-request-spec = tie.close (tie.spec _ returns)

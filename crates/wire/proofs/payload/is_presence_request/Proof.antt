@@ -1,13 +1,12 @@
 -- SPDX-License-Identifier: MPL-2.0
 -- The code is the definition, with what the calls answer.
 use Rattle.wire.specs.Payload.{isPresenceRequest}
-use borrow.Author.Needs.{needs}
 use Rattle.wire.proofs.payload.is_presence_request.Statement.{statement}
 use Rattle.wire.proofs.payload.is_presence_request.Tie as tie
 
 returns : tie.Need-returns
 unfolding isPresenceRequest
-returns c = cc
+returns c = rw (c .byte .ensures)
 
 pub is-presence-request-spec : {M : Type 1} → statement M
-is-presence-request-spec = tie.close (tie.spec (λ c κs. search needs) returns)
+is-presence-request-spec = tie.close (tie.spec _ returns)

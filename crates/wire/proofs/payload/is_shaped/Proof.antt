@@ -2,16 +2,27 @@
 -- The code joins the rows of the list, without the list's end.
 use Rattle.laws.proofs.Bools.{or-assoc, or-none}
 use Rattle.wire.specs.Payload.{isShaped}
-use borrow.Author.Needs.{needs}
 use Rattle.wire.proofs.payload.is_shaped.Statement.{statement}
 use Rattle.wire.proofs.payload.is_shaped.Tie as tie
 
 returns : tie.Need-returns
 unfolding isShaped
-returns c = simp (or-assoc, or-none) (cc)
+returns c =
+    let done = c .before in
+    let response = done .before .before in
+    let request = response .before .before in
+    simp (or-assoc, or-none) (rw (
+      c .is-done-response .ensures,
+      done .is-done-request .ensures,
+      done .before .is-device-authentication2 .ensures,
+      response .is-device-authentication .ensures,
+      response .before .is-connection-response .ensures,
+      request .is-connection-request .ensures,
+      request .before .is-presence-request .ensures,
+    ))
 
 pub is-shaped-spec : {M : Type 1} → statement M
 is-shaped-spec =
     tie.close (tie.spec
-    (λ c κs. search needs) (λ c κs. search needs) (λ c κs. search needs) (λ c κs. search needs) (λ c κs. search needs)
-    (λ c κs. search needs) (λ c κs. search needs) returns)
+    _ _ _ _ _
+    _ _ returns)
