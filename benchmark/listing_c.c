@@ -13,8 +13,8 @@ static uint32_t number(const uint8_t *at, int bytes)
     return all;
 }
 
-/* The place behind the chain, or 0. */
-static size_t behind_chain(size_t end)
+/* The place after the chain, or 0. */
+static size_t after_chain(size_t end)
 {
     size_t at = 40;
     for (int entries = 0; at + 2 <= end; entries++) {
@@ -47,14 +47,14 @@ static int refusal(size_t n)
         return 6;
     if (count == 0 || count > 64 || index >= count || (count != 1 && type != 4))
         return 7;
-    size_t end = sealed ? (n < 74 ? 0 : n - 32) : n, from = behind_chain(end);
+    size_t end = sealed ? (n < 74 ? 0 : n - 32) : n, from = after_chain(end);
     if (from == 0)
         return 8;
     return sealed && (end == from || (end - from) % 16 != 0) ? 9 : 0;
 }
 
-/* A number in decimal and the byte behind it; answers the place behind them. */
-static char *put(char *at, uint32_t value, char behind)
+/* A number in decimal and the byte after it; answers the place after them. */
+static char *put(char *at, uint32_t value, char after)
 {
     char digits[10];
     int n = 0;
@@ -63,7 +63,7 @@ static char *put(char *at, uint32_t value, char behind)
     while ((value /= 10) != 0);
     while (n > 0)
         *at++ = digits[--n];
-    *at++ = behind;
+    *at++ = after;
     return at;
 }
 

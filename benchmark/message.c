@@ -63,8 +63,8 @@ size_t seal(const struct peer *peer, const struct fields *fields, const uint8_t 
     return whole;
 }
 
-/* The place behind the chain, or 0. */
-static size_t behind_chain(const uint8_t *message, size_t end)
+/* The place after the chain, or 0. */
+static size_t after_chain(const uint8_t *message, size_t end)
 {
     size_t at = HEADER;
     for (int entries = 0; at + 2 <= end; entries++) {
@@ -90,7 +90,7 @@ static size_t sealed_part(const uint8_t *message, size_t n, struct fields *field
     fields->channel = number(message + 32, 8);
     if (flags > 15 || (flags & 6) != 6 || fields->count == 0 || fields->count > 64 || fields->index >= fields->count)
         return 0;
-    size_t from = behind_chain(message, n - TAG);
+    size_t from = after_chain(message, n - TAG);
     return from == 0 || from == n - TAG || (n - TAG - from) % 16 != 0 ? 0 : from;
 }
 

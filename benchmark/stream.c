@@ -20,7 +20,7 @@ static void put(uint8_t *at, uint32_t number, int bytes)
     }
 }
 
-/* Up to two entries and the end; answers the place behind it. */
+/* Up to two entries and the end; answers the place after it. */
 static size_t put_chain(uint8_t *message)
 {
     size_t at = 40;

@@ -32,7 +32,7 @@
  * a gateway is the 151 bytes that hub_open writes and hub_step changes. They may be copied, stored, sent, or compared with memcmp. So any
  * calls may run at the same time in different threads, as long as none writes a buffer that another uses.
  *
- * Every buffer is two parameters, a pointer and behind it the number of its elements (x and x_n): bytes, or words of 64 bits where the type
+ * Every buffer is two parameters, a pointer and after it the number of its elements (x and x_n): bytes, or words of 64 bits where the type
  * is uint64_t. The caller promises, as everywhere in C, that so many elements are there, that words are aligned, and that a buffer that a call
  * writes overlaps no other buffer of the call. That is the only thing that the caller has to promise: every content is allowed, every number and
  * every size; random bytes in place of a connection, a message or keys are defined behaviour and are answered. A buffer of no elements is not looked
@@ -168,7 +168,7 @@ enum hub_type { HUB_TYPE_DISCOVERY = 1, HUB_TYPE_CONNECT = 2, HUB_TYPE_SESSION =
 /* MessageFlags. A message is sealed where both bits of HUB_SEAL are set. */
 enum hub_flag { HUB_FLAG_ACKNOWLEDGE = 1, HUB_FLAG_HMAC = 2, HUB_FLAG_ENCRYPTED = 4, HUB_SEAL = 6, HUB_FLAG_WAKE = 8 };
 
-/* The types of Connect payloads: the byte behind ConnectionMode. */
+/* The types of Connect payloads: the byte after ConnectionMode. */
 enum hub_connect {
     HUB_CONNECTION_REQUEST = 0,
     HUB_CONNECTION_RESPONSE = 1,

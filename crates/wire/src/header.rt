@@ -67,7 +67,7 @@ impl Header {
     // The first two bytes of every message.
     pub const SIGNATURE: u16 = 0x3030;
 
-    // Where each field stands, in the order of document 01's table. The wider a number, the narrower the type of its place (see numbers.rt).
+    // Where each field stands, in the order of document 01's table. The wider a number, the narrower the type of its place (see octets' numbers).
     pub const SIGNATURE_AT: u32 = 0;
 
     pub const LENGTH_AT: u32 = 2;

@@ -14,7 +14,7 @@ use second::header::Header;
 
 use crate::hub_h::Hub;
 
-/// The fuzzer's bytes, read from the front; behind their end all is zero.
+/// The fuzzer's bytes, read from the front; after their end all is zero.
 struct Tape<'a>(&'a [u8]);
 
 impl Tape<'_> {

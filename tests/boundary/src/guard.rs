@@ -27,7 +27,7 @@ const PRIVATE_AND_ANONYMOUS: c_int = 0x22;
 const GUARD: u8 = 0xD7;
 const GUARDS: usize = 64;
 
-/// Room for one buffer, behind which a page cannot be touched.
+/// Room for one buffer, after which a page cannot be touched.
 pub struct Room {
     end: *mut u8,
     size: usize,
@@ -50,7 +50,7 @@ impl Room {
         }
     }
 
-    /// Puts bytes so that they end at the page, behind guard bytes; answers where they start. Of no
+    /// Puts bytes so that they end at the page, after guard bytes; answers where they start. Of no
     /// bytes the pointer is now and then null.
     pub fn lend(&mut self, bytes: &[u8]) -> *mut u8 {
         self.turns = self.turns.wrapping_add(1);
@@ -87,7 +87,7 @@ impl Room {
         }
     }
 
-    /// Reads the byte behind what was lent, which ends the program.
+    /// Reads the byte after what was lent, which ends the program.
     pub fn touch(&self) -> u8 {
         // SAFETY: none; the processor refuses it.
         unsafe { self.end.read_volatile() }

@@ -172,7 +172,7 @@ impl Implementation for Hub {
         let (mut line, mut length) = ([0xA5; 64], [BEFORE]);
         let answer = refusal(Hub::list(self, message, &mut line, &mut length));
         let (text, rest) = line.split_at(fits(length[0]));
-        assert!(rest.iter().all(|byte| *byte == 0xA5), "written behind the line");
+        assert!(rest.iter().all(|byte| *byte == 0xA5), "written after the line");
         let text = str::from_utf8(text).expect("ASCII").strip_suffix('\n').expect("a newline");
         match answer {
             Ok(()) => Ok(text.to_owned()),

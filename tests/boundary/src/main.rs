@@ -6,7 +6,7 @@
 //! boundary round SEED ROUND  one round again, to look at a difference
 //! boundary sweeps            the boundary cases of CASES.md alone
 //! boundary seeds FOLDER      writes what libFuzzer starts from
-//! boundary touch             reads one byte behind a buffer: that must end it
+//! boundary touch             reads one byte after a buffer: that must end it
 
 use std::io::Write;
 use std::panic::{AssertUnwindSafe, catch_unwind};

@@ -14,7 +14,7 @@ pub enum Fault {
     Flip,
     /// Cut short.
     Cut,
-    /// Bytes behind its end.
+    /// Bytes after its end.
     Append,
     /// Another signature.
     Signature,
