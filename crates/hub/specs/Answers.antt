@@ -5,7 +5,8 @@ use mathlib.Core.Bool.{Bool, true, false}
 use Rattle.hub.specs.declared.Answer.{Answer}
 use Rattle.hub.specs.declared.Answer.the-variants.{Refused, Reply, Again, Failure, Taken, Repeat, Complete}
 use Rattle.joining.specs.declared.Arrival.{Arrival}
-use Rattle.joining.specs.declared.Arrival.the-variants.{Refused as refusedPiece, Taken as takenPiece, Repeat as repeatedPiece, Complete as completePiece}
+use Rattle.joining.specs.declared.Arrival.the-variants.{Refused as refusedPiece, Taken as takenPiece, Repeat as repeatedPiece}
+use Rattle.joining.specs.declared.Arrival.the-variants.{Complete as completePiece}
 
 -- The numbers that an answer carries; one that its case does not have is 0.
 pub record Values : Type 0 where

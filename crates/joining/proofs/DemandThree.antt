@@ -22,7 +22,8 @@ use Rattle.joining.specs.declared.Arrival.the-variants.{Refused, Taken, 
 use Rattle.joining.specs.Heard.{most, tally, come, has, mark, none}
 use Rattle.joining.specs.Join.{expecting, join, reportAfter}
 use Rattle.joining.proofs.HeardLaws.{come-mark, come-full, full-come}
-use Rattle.joining.proofs.Snapshot.{Start, Startable, Lawful, pieceOf, pieceBytes, heldAt, byteAt, bufferAt, listed-length, none-lawful, held-none, buffer-none, whole}
+use Rattle.joining.proofs.Snapshot.{Start, Startable, Lawful, pieceOf, pieceBytes, heldAt, byteAt, bufferAt, listed-length, none-lawful}
+use Rattle.joining.proofs.Snapshot.{held-none, buffer-none, whole}
 use Rattle.joining.proofs.SnapshotBuffer.{mark-lawful}
 use Rattle.joining.proofs.PieceArrives.{answerAt, arrives}
 use Rattle.joining.specs.Events.{Event, piece, between, came, LastMissing}

@@ -9,7 +9,8 @@ use lib.Dec.{eqb, ltb, leb}
 use lib.ListN.{length}
 use Rattle.laws.specs.Rows.{first}
 use Rattle.laws.specs.Same.{same}
-use Rattle.wire.specs.Refusals.{wrongPiece, pastSequence, futureSequence, lastSequence, wrongPieceSize, unlikeFirstPiece, noRoom, unlikeRepeat, wrongFragmentSize}
+use Rattle.wire.specs.Refusals.{wrongPiece, pastSequence, futureSequence, lastSequence, wrongPieceSize, unlikeFirstPiece, noRoom, unlikeRepeat}
+use Rattle.wire.specs.Refusals.{wrongFragmentSize}
 use Rattle.joining.specs.declared.Progress.{Progress}
 use Rattle.joining.specs.declared.Piece.{Piece}
 use Rattle.joining.specs.declared.Joined.{Joined}

@@ -31,7 +31,8 @@ use Rattle.message.specs.declared.reading.MessageRead.the-variants as read
 use Rattle.joining.specs.Cut.{cutRefusal}
 use Rattle.hub.specs.declared.Answer.the-variants.{Refused}
 use Rattle.promises.specs.Examples.{numberOf}
-use Rattle.promises.specs.Refusals.{AreBytes, sealed, start, headerTable, payloadIn, sealedTable, openingTable, readerTable, _⇔_, ReaderExact, cutTable, CutterExact, writerTable, WriterExact}
+use Rattle.promises.specs.Refusals.{AreBytes, sealed, start, headerTable, payloadIn, sealedTable, openingTable, readerTable, _⇔_, ReaderExact}
+use Rattle.promises.specs.Refusals.{cutTable, CutterExact, writerTable, WriterExact}
 
 -- A table's answer is n if and only if row n is the first that applies.
 exact : (rows : List (ℕ × Bool)) (n : ℕ) → (n ≡ 0 → ⊥) → (first rows ≡ n) ⇔ leads n rows

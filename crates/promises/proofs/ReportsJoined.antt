@@ -15,7 +15,8 @@ use Rattle.joining.proofs.HeardCount.{all-told, told-again, told-taken}
 use Rattle.joining.proofs.DemandThree.{Machine, only-the-set, handed-out, as-sent, at-no-other, late-copy}
 use Rattle.hub.specs.declared.Answer.the-variants.{Refused, Reply, Again, Failure, Taken, Repeat, Complete}
 use Rattle.hub.proofs.StepMachine.{Brings, hub}
-use Rattle.promises.specs.Reports.{Sending, began, fragments, Fair, fragment, headerFor, Sent, Course, done, brings, rests, OnlyWhatCame, HandedOut, Brought, DemandThree, NotBetween}
+use Rattle.promises.specs.Reports.{Sending, began, fragments, Fair, fragment, headerFor, Sent, Course, done, brings, rests, OnlyWhatCame}
+use Rattle.promises.specs.Reports.{HandedOut, Brought, DemandThree, NotBetween}
 use Rattle.promises.proofs.ReadBack.{reads-back}
 use Rattle.joining.specs.Events.{Event, piece, LastMissing}
 use Rattle.hub.specs.Calls.{Call, Standing}

@@ -7,7 +7,8 @@ use lib.ListN.{length, take, drop}
 use lib.Dec.{ltb, eqb}
 use Rattle.laws.specs.Bytes.{be8, be16, be32, be64}
 use Rattle.laws.specs.Rows.{first}
-use Rattle.wire.specs.Refusals.{tooShort, wrongSignature, wrongLength, wrongVersion, wrongType, wrongFlags, wrongPiece, wrongChain, wrongSealedSize}
+use Rattle.wire.specs.Refusals.{tooShort, wrongSignature, wrongLength, wrongVersion, wrongType, wrongFlags, wrongPiece, wrongChain}
+use Rattle.wire.specs.Refusals.{wrongSealedSize}
 use Rattle.wire.specs.Fields.{badType, badFlags, badPiece, isSealed, tagSize}
 use Rattle.wire.specs.Chain.{readChain, leaves, isBroken}
 use Rattle.wire.specs.declared.chain.Chain.{Chain}
