@@ -107,7 +107,8 @@ module _ (c : Connection) (sized : badSize (c .size) ≡ false) (h : Header) (p 
         (request k (rw (same-refl (r .nonce), same-refl (r .x), same-refl (r .y))))) t e
     connect-replied _ (passes k s) t e =
         let d = digest (certificate p) in
-        as-told (withDigestAndState c d 2) 3 (known _ 3 refl (ours (omega arith)) (omega arith) (omega arith) (device k (omega arith) (same-refl d))) t e
+        as-told (withDigestAndState c d 2) 3
+        (known _ 3 refl (ours (omega arith)) (omega arith) (omega arith) (device k (omega arith) (same-refl d))) t e
     connect-replied _ (finishes k s) t e =
         as-told (withDigestAndState c (c .digest) 3) 7 (known _ 7 refl (ours (omega arith)) (omega arith) (omega arith) (finish k refl)) t e
 

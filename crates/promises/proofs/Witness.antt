@@ -104,7 +104,8 @@ emptyCall = record { message = []; keys = []; working = []; verdict = 0 }
 nothing-refused : (p : Standing) → isQuiet (answer p emptyCall) ≡ true
 unfolding readMessage readHeader refusalOf refusalWith rowsOf headerRows
 nothing-refused p =
-    step-tests (p .connection) [] [] [] (p .report) 0 (λ (s : Stepped) (b : List ℕ). isQuiet (s .answer) ≡ true) (λ t. refl) (λ t z. refl) (λ t z. refl)
+    step-tests (p .connection) [] [] [] (p .report) 0 (λ (s : Stepped) (b : List ℕ). isQuiet (s .answer) ≡ true)
+    (λ t. refl) (λ t z. refl) (λ t z. refl)
 
 -- Fragment 2, something between, then 0 and 2 again.
 abbrev pub before : List Call

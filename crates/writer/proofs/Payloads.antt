@@ -21,7 +21,8 @@ unfolding exchangeBytes
 exchange-stored r = regroup (bytes16 32) (r .nonce) (bytes32 16384) (bytes16 32) (r .x) (bytes16 32) (r .y)
 
 module _ (connect mode : ℕ) (certificate thumbprint : List ℕ) where
-  pub device-stored : ((((bytes16 mode ++ (connect ∷ [])) ++ bytes16 (length certificate)) ++ certificate) ++ bytes16 (length thumbprint)) ++ thumbprint
+  pub device-stored : ((((bytes16 mode ++ (connect ∷ [])) ++ bytes16 (length certificate)) ++ certificate) ++ bytes16 (length thumbprint))
+      ++ thumbprint
       ≡ deviceAuthentication connect mode certificate thumbprint
   unfolding deviceAuthentication
   device-stored = simp append-assoc
