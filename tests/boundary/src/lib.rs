@@ -3,7 +3,7 @@
 //!
 //! [`hub_h`] has the calls of include/hub.h on guarded memory ([`guard`]), [`state`] the connection's
 //! bytes; [`hub`] gives them to the second implementation's comparison, [`wrapper`] does so for
-//! host/rust. [`sizes`] tests what the comparison does not reach, [`samples`] a fault at every n,
+//! host/rust. [`sizes`] tests what the comparison does not reach, [`samples`] a fault at every place,
 //! [`sweeps`] the boundary cases of CASES.md, [`fuzz`] whatever libFuzzer comes up with.
 
 #![deny(unsafe_code)]

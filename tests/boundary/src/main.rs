@@ -136,7 +136,7 @@ fn every_sweep() {
     println!("boundary: all {cases} cases of {sweeps} sweeps alike");
 }
 
-/// The whole test: so many rounds, a fault at every n, the sweeps, wrong sizes, the wrapper.
+/// The whole test: so many rounds, a fault at every place, the sweeps, wrong sizes, the wrapper.
 fn test(rounds: u64) {
     let mut comparison = Comparison::new(Hub::default());
     constants(&comparison.other);
@@ -157,9 +157,9 @@ fn test(rounds: u64) {
         4 * rounds
     );
     let mut faults = Comparison::new(Hub::default());
-    let messages = agree("a fault at every n", || samples::every_fault(&mut faults));
+    let messages = agree("a fault at every place", || samples::every_fault(&mut faults));
     println!(
-        "boundary: a fault at every n of {messages} sample messages: {} steps and {} writes alike",
+        "boundary: a fault at every place of {messages} sample messages: {} steps and {} writes alike",
         faults.tally.steps, faults.tally.writes
     );
     every_sweep();

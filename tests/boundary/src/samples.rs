@@ -1,5 +1,6 @@
 // SPDX-License-Identifier: MPL-2.0
-//! A fault at every n of the sample messages.
+//! A fault at every place of the sample messages: cut at every length, every bit flipped, every
+//! buffer at every size up to its own.
 
 use std::fs;
 use std::path::Path;

@@ -278,7 +278,7 @@ impl<I: Implementation> Comparison<I> {
         Ok(())
     }
 
-    /// A fault at every n: the message cut at every length, every bit of it flipped, keys, working
+    /// A fault at every place: the message cut at every length, every bit of it flipped, keys, working
     /// buffer and report buffer at every size from none to what the case has.
     pub fn every_fault(&mut self, case: &Case) -> Result<(), Difference> {
         let mut faulty = Vec::new();

@@ -23,9 +23,9 @@ fn it_agrees_with_itself() {
     assert!(steps > 10_000);
 }
 
-/// A fault at every n on each kind of message, in the state that waits for it.
+/// A fault at every place on each kind of message, in the state that waits for it.
 #[test]
-fn a_fault_at_every_n() {
+fn a_fault_at_every_place() {
     let gateway = common::gateway();
     let [request, authentication, done] = gateway.enrolment().map(|(draft, _)| draft);
     let piece = gateway.piece(0, 1, 3, b"a piece!");
