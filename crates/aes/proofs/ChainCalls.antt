@@ -10,7 +10,7 @@ use lib.Dec.{eqb, leb}
 use lib.ListN.{getD, length, take, drop}
 use lib.Seq.{paste, length-paste, take-all, take-at, drop-at, drop-length}
 use Rattle.laws.proofs.Bools.{and-true}
-use Rattle.field.proofs.Below.{agree}
+use Rattle.laws.proofs.Below.{agree}
 use Rattle.aes.specs.declared.columns.State.{State}
 use Rattle.aes.specs.State.{addRoundKey}
 use Rattle.aes.specs.Words.{bytesOf}
@@ -78,7 +78,7 @@ abbrev zeros : List ℕ
 zeros = 0 ∷ 0 ∷ 0 ∷ 0 ∷ 0 ∷ 0 ∷ 0 ∷ 0 ∷ 0 ∷ 0 ∷ 0 ∷ 0 ∷ 0 ∷ 0 ∷ 0 ∷ 0 ∷ []
 
 zero-at : (i : ℕ) → i < 16 → getD zeros i 0 ≡ 0
-zero-at = agree (λ i. getD zeros i 0) (λ i. 0) 16 tt
+zero-at = agree (λ i. getD zeros i 0) (λ i. 0) 16 refl
 
 pub one-encrypted : (ks : List (List ℕ)) (b r : List ℕ) → length b ≡ 16 → r ≡ cond (eqb (length b % 16) 0) (cbcEncrypt ks zeros b) b → r ≡ cipher ks b
 unfolding cbcEncrypt chain cbcEncryptBlock

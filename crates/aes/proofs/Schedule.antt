@@ -7,11 +7,11 @@ use native.Mathlib.Numerals.{add-one}
 use native.Mathlib.Omega.{arith}
 use lib.Dec.{lit<}
 use lib.ListN.{getD, length}
-use Rattle.field.specs.Runs.{run}
+use Rattle.laws.specs.Runs.{run}
 use Rattle.field.specs.Xor.{xor}
 use Rattle.field.specs.Field.{xtime}
 use Rattle.field.specs.Sbox.{sbox}
-use Rattle.field.proofs.Runs.{run-from-zero, Filled}
+use Rattle.laws.proofs.Runs.{run-from-zero, Filled}
 use Rattle.field.proofs.Xor.{byte}
 use Rattle.field.proofs.Linear.{xtime-byte}
 use Rattle.field.proofs.Sbox.{sbox-byte}
@@ -30,8 +30,8 @@ unfolding roundKey
 key-more key n x k r ek ex er = rw add-one (cc)
 
 -- the key itself is the first
-pub first-key : (f : ℕ → List ℕ) (x : List ℕ) (xs : List (List ℕ)) → length (x ∷ xs) ≡ 11 → x ≡ f 0 → Filled 11 [] f (x ∷ xs) 1
-first-key f x xs l e = record { upto = omega arith; len = l; done = here }
+pub first-key : (f : ℕ → List ℕ) (x : List ℕ) (xs : List (List ℕ)) → length (x ∷ xs) ≡ 11 → x ≡ f 0 → Filled 11 [] (λ i k. k ≡ f i) (x ∷ xs) 1
+first-key f x xs l e = record { len = l; done = here }
   where
     here : (k : ℕ) → k < 1 → getD (x ∷ xs) k [] ≡ f k
     here k h = let z : k ≡ 0 = omega arith in ap (λ (j : ℕ). getD (x ∷ xs) j []) z ∙ e ∙ ap f (sym z)

@@ -7,7 +7,7 @@ use native.Mathlib.Omega.{arith}
 use lib.Bits.{xor-mod, xor-shr}
 use lib.ListN.{getD}
 use Rattle.laws.proofs.ByteLists.{AllBytes, nil-bytes, cons-bytes, append-bytes}
-use Rattle.field.specs.Runs.{run}
+use Rattle.laws.specs.Runs.{run}
 use Rattle.field.specs.Xor.{xor}
 use Rattle.field.specs.Words.{word}
 use Rattle.field.proofs.Words.{byte0, byte1, byte2, byte3}

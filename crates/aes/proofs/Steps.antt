@@ -6,12 +6,12 @@ use Prim.Native.Nat.{ℕ, _<_}
 use native.Mathlib.Omega.{arith}
 use lib.Dec.{lit<}
 use lib.ListN.{getD, length}
-use Rattle.field.specs.Runs.{run}
+use Rattle.laws.specs.Runs.{run}
 use Rattle.field.specs.Xor.{xor}
 use Rattle.field.specs.Sbox.{invSbox}
 use Rattle.field.specs.Mix.{row, mixed, unmixed}
-use Rattle.field.proofs.Below.{agree, bounded}
-use Rattle.field.proofs.Runs.{run-length, run-from-zero, run-is}
+use Rattle.laws.proofs.Below.{agree, bounded}
+use Rattle.laws.proofs.Runs.{run-length, run-from-zero, run-is}
 use Rattle.field.proofs.Xor.{byte, cancel, zero-r}
 use Rattle.field.proofs.Sbox.{sbox-byte, invSbox-byte, invSbox-sbox}
 use Rattle.field.proofs.Mix.{mixed-byte, unmixed-byte, unmixed-mixed, row-xor}
@@ -77,15 +77,15 @@ unsub-sub s b = block-is _ s (b .len) (λ i h. ap invSbox (block-at _ i h) ∙ i
 
 shifted-lt : (i : ℕ) → i < 16 → shifted i < 16
 unfolding shifted
-shifted-lt = bounded shifted 16 16 tt
+shifted-lt = bounded shifted 16 16 refl
 
 unshifted-lt : (i : ℕ) → i < 16 → unshifted i < 16
 unfolding unshifted
-unshifted-lt = bounded unshifted 16 16 tt
+unshifted-lt = bounded unshifted 16 16 refl
 
 shifted-unshifted : (i : ℕ) → i < 16 → shifted (unshifted i) ≡ i
 unfolding shifted unshifted
-shifted-unshifted = agree (λ i. shifted (unshifted i)) (λ i. i) 16 tt
+shifted-unshifted = agree (λ i. shifted (unshifted i)) (λ i. i) 16 refl
 
 pub shift-block : (s : List ℕ) → Block s → Block (shiftRows s)
 unfolding shiftRows

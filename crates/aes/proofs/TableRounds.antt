@@ -6,12 +6,12 @@ use mathlib.Core.List.{List}
 use Prim.Native.Nat.{ℕ, _/_, _%_, _<_}
 use native.Mathlib.Omega.{arith}
 use lib.ListN.{getD}
-use Rattle.field.specs.Runs.{run, table}
+use Rattle.laws.specs.Runs.{run, table}
 use Rattle.field.specs.Xor.{xor}
 use Rattle.field.specs.Sbox.{sbox, invSbox}
 use Rattle.field.specs.Mix.{mixed, unmixed}
 use Rattle.field.specs.Words.{word, column, Mixes}
-use Rattle.field.proofs.Runs.{table-at}
+use Rattle.laws.proofs.Runs.{table-at}
 use Rattle.field.proofs.Sbox.{sbox-byte, invSbox-byte, invSbox-sbox}
 use Rattle.field.proofs.Words.{words, byte0, byte1, byte2, byte3, looked-up}
 use Rattle.aes.specs.declared.columns.State.{State}

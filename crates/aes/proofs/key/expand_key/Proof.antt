@@ -4,7 +4,7 @@ use native.Mathlib.Omega.{arith}
 use mathlib.Core.Path.{_≡_, refl}
 use mathlib.Core.List.{[]}
 use Prim.Native.Nat.{_+_, _-_, _≤_}
-use Rattle.field.proofs.Runs.{Filled, fill-more, fill-all}
+use Rattle.laws.proofs.Runs.{Filled, fill-more, fill-all}
 use Rattle.aes.specs.Key.{rcon, roundKey, expandKey}
 use Rattle.aes.proofs.Schedule.{rcon-more, key-more, first-key}
 use borrow.Author.Needs.{needs}
@@ -12,7 +12,7 @@ use Rattle.aes.proofs.key.expand_key.Statement.{statement}
 use Rattle.aes.proofs.key.expand_key.Tie as tie
 
 abbrev Inv-loop : tie.InvT-loop
-Inv-loop sb keys₀ k₀ c₀ n₀ keys k c n = (n ≤ 10) × Filled 11 [] (roundKey k₀) keys (n + 1) × (k ≡ roundKey k₀ n) × (c ≡ rcon n)
+Inv-loop sb keys₀ k₀ c₀ n₀ keys k c n = (n ≤ 10) × Filled 11 [] (λ i k. k ≡ roundKey k₀ i) keys (n + 1) × (k ≡ roundKey k₀ n) × (c ≡ rcon n)
 
 abbrev μ-loop : tie.MeasureT-loop
 μ-loop sb keys₀ k₀ c₀ n₀ keys k c n = 10 - n
