@@ -47,7 +47,5 @@ returns c =
 pub decrypt-pair-spec : {M : Type 1} → statement M
 decrypt-pair-spec =
     tie.close (tie.spec
-    Inv-loop μ-loop (λ c. search needs) (λ c κs. search needs) (λ c κs. search needs) (λ c κs. search needs)
-    loop-holds (λ c. search needs) (λ c. search needs) (λ c κs. search needs) (λ c κs. search needs)
-    (λ c κs. search needs) (λ c. search needs) (λ c. search needs) loop-again (λ c. search needs)
-    (λ c κs. search needs) (λ c κs. search needs) (λ c κs. search needs) returns)
+    Inv-loop μ-loop (λ c. search needs) _ _ _ loop-holds (λ c. search needs) (λ c. search needs) _ (λ c κs. search needs) (λ c κs. search needs)
+    (λ c. search needs) (λ c. search needs) loop-again (λ c. search needs) _ (λ c κs. search needs) (λ c κs. search needs) returns)

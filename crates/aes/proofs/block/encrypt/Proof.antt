@@ -37,6 +37,5 @@ returns c =
 pub encrypt-spec : {M : Type 1} → statement M
 encrypt-spec =
     tie.close (tie.spec
-    Inv-loop μ-loop (λ c. search needs) (λ c κs. search needs) (λ c κs. search needs) loop-holds (λ c. search needs)
-    (λ c. search needs) (λ c. search needs) (λ c κs. search needs) (λ c κs. search needs) (λ c. search needs)
-    (λ c. search needs) loop-again (λ c. search needs) (λ c κs. search needs) (λ c κs. search needs) returns)
+    Inv-loop μ-loop (λ c. search needs) _ _ loop-holds (λ c. search needs) (λ c. search needs) (λ c. search needs) _ (λ c κs. search needs)
+    (λ c. search needs) (λ c. search needs) loop-again (λ c. search needs) _ (λ c κs. search needs) returns)

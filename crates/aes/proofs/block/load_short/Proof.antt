@@ -27,7 +27,4 @@ unfolding loadBlock block
 returns c = fill-all _ _ _ _ _ (c .before .loop .inv) (c .loop-test .left)
 
 pub load-short-spec : {M : Type 1} → statement M
-load-short-spec =
-    tie.close (tie.spec
-    Inv-loop μ-loop loop-holds (λ c κs. search needs) (λ c. search needs) (λ c. search needs) (λ c. search needs)
-    loop-again returns)
+load-short-spec = tie.close (tie.spec Inv-loop μ-loop loop-holds _ (λ c. search needs) (λ c. search needs) (λ c. search needs) loop-again returns)

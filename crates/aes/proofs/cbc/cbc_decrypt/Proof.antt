@@ -32,7 +32,4 @@ returns-2 c =
     (at-if .if1 .left) (at-blocks .decrypt-blocks .ensures) (at-words .words .ensures)
 
 pub cbc-decrypt-spec : {M : Type 1} → statement M
-cbc-decrypt-spec =
-    tie.close (tie.spec
-    (λ c κs. search needs) returns (λ c κs. search needs) (λ c κs. search needs) (λ c κs. search needs)
-    (λ c κs. search needs) (λ c κs. search needs) decrypt-blocks-requires (λ c. search needs) returns-2)
+cbc-decrypt-spec = tie.close (tie.spec _ returns _ _ _ (λ c κs. search needs) _ decrypt-blocks-requires (λ c. search needs) returns-2)

@@ -26,7 +26,5 @@ returns c =
 pub cbc-decrypt-ends-spec : {M : Type 1} → statement M
 cbc-decrypt-ends-spec =
     tie.close (tie.spec
-    (λ c. search needs) (λ c κs. search needs) (λ c. search needs) (λ c κs. search needs) (λ c. search needs)
-    (λ c. search needs) (λ c κs. search needs) (λ c. search needs) (λ c. search needs) (λ c. search needs)
-    (λ c κs. search needs) (λ c κs. search needs) (λ c. search needs) (λ c κs. search needs) (λ c κs. search needs)
-    returns)
+    (λ c. search needs) (λ c κs. search needs) (λ c. search needs) (λ c κs. search needs) (λ c. search needs) (λ c. search needs) _
+    (λ c. search needs) (λ c. search needs) (λ c. search needs) (λ c κs. search needs) _ (λ c. search needs) (λ c κs. search needs) _ returns)

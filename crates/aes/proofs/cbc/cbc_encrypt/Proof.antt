@@ -38,6 +38,4 @@ returns-2 c =
 
 pub cbc-encrypt-spec : {M : Type 1} → statement M
 cbc-encrypt-spec =
-    tie.close (tie.spec
-    (λ c κs. search needs) returns copy-requires (λ c. search needs) (λ c. search needs)
-    part-cbc-encrypt-in-place-end (λ c κs. search needs) (λ c. search needs) returns-2)
+    tie.close (tie.spec _ returns copy-requires (λ c. search needs) (λ c. search needs) part-cbc-encrypt-in-place-end _ (λ c. search needs) returns-2)

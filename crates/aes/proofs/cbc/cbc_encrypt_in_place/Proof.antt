@@ -25,7 +25,4 @@ returns-2 c =
     (c .before .before .encrypt-buffer .ensures) (at-words .words .ensures)
 
 pub cbc-encrypt-in-place-spec : {M : Type 1} → statement M
-cbc-encrypt-in-place-spec =
-    tie.close (tie.spec
-    returns (λ c κs. search needs) (λ c κs. search needs) (λ c κs. search needs) encrypt-buffer-requires
-    (λ c. search needs) returns-2)
+cbc-encrypt-in-place-spec = tie.close (tie.spec returns _ _ _ encrypt-buffer-requires (λ c. search needs) returns-2)

@@ -52,6 +52,4 @@ returns c = done _ _ _ _ _ _ _ _ (c .before .loop .inv) (c .loop-test .left)
 
 pub decrypt-blocks-spec : {M : Type 1} → statement M
 decrypt-blocks-spec =
-    tie.close (tie.spec
-    Inv-loop μ-loop loop-holds following-requires decrypt-two-requires add-at loop-less loop-again same-length
-    returns)
+    tie.close (tie.spec Inv-loop μ-loop loop-holds following-requires decrypt-two-requires add-at loop-less loop-again same-length returns)

@@ -31,7 +31,5 @@ returns c =
 pub decrypt-two-spec : {M : Type 1} → statement M
 decrypt-two-spec =
     tie.close (tie.spec
-    (λ c. search needs) (λ c. search needs) (λ c. search needs) (λ c κs. search needs) (λ c. search needs)
-    (λ c. search needs) (λ c. search needs) (λ c κs. search needs) (λ c κs. search needs) (λ c κs. search needs)
-    (λ c κs. search needs) (λ c κs. search needs) (λ c κs. search needs) (λ c κs. search needs) put-requires-2
-    (λ c. search needs) returns)
+    (λ c. search needs) (λ c. search needs) (λ c. search needs) (λ c κs. search needs) (λ c. search needs) (λ c. search needs) (λ c. search needs)
+    (λ c κs. search needs) (λ c κs. search needs) _ _ (λ c κs. search needs) _ _ put-requires-2 (λ c. search needs) returns)

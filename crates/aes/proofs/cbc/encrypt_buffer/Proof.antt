@@ -64,6 +64,5 @@ returns c =
 pub encrypt-buffer-spec : {M : Type 1} → statement M
 encrypt-buffer-spec =
     tie.close (tie.spec
-    Inv-loop μ-loop loop-holds sub-words-from (λ c. search needs) (λ c. search needs) words-from-requires
-    (λ c κs. search needs) (λ c κs. search needs) (λ c κs. search needs) put-requires add-at loop-less loop-again
-    same-length returns)
+    Inv-loop μ-loop loop-holds sub-words-from (λ c. search needs) (λ c. search needs) words-from-requires _ (λ c κs. search needs) _ put-requires
+    add-at loop-less loop-again same-length returns)

@@ -47,5 +47,5 @@ returns c =
 pub put-spec : {M : Type 1} → statement M
 put-spec =
     tie.close (tie.spec
-    Inv-loop μ-loop loop-holds (λ c. search needs) (λ c. search needs) slice-write-s (λ c. search needs)
-    (λ c. search needs) loop-again same-length returns)
+    Inv-loop μ-loop loop-holds (λ c. search needs) (λ c. search needs) slice-write-s (λ c. search needs) (λ c. search needs) loop-again same-length
+    returns)

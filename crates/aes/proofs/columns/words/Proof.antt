@@ -25,7 +25,6 @@ returns c =
 pub words-spec : {M : Type 1} → statement M
 words-spec =
     tie.close (tie.spec
-    (λ c. search needs) (λ c. search needs) (λ c. search needs) (λ c. search needs) (λ c κs. search needs)
-    (λ c. search needs) (λ c. search needs) (λ c. search needs) (λ c. search needs) (λ c κs. search needs)
-    (λ c. search needs) (λ c. search needs) (λ c. search needs) (λ c. search needs) (λ c κs. search needs)
-    (λ c. search needs) (λ c. search needs) (λ c. search needs) (λ c. search needs) (λ c κs. search needs) returns)
+    (λ c. search needs) (λ c. search needs) (λ c. search needs) (λ c. search needs) _ (λ c. search needs) (λ c. search needs) (λ c. search needs)
+    (λ c. search needs) _ (λ c. search needs) (λ c. search needs) (λ c. search needs) (λ c. search needs) _ (λ c. search needs) (λ c. search needs)
+    (λ c. search needs) (λ c. search needs) _ returns)

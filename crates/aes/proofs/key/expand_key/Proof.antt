@@ -34,5 +34,5 @@ returns c = fill-all _ _ _ _ _ (c .before .loop .inv .1) (omega arith)
 pub expand-key-spec : {M : Type 1} → statement M
 expand-key-spec =
     tie.close (tie.spec
-    Inv-loop μ-loop (λ c κs. search needs) loop-holds (λ c κs. search needs) (λ c. search needs) (λ c. search needs)
-    (λ c. search needs) (λ c κs. search needs) (λ c. search needs) (λ c. search needs) loop-again returns)
+    Inv-loop μ-loop _ loop-holds (λ c κs. search needs) (λ c. search needs) (λ c. search needs) (λ c. search needs) _ (λ c. search needs)
+    (λ c. search needs) loop-again returns)

@@ -18,5 +18,4 @@ returns c =
     (record { one = w .look-bytes .ensures; two = z .look-bytes4 .ensures; three = y .look-bytes3 .ensures; four = x .look-bytes2 .ensures })
 
 pub inv-last-round-spec : {M : Type 1} → statement M
-inv-last-round-spec =
-    tie.close (tie.spec (λ c κs. search needs) (λ c κs. search needs) (λ c κs. search needs) (λ c κs. search needs) returns)
+inv-last-round-spec = tie.close (tie.spec _ _ _ _ returns)

@@ -18,5 +18,4 @@ returns c =
     (record { one = w .look .ensures; two = z .look4 .ensures; three = y .look3 .ensures; four = x .look2 .ensures })
 
 pub inv-round-spec : {M : Type 1} → statement M
-inv-round-spec =
-    tie.close (tie.spec (λ c κs. search needs) (λ c κs. search needs) (λ c κs. search needs) (λ c κs. search needs) returns)
+inv-round-spec = tie.close (tie.spec _ _ _ _ returns)

@@ -18,5 +18,4 @@ returns c =
     (record { one = w .look-bytes .ensures; two = x .look-bytes2 .ensures; three = y .look-bytes3 .ensures; four = z .look-bytes4 .ensures })
 
 pub last-round-spec : {M : Type 1} → statement M
-last-round-spec =
-    tie.close (tie.spec (λ c κs. search needs) (λ c κs. search needs) (λ c κs. search needs) (λ c κs. search needs) returns)
+last-round-spec = tie.close (tie.spec _ _ _ _ returns)

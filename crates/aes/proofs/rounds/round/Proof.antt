@@ -18,5 +18,4 @@ returns c =
     (record { one = w .look .ensures; two = x .look2 .ensures; three = y .look3 .ensures; four = z .look4 .ensures })
 
 pub round-spec : {M : Type 1} → statement M
-round-spec =
-    tie.close (tie.spec (λ c κs. search needs) (λ c κs. search needs) (λ c κs. search needs) (λ c κs. search needs) returns)
+round-spec = tie.close (tie.spec _ _ _ _ returns)

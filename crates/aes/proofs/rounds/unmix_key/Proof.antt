@@ -27,7 +27,4 @@ returns c =
     )
 
 pub unmix-key-spec : {M : Type 1} → statement M
-unmix-key-spec =
-    tie.close (tie.spec
-    (λ c κs. search needs) (λ c κs. search needs) (λ c κs. search needs) (λ c κs. search needs) (λ c κs. search needs)
-    (λ c κs. search needs) returns)
+unmix-key-spec = tie.close (tie.spec _ (λ c κs. search needs) (λ c κs. search needs) (λ c κs. search needs) (λ c κs. search needs) _ returns)
