@@ -2,11 +2,13 @@
 -- The steps of a round: each takes a block to a block, and each is undone by its inverse.
 use mathlib.Core.Path.{_≡_, refl, sym, ap, _∙_, subst}
 use mathlib.Core.List.{List, [], _∷_, _++_}
-use Prim.Native.Nat.{ℕ, _+_, _*_, _/_, _%_, _<_}
+use Prim.Native.Nat.{ℕ, _+_, _*_, _/_, _%_, _<_, _≤_}
 use native.Mathlib.Nat.{add-mod-mod}
 use native.Mathlib.Omega.{arith}
 use lib.Dec.{lit<}
-use lib.ListN.{getD, length}
+use mathlib.Core.Logic.{⊎-elim}
+use lib.ListN.{getD, length, List·getD-eq-default}
+use Rattle.laws.proofs.Order.{lt-or-ge}
 use Rattle.laws.specs.Runs.{run}
 use Rattle.field.specs.Xor.{xor}
 use Rattle.field.specs.Sbox.{invSbox}
@@ -32,6 +34,10 @@ block-at f i h = run-from-zero f 16 i 0 h
 pub block-of : (f : ℕ → ℕ) → ((i : ℕ) → i < 16 → f i < 256) → Block (block f)
 block-of f h = record { len = block-length f; bytes = λ i g. rw (block-at f i g) (h i g) }
 
+-- past its end too there is a byte, 0
+pub all-bytes : {s : List ℕ} → Block s → (i : ℕ) → getD s i 0 < 256
+all-bytes {s} b i = ⊎-elim (b .bytes i) (λ h. rw (List·getD-eq-default s 0 (subst (λ (n : ℕ). n ≤ i) (sym (b .len)) h)) (lit< tt)) (lt-or-ge i 16)
+
 -- a block is s where its bytes are those of s
 pub block-is : (f : ℕ → ℕ) (s : List ℕ) → length s ≡ 16 → ((i : ℕ) → i < 16 → f i ≡ getD s i 0) → block f ≡ s
 unfolding block
@@ -48,7 +54,7 @@ add-length s k = block-length _
 
 pub add-block : (s k : List ℕ) → Block s → Block k → Block (addRoundKey s k)
 unfolding addRoundKey
-add-block s k bs bk = block-of _ (λ i h. byte (getD s i 0) (getD k i 0) (bs .bytes i h) (bk .bytes i h))
+add-block s k bs bk = block-of _ (λ i h. byte _ _ (all-bytes bs i) (all-bytes bk i))
 
 pub add-add : (s k : List ℕ) → length s ≡ 16 → addRoundKey (addRoundKey s k) k ≡ s
 unfolding addRoundKey
@@ -75,10 +81,6 @@ unsub-sub s b = block-is _ s (b .len) (λ i h. rw (block-at _ i h) (invSbox-sbox
 
 -- ---- ShiftRows
 
-shifted-lt : (i : ℕ) → i < 16 → shifted i < 16
-unfolding shifted
-shifted-lt = bounded shifted 16 16 refl
-
 unshifted-lt : (i : ℕ) → i < 16 → unshifted i < 16
 unfolding unshifted
 unshifted-lt = bounded unshifted 16 16 refl
@@ -89,11 +91,11 @@ shifted-unshifted = agree (λ i. shifted (unshifted i)) (λ i. i) 16 refl
 
 pub shift-block : (s : List ℕ) → Block s → Block (shiftRows s)
 unfolding shiftRows
-shift-block s b = block-of _ (λ i h. b .bytes (shifted i) (shifted-lt i h))
+shift-block s b = block-of _ (λ i h. all-bytes b (shifted i))
 
 pub unshift-block : (s : List ℕ) → Block s → Block (invShiftRows s)
 unfolding invShiftRows
-unshift-block s b = block-of _ (λ i h. b .bytes (unshifted i) (unshifted-lt i h))
+unshift-block s b = block-of _ (λ i h. all-bytes b (unshifted i))
 
 pub unshift-shift : (s : List ℕ) → length s ≡ 16 → invShiftRows (shiftRows s) ≡ s
 unfolding shiftRows invShiftRows
@@ -116,25 +118,20 @@ down-down i j k =
     let place : (4 * (i / 4) + (i + j) % 4 + k) % 4 ≡ (i + (j + k)) % 4 = omega arith in
     rw (column, place, add-mod-mod)
 
--- the four bytes of a column of a block are bytes
-module _ {A : Type 0} (s : List ℕ) (b : Block s) (i : ℕ) (h : i < 16) where
-  on-column : ((getD s (down i 0) 0 < 256) → (getD s (down i 1) 0 < 256) → (getD s (down i 2) 0 < 256) → (getD s (down i 3) 0 < 256) → A) → A
-  on-column f = f (b .bytes _ (down-lt i 0 h)) (b .bytes _ (down-lt i 1 h)) (b .bytes _ (down-lt i 2 h)) (b .bytes _ (down-lt i 3 h))
-
 pub mix-block : (s : List ℕ) → Block s → Block (mixColumns s)
 unfolding mixColumns
-mix-block s b = block-of _ (λ i h. on-column s b i h (mixed-byte _ _ _ _))
+mix-block s b = block-of _ (λ i h. mixed-byte _ _ _ _ (all-bytes b _) (all-bytes b _) (all-bytes b _) (all-bytes b _))
 
 pub unmix-block : (s : List ℕ) → Block s → Block (invMixColumns s)
 unfolding invMixColumns
-unmix-block s b = block-of _ (λ i h. on-column s b i h (unmixed-byte _ _ _ _))
+unmix-block s b = block-of _ (λ i h. unmixed-byte _ _ _ _ (all-bytes b _) (all-bytes b _) (all-bytes b _) (all-bytes b _))
 
 pub unmix-mix : (s : List ℕ) → Block s → invMixColumns (mixColumns s) ≡ s
 unfolding invMixColumns mixColumns
 unmix-mix s b =
     block-is _ s (b .len)
     (λ i h. simp (block-at, down-lt, down-down)
-    (on-column s b i h (λ p q r u. unmixed-mixed _ _ _ _ p q r u ∙ ap (λ (k : ℕ). getD s k 0) (down-zero i))))
+    (unmixed-mixed _ _ _ _ (all-bytes b _) (all-bytes b _) (all-bytes b _) (all-bytes b _) ∙ ap (λ (k : ℕ). getD s k 0) (down-zero i)))
 
 -- InvMixColumns of a sum is the sum of both
 pub unmix-add : (s k : List ℕ) → Block s → Block k → invMixColumns (addRoundKey s k) ≡ addRoundKey (invMixColumns s) (invMixColumns k)
@@ -142,4 +139,5 @@ unfolding addRoundKey invMixColumns unmixed
 unmix-add s k bs bk =
     block-same _ _
     (λ i h. simp (block-at, down-lt)
-    (on-column s bs i h (λ p q r u. on-column k bk i h (λ v w x y. row-xor 14 11 13 9 _ _ _ _ _ _ _ _ p q r u v w x y))))
+    (row-xor 14 11 13 9 _ _ _ _ _ _ _ _ (all-bytes bs _) (all-bytes bs _) (all-bytes bs _) (all-bytes bs _)
+    (all-bytes bk _) (all-bytes bk _) (all-bytes bk _) (all-bytes bk _)))

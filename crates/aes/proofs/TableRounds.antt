@@ -64,7 +64,7 @@ module _ (s k : State) (t : List ℕ) (p q r u : ℕ) where
       let found = by-words sbox t sbox-byte 2 3 1 1 et in
       let b = bytesOf-block s (eb .1) (ec .1) (ed .1) (ea .1) in
       columns-added _ (mix-block _ (shift-block _ (sub-block _ b))) k p q r u
-      (record { is-a = found _ _ _ _ _ ea; is-b = found _ _ _ _ _ eb; is-c = found _ _ _ _ _ ec; is-d = found _ _ _ _ _ ed })
+      (found _ _ _ _ _ ea, found _ _ _ _ _ eb, found _ _ _ _ _ ec, found _ _ _ _ _ ed)
 
   pub shifted-round : t ≡ table sbox → Forth (lookedUpBytes t) → bytesOf sums ≡ addRoundKey (shiftRows (subBytes (bytesOf s))) (bytesOf k)
   unfolding shiftRows shifted subBytes block run bytesOf
@@ -72,7 +72,7 @@ module _ (s k : State) (t : List ℕ) (p q r u : ℕ) where
       let found = by-bytes sbox t et in
       let b = bytesOf-block s (eb .1) (ec .1) (ed .1) (ea .1) in
       columns-added _ (shift-block _ (sub-block _ b)) k p q r u
-      (record { is-a = found _ _ _ _ _ ea; is-b = found _ _ _ _ _ eb; is-c = found _ _ _ _ _ ec; is-d = found _ _ _ _ _ ed })
+      (found _ _ _ _ _ ea, found _ _ _ _ _ eb, found _ _ _ _ _ ec, found _ _ _ _ _ ed)
 
   pub unmixed-round : Mixes invSbox 14 11 13 9 t → Back (lookedUp t)
       → (bytesOf sums ≡ addRoundKey (invMixColumns (invSubBytes (invShiftRows (bytesOf s)))) (bytesOf k)) × Block (bytesOf s)
@@ -81,7 +81,7 @@ module _ (s k : State) (t : List ℕ) (p q r u : ℕ) where
       let found = by-words invSbox t invSbox-byte 14 11 13 9 et in
       let b = bytesOf-block s (ed .1) (ea .1) (eb .1) (ec .1) in (
         columns-added _ (unmix-block _ (unsub-block _ (unshift-block _ b))) k p q r u
-            (record { is-a = found _ _ _ _ _ ea; is-b = found _ _ _ _ _ eb; is-c = found _ _ _ _ _ ec; is-d = found _ _ _ _ _ ed }),
+            (found _ _ _ _ _ ea, found _ _ _ _ _ eb, found _ _ _ _ _ ec, found _ _ _ _ _ ed),
         b,
       )
 
@@ -92,7 +92,7 @@ module _ (s k : State) (t : List ℕ) (p q r u : ℕ) where
       let found = by-bytes invSbox t et in
       let b = bytesOf-block s (ed .1) (ea .1) (eb .1) (ec .1) in
       columns-added _ (unsub-block _ (unshift-block _ b)) k p q r u
-      (record { is-a = found _ _ _ _ _ ea; is-b = found _ _ _ _ _ eb; is-c = found _ _ _ _ _ ec; is-d = found _ _ _ _ _ ed })
+      (found _ _ _ _ _ ea, found _ _ _ _ _ eb, found _ _ _ _ _ ec, found _ _ _ _ _ ed)
 
 -- ---- a round key of the way back
 

@@ -21,7 +21,7 @@ returns c =
     let r = c .before .before .unmix-word3 .ensures in
     let u = c .before .unmix-word4 .ensures in
     let b = bytesOf-block (at-words .result) (p .1) (q .1) (r .1) (u .1) in
-    rw (← at-words .ensures) (c .bytes-of .ensures ∙ columns-bytes _ (unmix-block _ b) _ (record { is-a = p .0; is-b = q .0; is-c = r .0; is-d = u .0 }), b)
+    rw (← at-words .ensures) (c .bytes-of .ensures ∙ columns-bytes _ (unmix-block _ b) _ (p .0, q .0, r .0, u .0), b)
 
 pub unmix-key-spec : {M : Type 1} → statement M
 unmix-key-spec = tie.close (tie.spec _ (λ c κs. search needs) (λ c κs. search needs) (λ c κs. search needs) (λ c κs. search needs) _ returns)
