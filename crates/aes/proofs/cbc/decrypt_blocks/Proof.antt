@@ -21,7 +21,7 @@ loop-holds : tie.Need-loop-holds Inv-loop μ-loop
 loop-holds c = begin _ _ _ _ _ (c .before .before .pre .3) (c .before .before .pre .4)
 
 following-requires : tie.Need-following-requires Inv-loop μ-loop
-following-requires c κs = block-left _ _ _ _ _ _ _ _ (c .before .loop .inv) (c .loop-test .taken) .0
+following-requires c κs = block-left (c .before .loop .inv) (c .loop-test .taken) .0
 
 decrypt-two-requires : tie.Need-decrypt-two-requires Inv-loop μ-loop
 decrypt-two-requires c κs =
@@ -40,7 +40,7 @@ loop-again : tie.Need-loop-again Inv-loop μ-loop
 loop-again c =
     let f = c .before .before .before .before .following in
     let d = c .before .before .decrypt-two .ensures in
-    decrypt-two-more _ _ _ _ _ _ _ (c .before .before .before .before .before .before .loop .inv) (f .result) _ _ (f .ensures .0)
+    decrypt-two-more _ (c .before .before .before .before .before .before .loop .inv) (f .result) _ _ (f .ensures .0)
     (f .ensures .1) (f .ensures .2) (d .0) (d .1) (ℕ-discrete (f .result) _)
 
 same-length : tie.Need-same-length Inv-loop μ-loop
@@ -48,7 +48,7 @@ same-length c = c .before .loop .inv .len
 
 returns : tie.Need-returns Inv-loop μ-loop
 unfolding cbcDecrypt
-returns c = done _ _ _ _ _ _ _ _ (c .before .loop .inv) (c .loop-test .left)
+returns c = done (c .before .loop .inv) (c .loop-test .left)
 
 pub decrypt-blocks-spec : {M : Type 1} → statement M
 decrypt-blocks-spec =

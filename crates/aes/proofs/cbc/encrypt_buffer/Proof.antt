@@ -29,15 +29,15 @@ sub-words-from c = omega (arith, c .before .loop .inv .0 .len)
 words-from-requires : tie.Need-words-from-requires Inv-loop μ-loop
 words-from-requires c κs =
     let l = c .before .before .before .loop in
-    enough (l .buffer) (l .at) (block-here _ _ _ _ _ _ (l .inv .0) (omega arith))
+    enough (l .buffer) (l .at) (block-here _ (l .inv .0) (omega arith))
 
 put-requires : tie.Need-put-requires Inv-loop μ-loop
-put-requires c κs = block-here _ _ _ _ _ _ (c .before .before .before .before .before .before .before .before .loop .inv .0) (omega arith)
+put-requires c κs = block-here _ (c .before .before .before .before .before .before .before .before .loop .inv .0) (omega arith)
 
 add-at : tie.Need-add-at Inv-loop μ-loop
 add-at c =
     let l = c .before .before .before .before .before .before .before .before .before .before .before .loop in
-    omega (arith, l .inv .1, l .inv .0 .len, block-here _ _ _ _ _ _ (l .inv .0) (omega arith))
+    omega (arith, l .inv .1, l .inv .0 .len, block-here _ (l .inv .0) (omega arith))
 
 loop-less : tie.Need-loop-less Inv-loop μ-loop
 loop-less c = omega (arith, c .before .before .before .before .before .before .before .before .before .before .before .loop .inv .0 .len)
@@ -46,7 +46,7 @@ loop-again : tie.Need-loop-again Inv-loop μ-loop
 loop-again c =
     let at-add = c .before .before .before .before .before .before in
     let l = at-add .before .before .before .before .before .loop in (
-      encrypt-more _ _ _ _ _ _ (l .inv .0) (omega arith) _ _ _ _ _ (at-add .before .words-from .ensures) (at-add .add .ensures)
+      encrypt-more _ (l .inv .0) (omega arith) _ _ _ _ _ (at-add .before .words-from .ensures) (at-add .add .ensures)
           (c .before .before .before .before .before .encrypt .ensures) (c .before .before .before .bytes-of .ensures)
           (c .before .before .put .ensures),
       l .inv .1,
@@ -58,7 +58,7 @@ same-length c = c .before .loop .inv .0 .len
 returns : tie.Need-returns Inv-loop μ-loop
 unfolding cbcEncrypt
 returns c =
-    done _ _ _ _ _ _ _ _ (c .before .loop .inv .0) (omega (arith, c .before .loop .inv .0 .len))
+    done (c .before .loop .inv .0) (omega (arith, c .before .loop .inv .0 .len))
     ∙ all-written _ (c .before .before .before .args .buffer .now)
 
 pub encrypt-buffer-spec : {M : Type 1} → statement M
