@@ -7,7 +7,7 @@ use native.Mathlib.Nat.{add-mod-mod}
 use native.Mathlib.Omega.{arith}
 use lib.Dec.{lit<}
 use mathlib.Core.Logic.{⊎-elim}
-use lib.ListN.{getD, length, List·getD-eq-default}
+use lib.ListN.{getD, length, replicate, getD-replicate, List·getD-eq-default}
 use Rattle.laws.proofs.Order.{lt-or-ge}
 use Rattle.laws.specs.Runs.{run}
 use Rattle.field.specs.Xor.{xor}
@@ -61,9 +61,9 @@ unfolding addRoundKey
 add-add s k e = block-is _ s e (λ i h. rw (block-at _ i h) (cancel (getD s i 0) (getD k i 0)))
 
 -- zeros add nothing
-pub add-zeros : (s z : List ℕ) → length s ≡ 16 → ((i : ℕ) → i < 16 → getD z i 0 ≡ 0) → addRoundKey s z ≡ s
+pub add-zeros : (s : List ℕ) → length s ≡ 16 → addRoundKey s (replicate 16 0) ≡ s
 unfolding addRoundKey
-add-zeros s z e h = block-is _ s e (λ i g. ap (xor (getD s i 0)) (h i g) ∙ zero-r (getD s i 0))
+add-zeros s e = block-is _ s e (λ i h. rw (getD-replicate {A = ℕ} 16 i 0 0 h) (zero-r (getD s i 0)))
 
 -- ---- SubBytes
 

@@ -2,13 +2,13 @@
 -- Block by block; what is not done yet is as it was.
 use native.Mathlib.Omega.{arith}
 use native.Mathlib.Nat.{le-refl}
-use mathlib.Core.Path.{_∙_}
+use mathlib.Core.List.{append-nil}
+use lib.Seq.{drop-length}
 use Prim.Native.Nat.{_-_, _<_}
 use lib.ListN.{length}
 use Rattle.aes.specs.Words.{bytesOf}
 use Rattle.aes.specs.Cbc.{cbcEncryptBlock, cbcEncrypt}
 use Rattle.aes.proofs.ChainLoop.{enough, Chained, begin, done, block-here, encrypt-more}
-use Rattle.aes.proofs.ChainCalls.{all-written}
 use borrow.Author.Needs.{needs}
 use Rattle.aes.proofs.cbc.encrypt_buffer.Statement.{statement}
 use Rattle.aes.proofs.cbc.encrypt_buffer.Tie as tie
@@ -57,9 +57,7 @@ same-length c = c .before .loop .inv .0 .len
 
 returns : tie.Need-returns Inv-loop μ-loop
 unfolding cbcEncrypt
-returns c =
-    done (c .before .loop .inv .0) (omega (arith, c .before .loop .inv .0 .len))
-    ∙ all-written _ (c .before .before .before .args .buffer .now)
+returns c = simp (drop-length, append-nil) at (done (c .before .loop .inv .0) (omega (arith, c .before .loop .inv .0 .len)))
 
 pub encrypt-buffer-spec : {M : Type 1} → statement M
 encrypt-buffer-spec =

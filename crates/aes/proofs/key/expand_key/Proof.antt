@@ -6,7 +6,7 @@ use mathlib.Core.List.{[]}
 use Prim.Native.Nat.{_+_, _-_, _≤_}
 use Rattle.laws.proofs.Runs.{Filled, fill-more, fill-all}
 use Rattle.aes.specs.Key.{rcon, roundKey, expandKey}
-use Rattle.aes.proofs.Schedule.{rcon-more, key-more, first-key}
+use Rattle.aes.proofs.Schedule.{rcon-more, key-more}
 use borrow.Author.Needs.{needs}
 use Rattle.aes.proofs.key.expand_key.Statement.{statement}
 use Rattle.aes.proofs.key.expand_key.Tie as tie
@@ -19,7 +19,7 @@ abbrev μ-loop : tie.MeasureT-loop
 
 loop-holds : tie.Need-loop-holds Inv-loop μ-loop
 unfolding roundKey rcon
-loop-holds c = (search needs, first-key _ _ _ refl refl, refl, refl)
+loop-holds c = (search needs, record { len = refl; done = λ i h. (let z : i ≡ 0 = omega arith in rw z) }, refl, refl)
 
 loop-again : tie.Need-loop-again Inv-loop μ-loop
 loop-again c =
