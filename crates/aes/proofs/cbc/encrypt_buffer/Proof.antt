@@ -23,24 +23,10 @@ abbrev μ-loop : tie.MeasureT-loop
 loop-holds : tie.Need-loop-holds Inv-loop μ-loop
 loop-holds c = (begin _ _ _ _ _ (c .before .pre .2) (le-refl _), omega arith)
 
-sub-words-from : tie.Need-sub-words-from Inv-loop μ-loop
-sub-words-from c = omega (arith, c .before .loop .inv .0 .len)
-
 words-from-requires : tie.Need-words-from-requires Inv-loop μ-loop
 words-from-requires c κs =
     let l = c .before .before .before .loop in
     enough (l .buffer) (l .at) (block-here _ (l .inv .0) (omega arith))
-
-put-requires : tie.Need-put-requires Inv-loop μ-loop
-put-requires c κs = block-here _ (c .before .before .before .before .before .before .before .before .loop .inv .0) (omega arith)
-
-add-at : tie.Need-add-at Inv-loop μ-loop
-add-at c =
-    let l = c .before .before .before .before .before .before .before .before .before .before .before .loop in
-    omega (arith, l .inv .1, l .inv .0 .len, block-here _ (l .inv .0) (omega arith))
-
-loop-less : tie.Need-loop-less Inv-loop μ-loop
-loop-less c = omega (arith, c .before .before .before .before .before .before .before .before .before .before .before .loop .inv .0 .len)
 
 loop-again : tie.Need-loop-again Inv-loop μ-loop
 loop-again c =
@@ -52,9 +38,6 @@ loop-again c =
       l .inv .1,
     )
 
-same-length : tie.Need-same-length Inv-loop μ-loop
-same-length c = c .before .loop .inv .0 .len
-
 returns : tie.Need-returns Inv-loop μ-loop
 unfolding cbcEncrypt
 returns c = simp (drop-length, append-nil) at (done (c .before .loop .inv .0) (omega (arith, c .before .loop .inv .0 .len)))
@@ -62,5 +45,5 @@ returns c = simp (drop-length, append-nil) at (done (c .before .loop .inv .0) (o
 pub encrypt-buffer-spec : {M : Type 1} → statement M
 encrypt-buffer-spec =
     tie.close (tie.spec
-    Inv-loop μ-loop loop-holds sub-words-from (λ c. search needs) (λ c. search needs) words-from-requires _ (λ c κs. search needs) _ put-requires
-    add-at loop-less loop-again same-length returns)
+    Inv-loop μ-loop loop-holds (λ c. search needs) (λ c. search needs) (λ c. search needs) words-from-requires _ (λ c κs. search needs) _ (λ c κs. search needs)
+    (λ c. search needs) (λ c. search needs) loop-again (λ c. search needs) returns)
