@@ -31,19 +31,19 @@ unfolding cipher
 cipher-whole ks b k s₀ s l r ek e₀ es el er = cc
 
 -- by a key that InvMixColumns was applied to
-pub unrounds-less : (ks ds : List (List ℕ)) → InverseKeys ks ds 10 → (s k r : List ℕ) (n : ℕ) → 0 < n → n ≤ 9 → Block s → k ≡ getD ds n []
-    → r ≡ addRoundKey (invMixColumns (invSubBytes (invShiftRows s))) k → unrounds ks (n - 1) r ≡ unrounds ks n s
+pub unrounds-less : (ks ds : List (List ℕ)) → InverseKeys ks ds 10 → (k : List ℕ) (n : ℕ) → 0 < n → n ≤ 9 → k ≡ getD ds n [] → (s r : List ℕ)
+    → (r ≡ addRoundKey (invMixColumns (invSubBytes (invShiftRows s))) k) × Block s → unrounds ks (n - 1) r ≡ unrounds ks n s
 unfolding unrounds
-unrounds-less ks ds inv s k r zero h g b ek er = absurd (omega arith)
-unrounds-less ks ds inv s k r (suc n) h g b ek er =
+unrounds-less ks ds inv k zero h g ek s r e = absurd (omega arith)
+unrounds-less ks ds inv k (suc n) h g ek s r (er, b) =
     let key = inv (suc n) (omega arith) (omega arith) in
     let m : suc n - 1 ≡ n = omega arith in
     rw (m, er, ek, key .0, ← unmix-add _ _ (unsub-block _ (unshift-block s b)) (key .1))
 
-pub invCipher-whole : (ks : List (List ℕ)) (b k s₀ s l r : List ℕ) (n : ℕ) → k ≡ getD ks 10 [] → s₀ ≡ addRoundKey b k
-    → unrounds ks n s ≡ unrounds ks 9 s₀ → n ≤ 0 → l ≡ getD ks 0 [] → r ≡ addRoundKey (invSubBytes (invShiftRows s)) l → r ≡ invCipher ks b
+pub invCipher-whole : (ks : List (List ℕ)) (k l : List ℕ) (n : ℕ) → k ≡ getD ks 10 [] → n ≤ 0 → l ≡ getD ks 0 [] → (b s₀ s r : List ℕ)
+    → s₀ ≡ addRoundKey b k → unrounds ks n s ≡ unrounds ks 9 s₀ → r ≡ addRoundKey (invSubBytes (invShiftRows s)) l → r ≡ invCipher ks b
 unfolding invCipher unrounds
-invCipher-whole ks b k s₀ s l r n ek e₀ es h el er = let z : n ≡ 0 = omega arith in cc
+invCipher-whole ks k l n ek h el b s₀ s r e₀ es er = let z : n ≡ 0 = omega arith in cc
 
 -- ---- lengths and bytes
 
