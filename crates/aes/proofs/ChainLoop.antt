@@ -71,18 +71,6 @@ module _ {out next : List ℕ → List ℕ → List ℕ} {s t₀ u₀ u t : List
       let e : at ≡ length s = omega (arith, b .whole) in
       rw (← b .front, z, append-nil, ← e, ← b .rest) (sym (take-append-drop at t))
 
--- one block encrypted in place, as the code does it: b is the block as words, y the sum, v its cipher, o that as bytes
-module _ (ks : List (List ℕ)) {s u₀ u t : List ℕ} {at : ℕ} (c : Chained (cbcEncryptBlock ks) (λ b c. c) s s u₀ u t at) (h : at < length t) where
-  pub block-here : at + 16 ≤ length t
-  block-here = block-left c (omega (arith, c .len)) .1
-
-  pub encrypt-more : (b y v o t′ : List ℕ) → b ≡ loadBlock (take (length t - at) (drop at t)) → y ≡ addRoundKey b u → v ≡ cipher ks y → o ≡ v
-      → t′ ≡ paste t at o 16 → Chained (cbcEncryptBlock ks) (λ b c. c) s s u₀ v t′ (at + 16)
-  unfolding cbcEncryptBlock
-  encrypt-more b y v o t′ eb ey ev eo et =
-      let e : v ≡ cipher ks (addRoundKey (take 16 (drop at s)) u) = rw (ev, ey, eb, loaded t at block-here, c .rest) in
-      more c (encrypt-long ks) (omega (arith, c .len)) v t′ e (rw (et, eo, e))
-
 -- ---- two blocks a turn
 
 -- what stands before a place is not changed there, and from there on stands what was written
@@ -127,18 +115,3 @@ module _ (ks : List (List ℕ)) {s t₀ u₀ u t : List ℕ} {at : ℕ} (c : Cha
       let one = more c (decrypt-long ks) (omega arith) x _ refl refl in
       rw p (more one (decrypt-long ks) (omega arith) v t′ (rw p at ev)
       ((rw p at et) ∙ paste-swap t (cbcDecryptBlock ks u x) (cbcDecryptBlock ks x y) at (omega (arith, c .room, c .len)) (omega arith) (omega arith)))
-
--- two blocks decrypted, as the code does it: x and y are the blocks as words, p and q their plain text before the cipher blocks u and x are
--- added, a and b the sums; the later is written first
-pub decrypted-two : (ks : List (List ℕ)) (s u t : List ℕ) (at next : ℕ) → at + 16 ≤ length s → next + 16 ≤ length s
-    → (x y p q a b o o′ t₁ t₂ : List ℕ)
-    → x ≡ loadBlock (take (length s - at) (drop at s)) → y ≡ loadBlock (take (length s - next) (drop next s))
-    → p ≡ invCipher ks x → q ≡ invCipher ks y
-    → b ≡ addRoundKey q x → o ≡ b → t₁ ≡ paste t next o 16 → a ≡ addRoundKey p u → o′ ≡ a → t₂ ≡ paste t₁ at o′ 16
-    → (y ≡ take 16 (drop next s)) × (t₂ ≡ paste (paste t next (cbcDecryptBlock ks (take 16 (drop at s)) (take 16 (drop next s))) 16) at
-    (cbcDecryptBlock ks u (take 16 (drop at s))) 16)
-unfolding cbcDecryptBlock
-decrypted-two ks s u t at next h g x y p q a b o o′ t₁ t₂ ex ey ep eq eb eo e₁ ea eo′ e₂ =
-    let lx = ex ∙ loaded s at h in
-    let ly = ey ∙ loaded s next g in
-    (ly, rw (e₂, e₁, eo, eb, eq, eo′, ea, ep, ly, lx))

@@ -34,4 +34,6 @@ returns c = done (c .before .loop .inv) (c .loop-test .left)
 
 pub decrypt-blocks-spec : {M : Type 1} → statement M
 decrypt-blocks-spec =
-    tie.close (tie.spec Inv-loop μ-loop loop-holds (λ c κs. search needs) (λ c κs. search needs) (λ c. search needs) (λ c. search needs) loop-again (λ c. search needs) returns)
+    tie.close (tie.spec
+    Inv-loop μ-loop loop-holds (λ c κs. search needs) (λ c κs. search needs) (λ c. search needs) (λ c. search needs) loop-again (λ c. search needs)
+    returns)

@@ -5,10 +5,12 @@ use native.Mathlib.Nat.{le-refl}
 use mathlib.Core.List.{append-nil}
 use lib.Seq.{drop-length}
 use Prim.Native.Nat.{_-_, _<_}
-use lib.ListN.{length}
+use lib.ListN.{length, take}
 use Rattle.aes.specs.Words.{bytesOf}
 use Rattle.aes.specs.Cbc.{cbcEncryptBlock, cbcEncrypt}
-use Rattle.aes.proofs.ChainLoop.{enough, Chained, begin, done, block-here, encrypt-more}
+use Rattle.aes.proofs.ChainLoop.{enough, loaded, Chained, begin, more, done}
+use Rattle.aes.proofs.Chain.{encrypt-long}
+use mathlib.Core.Path.{ap, _∙_}
 use borrow.Author.Needs.{needs}
 use Rattle.aes.proofs.cbc.encrypt_buffer.Statement.{statement}
 use Rattle.aes.proofs.cbc.encrypt_buffer.Tie as tie
@@ -26,17 +28,19 @@ loop-holds c = (begin _ _ _ _ _ (c .before .pre .2) (le-refl _), omega arith)
 words-from-requires : tie.Need-words-from-requires Inv-loop μ-loop
 words-from-requires c κs =
     let l = c .before .before .before .loop in
-    enough (l .buffer) (l .at) (block-here _ (l .inv .0) (omega arith))
+    enough (l .buffer) (l .at) (omega (arith, l .inv .0 .whole, l .inv .0 .len))
 
 loop-again : tie.Need-loop-again Inv-loop μ-loop
+unfolding cbcEncryptBlock
 loop-again c =
-    let at-add = c .before .before .before .before .before .before in
-    let l = at-add .before .before .before .before .before .loop in (
-      encrypt-more _ (l .inv .0) (omega arith) _ _ _ _ _ (at-add .before .words-from .ensures) (at-add .add .ensures)
-          (c .before .before .before .before .before .encrypt .ensures) (c .before .before .before .bytes-of .ensures)
-          (c .before .before .put .ensures),
-      l .inv .1,
-    )
+    let at-bytes = c .before .before .before in
+    let at-add = at-bytes .before .before .before in
+    let at-block = at-add .before in
+    let l = at-block .before .before .before .before .loop in
+    let b = l .inv .0 in
+    let block = at-block .words-from .ensures ∙ loaded (l .buffer) (l .at) (omega (arith, b .whole, b .len)) ∙ ap (take 16) (b .rest) in
+    let v = rw (at-add .add .ensures, block) at (at-bytes .before .before .encrypt .ensures) in
+    (more b (encrypt-long _) (omega (arith, b .len)) _ _ v (rw (c .before .before .put .ensures, at-bytes .bytes-of .ensures, v)), l .inv .1)
 
 returns : tie.Need-returns Inv-loop μ-loop
 unfolding cbcEncrypt
@@ -45,5 +49,5 @@ returns c = simp (drop-length, append-nil) at (done (c .before .loop .inv .0) (o
 pub encrypt-buffer-spec : {M : Type 1} → statement M
 encrypt-buffer-spec =
     tie.close (tie.spec
-    Inv-loop μ-loop loop-holds (λ c. search needs) (λ c. search needs) (λ c. search needs) words-from-requires _ (λ c κs. search needs) _ (λ c κs. search needs)
-    (λ c. search needs) (λ c. search needs) loop-again (λ c. search needs) returns)
+    Inv-loop μ-loop loop-holds (λ c. search needs) (λ c. search needs) (λ c. search needs) words-from-requires _ (λ c κs. search needs) _
+    (λ c κs. search needs) (λ c. search needs) (λ c. search needs) loop-again (λ c. search needs) returns)
