@@ -9,7 +9,7 @@ use Rattle.aes.proofs.key.next_key.Tie as tie
 returns : tie.Need-returns
 unfolding xor
 returns c =
-    next-by (c .before .before .before .before .args .t2) (c .before .before .before .before .args .c) _ _ _ _
+    next-by _ _ _ _ _ _
     (c .before .before .before .substitute .ensures)
     (c .before .before .substitute2 .ensures) (c .before .substitute3 .ensures) (c .substitute4 .ensures)
 
