@@ -5,7 +5,7 @@ use mathlib.Core.List.{List, [], _∷_, _++_}
 use Prim.Native.Nat.{ℕ, zero, suc, _+_, _*_, _/_, _%_, _<_}
 use native.Mathlib.Omega.{arith}
 use lib.ListN.{getD, length, take, drop, length-append, length-drop, take-append-drop}
-use lib.Seq.{take-at, drop-at, length-take-le, getD-take, getD-drop}
+use lib.Seq.{take-all, take-at, drop-at, length-take-le, getD-take, getD-drop}
 use Rattle.aes.specs.State.{Block, addRoundKey}
 use Rattle.aes.specs.Cipher.{cipher, invCipher}
 use Rattle.aes.specs.Cbc.{chain, cbcEncryptBlock, cbcDecryptBlock, cbcEncrypt, cbcDecrypt}
@@ -27,10 +27,7 @@ module _ (out next : List ℕ → List ℕ → List ℕ) (long : (v b : List ℕ
   chain-length : (n : ℕ) (v s : List ℕ) → length (chain out next n v s) ≡ n * 16
   unfolding chain
   chain-length zero v s = refl
-  chain-length (suc n) v s =
-      let c : List ℕ = out v (take 16 s) in
-      length-append c (chain out next n (next (take 16 s) c) (drop 16 s))
-      ∙ ap₂ (λ (x y : ℕ). x + y) (long v (take 16 s)) (chain-length n (next (take 16 s) c) (drop 16 s)) ∙ omega arith
+  chain-length (suc n) v s = rw (length-append, long, chain-length n) (omega arith)
 
 -- the length is kept where it is a multiple of 16
 pub cbcEncrypt-length : (ks : List (List ℕ)) (v s : List ℕ) → length s % 16 ≡ 0 → length (cbcEncrypt ks v s) ≡ length s
@@ -52,46 +49,31 @@ first-block : (n : ℕ) (s : List ℕ) → Blocks (suc n) s → Block (take 16 s
 first-block n s b =
     record {
       len = length-take-le 16 s (omega (arith, b .len));
-      bytes = λ i h. subst (λ (x : ℕ). x < 256) (sym (getD-take 16 s i 0 h)) (b .bytes i (omega arith));
+      bytes = λ i h. rw (getD-take 16 s i 0 h) (b .bytes i (omega arith));
     }
 
 later-blocks : (n : ℕ) (s : List ℕ) → Blocks (suc n) s → Blocks n (drop 16 s)
 later-blocks n s b =
     record {
       len = length-drop 16 s ∙ omega (arith, b .len);
-      bytes = λ i h. subst (λ (x : ℕ). x < 256) (sym (getD-drop 16 s i 0)) (b .bytes (16 + i) (omega arith));
+      bytes = λ i h. rw getD-drop (b .bytes (16 + i) (omega arith));
     }
-
-nothing : (s : List ℕ) → length s ≡ 0 → [] ≡ s
-nothing [] e = refl
-nothing (x ∷ s) e = absurd (omega arith)
 
 module _ (ks : List (List ℕ)) (hk : Keys ks) where
   undone : (n : ℕ) (v s : List ℕ) → Block v → Blocks n s
       → chain (cbcDecryptBlock ks) (λ b c. b) n v (chain (cbcEncryptBlock ks) (λ b c. c) n v s) ≡ s
   unfolding chain cbcEncryptBlock cbcDecryptBlock
-  undone zero v s hv hs = nothing s (hs .len)
+  undone zero v s hv hs = take-all 0 s (omega (arith, hs .len))
   undone (suc n) v s hv hs =
-      let p : List ℕ = take 16 s in
-      let bp : Block p = first-block n s hs in
-      let bx : Block (addRoundKey p v) = add-block p v bp hv in
-      let c : List ℕ = cipher ks (addRoundKey p v) in
-      let bc : Block c = cipher-block ks hk (addRoundKey p v) bx in
-      let t : List ℕ = chain (cbcEncryptBlock ks) (λ b c. c) n c (drop 16 s) in
-      ap₂ (λ (x y : List ℕ). addRoundKey (invCipher ks x) v ++ chain (cbcDecryptBlock ks) (λ b c. b) n x y)
-      (take-at c t 16 (bc .len)) (drop-at c t 16 (bc .len))
-      ∙ ap₂ (λ (x y : List ℕ). x ++ y)
-      (ap (λ (x : List ℕ). addRoundKey x v) (invCipher-cipher ks hk (addRoundKey p v) bx) ∙ add-add p v (bp .len))
-      (undone n c (drop 16 s) bc (later-blocks n s hs))
-      ∙ take-append-drop 16 s
-
-  encrypted : (n : ℕ) (v s : List ℕ) → length s / 16 ≡ n → cbcEncrypt ks v s ≡ chain (cbcEncryptBlock ks) (λ b c. c) n v s
-  unfolding cbcEncrypt
-  encrypted n v s e = ap (λ (k : ℕ). chain (cbcEncryptBlock ks) (λ b c. c) k v s) e
+      let bp = first-block n s hs in
+      let bx = add-block (take 16 s) v bp hv in
+      let bc = cipher-block ks hk _ bx in
+      rw (take-at _ _ 16 (bc .len), drop-at _ _ 16 (bc .len), invCipher-cipher ks hk _ bx, add-add (take 16 s) v (bp .len))
+      (rw (undone n _ (drop 16 s) bc (later-blocks n s hs)) (take-append-drop 16 s))
 
   pub cbcDecrypt-cbcEncrypt : (n : ℕ) (v s : List ℕ) → Block v → Blocks n s → cbcDecrypt ks v (cbcEncrypt ks v s) ≡ s
-  unfolding cbcDecrypt
+  unfolding cbcDecrypt cbcEncrypt
   cbcDecrypt-cbcEncrypt n v s hv hs =
       let e : length s / 16 ≡ n = omega (arith, hs .len) in
       let f : length (cbcEncrypt ks v s) / 16 ≡ n = omega (arith, hs .len, cbcEncrypt-length ks v s (omega (arith, hs .len))) in
-      ap₂ (λ (j : ℕ) (x : List ℕ). chain (cbcDecryptBlock ks) (λ b c. b) j v x) f (encrypted n v s e) ∙ undone n v s hv hs
+      rw (f, e) (undone n v s hv hs)

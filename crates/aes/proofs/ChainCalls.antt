@@ -4,13 +4,12 @@ use mathlib.Core.Path.{_≡_, refl, sym, ap, ap₂, _∙_}
 use mathlib.Core.List.{List, [], _∷_, _++_, append-nil}
 use Prim.Native.Nat.{ℕ, _+_, _/_, _%_, _≤_, _<_}
 use native.Mathlib.Omega.{arith}
-use mathlib.Core.Bool.{Bool, true, false, cond, not}
+use mathlib.Core.Bool.{Bool, true, false, cond, not, _&&_}
 use borrow.Author.Tests.{eq-eqb, ne-eqb, eqb-true, leb-true, not-true, not-false}
 use lib.Dec.{eqb, leb}
-use lib.ListN.{getD, length, take, drop}
-use lib.Seq.{paste, length-paste, take-all, take-at, drop-at, drop-length}
+use lib.ListN.{length, take, drop, replicate}
+use lib.Seq.{paste, length-paste, take-all, take-length, take-append-seam, drop-append-seam}
 use Rattle.laws.proofs.Bools.{and-true}
-use Rattle.field.proofs.Below.{agree}
 use Rattle.aes.specs.declared.columns.State.{State}
 use Rattle.aes.specs.State.{addRoundKey}
 use Rattle.aes.specs.Words.{bytesOf}
@@ -20,70 +19,28 @@ use Rattle.aes.proofs.Steps.{add-zeros}
 
 pub room-after : (x : State) (t t′ o : List ℕ) (a b : ℕ) → a ≤ b → b + 16 ≤ length t → o ≡ bytesOf x → t′ ≡ paste t b o 16 → a + 16 ≤ length t′
 unfolding bytesOf
-room-after x t t′ o a b g h eo et =
-    let n : length o ≡ 16 = ap length eo in
-    let m : length t′ ≡ length t = ap length et ∙ length-paste t b o 16 (omega arith) (omega arith) in
-    omega arith
+room-after x t t′ o a b g h eo et = let n : length o ≡ 16 = rw eo in rw (et, length-paste t b o 16 h (omega arith)) (omega arith)
 
-pub all-written : (x t : List ℕ) → x ++ drop (length t) t ≡ x
-all-written x t = ap (λ (y : List ℕ). x ++ y) (drop-length t) ∙ append-nil x
+-- what is known where the code's test of the sizes m and n was passed
+pub roomy : (m n : ℕ) {b : Bool} → b ≡ (eqb (m % 16) 0 && leb m n) → not b ≡ false → (m % 16 ≡ 0) × (m ≤ n)
+roomy m n {b} e h = let both = and-true (eqb (m % 16) 0) (leb m n) (sym e ∙ not-false b h) in (eqb-true _ _ (both .0), leb-true _ _ (both .1))
 
--- ---- where the source fits, by the answer b of the test
-
-module _ (s t : List ℕ) (b : Bool) (e : b ≡ fits s t) where
-  pub roomy : not b ≡ false → (length s % 16 ≡ 0) × (length s ≤ length t)
-  roomy h =
-      let both = and-true (eqb (length s % 16) 0) (leb (length s) (length t)) (sym e ∙ not-false b h) in
-      (eqb-true (length s % 16) 0 (both .0), leb-true (length s) (length t) (both .1))
-
-  pub no-fit : (out : List ℕ) → not b ≡ true → (false ≡ fits s t) × (t ≡ written s out t)
-  no-fit out h = rw (sym e ∙ not-true b h) (refl, refl)
-
-  -- what was written is f of w, and that is v
-  pub fit : (f : List ℕ → List ℕ) (w v t′ : List ℕ) → not b ≡ false → t′ ≡ f w ++ drop (length s) t → w ≡ v
-      → (true ≡ fits s t) × (t′ ≡ written s (f v) t)
-  fit f w v t′ h et ev = rw (sym e ∙ not-false b h) (refl, et ∙ ap (λ (x : List ℕ). f x ++ drop (length s) t) ev)
-
--- the source copied to the front of the target, and what of it was lent encrypted in place
-pub encrypted-copy : (ks : List (List ℕ)) (v s t : List ℕ) (b : Bool) → b ≡ fits s t → not b ≡ false → (t₁ p t₂ : List ℕ) (m : ℕ) (r : Bool)
+-- the source, which fits, copied to the front of the target, and what of it was lent encrypted in place
+pub encrypted-copy : (ks : List (List ℕ)) (v s t : List ℕ) → fits s t ≡ true → (t₁ p t₂ : List ℕ) (m : ℕ) (r : Bool)
     → m ≡ length s → t₁ ≡ take (length s) s ++ drop (length s) t → r ≡ eqb (length (take m t₁) % 16) 0
     → p ≡ cond (eqb (length (take m t₁) % 16) 0) (cbcEncrypt ks v (take m t₁)) (take m t₁) → t₂ ≡ p ++ drop m t₁
     → (r ≡ fits s t) × (t₂ ≡ written s (cbcEncrypt ks v s) t)
-encrypted-copy ks v s t b e h t₁ p t₂ m r em e₁ er ep e₂ =
-    let n : length (take (length s) s) ≡ length s = ap length (take-all (length s) s (omega arith)) in
-    let front : take m t₁ ≡ s =
-    ap₂ take em e₁ ∙ take-at (take (length s) s) (drop (length s) t) (length s) n ∙ take-all (length s) s (omega arith) in
-    let rest : drop m t₁ ≡ drop (length s) t = ap₂ drop em e₁ ∙ drop-at (take (length s) s) (drop (length s) t) (length s) n in
-    let w = eq-eqb (length s % 16) 0 (roomy s t b e h .0) in
-    let done = fit s t b e (λ x. cbcEncrypt ks x s) v v t₂ h
-    (e₂
-    ∙ ap₂ (λ (x y : List ℕ). x ++ y)
-    (ep ∙ ap (λ (x : List ℕ). cond (eqb (length x % 16) 0) (cbcEncrypt ks v x) x) front ∙ ap (λ (b : Bool). cond b (cbcEncrypt ks v s) s) w)
-    rest) refl in
-    (er ∙ ap (λ (x : List ℕ). eqb (length x % 16) 0) front ∙ w ∙ done .0, done .1)
-
--- ---- a buffer in place, whole blocks or not
-
-module _ (b : List ℕ) where
-  pub odd-buffer : (out : List ℕ) → (length b % 16 ≡ 0 → ⊥) → (false ≡ eqb (length b % 16) 0) × (b ≡ cond (eqb (length b % 16) 0) out b)
-  odd-buffer out h = let e = ne-eqb (length b % 16) 0 h in rw e (refl, refl)
-
-  pub whole-buffer : (f : List ℕ → List ℕ) (w v b′ : List ℕ) → length b % 16 ≡ 0 → b′ ≡ f w → w ≡ v
-      → (true ≡ eqb (length b % 16) 0) × (b′ ≡ cond (eqb (length b % 16) 0) (f v) b)
-  whole-buffer f w v b′ h e ev = let p = eq-eqb (length b % 16) 0 h in rw p (refl, e ∙ ap f ev)
+encrypted-copy ks v s t good t₁ p t₂ m r em e₁ er ep e₂ =
+    let front : take m t₁ ≡ s = rw (em, e₁, take-length s) (take-append-seam s _) in
+    let rest : drop m t₁ ≡ drop (length s) t = rw (em, e₁, take-length s) (drop-append-seam s _) in
+    let whole = and-true (eqb (length s % 16) 0) _ good .0 in
+    (rw (er, front) (whole ∙ sym good), rw good (rw (e₂, ep, front, rest, whole)))
 
 -- ---- a chain of one block after zeros is the cipher of it
 
-abbrev zeros : List ℕ
-zeros = 0 ∷ 0 ∷ 0 ∷ 0 ∷ 0 ∷ 0 ∷ 0 ∷ 0 ∷ 0 ∷ 0 ∷ 0 ∷ 0 ∷ 0 ∷ 0 ∷ 0 ∷ 0 ∷ []
-
-zero-at : (i : ℕ) → i < 16 → getD zeros i 0 ≡ 0
-zero-at = agree (λ i. getD zeros i 0) (λ i. 0) 16 tt
-
-pub one-encrypted : (ks : List (List ℕ)) (b r : List ℕ) → length b ≡ 16 → r ≡ cond (eqb (length b % 16) 0) (cbcEncrypt ks zeros b) b → r ≡ cipher ks b
+pub one-encrypted : (ks : List (List ℕ)) (b r : List ℕ) → length b ≡ 16
+    → r ≡ cond (eqb (length b % 16) 0) (cbcEncrypt ks (replicate 16 0) b) b → r ≡ cipher ks b
 unfolding cbcEncrypt chain cbcEncryptBlock
 one-encrypted ks b r l e =
     let n : length b / 16 ≡ 1 = omega arith in
-    e ∙ ap (λ (x : Bool). cond x (chain (cbcEncryptBlock ks) (λ b c. c) (length b / 16) zeros b) b) (eq-eqb (length b % 16) 0 (omega arith))
-    ∙ ap (λ (k : ℕ). chain (cbcEncryptBlock ks) (λ b c. c) k zeros b) n ∙ append-nil _
-    ∙ ap (cipher ks) (ap (λ (x : List ℕ). addRoundKey x zeros) (take-all 16 b (omega arith)) ∙ add-zeros b zeros l zero-at)
+    rw (e, eq-eqb (length b % 16) 0 (omega arith), n, append-nil, take-all 16 b (omega arith), add-zeros b l)

@@ -7,17 +7,17 @@ use native.Mathlib.Numerals.{add-one}
 use native.Mathlib.Omega.{arith}
 use lib.Dec.{lit<}
 use lib.ListN.{getD, length}
-use Rattle.field.specs.Runs.{run}
+use Rattle.laws.specs.Runs.{run}
 use Rattle.field.specs.Xor.{xor}
 use Rattle.field.specs.Field.{xtime}
 use Rattle.field.specs.Sbox.{sbox}
-use Rattle.field.proofs.Runs.{run-from-zero, Filled}
+use Rattle.laws.proofs.Runs.{run-from-zero}
 use Rattle.field.proofs.Xor.{byte}
 use Rattle.field.proofs.Linear.{xtime-byte}
 use Rattle.field.proofs.Sbox.{sbox-byte}
 use Rattle.aes.specs.State.{block, Block}
 use Rattle.aes.specs.Key.{rcon, turnedByte, nextByte, nextKey, roundKey, expandKey}
-use Rattle.aes.proofs.Steps.{block-of}
+use Rattle.aes.proofs.Steps.{all-bytes, block-of}
 
 -- ---- one round key more
 
@@ -28,13 +28,6 @@ rcon-more n x y ex ey = rw add-one (cc)
 pub key-more : (key : List ℕ) (n x : ℕ) (k r : List ℕ) → k ≡ roundKey key n → x ≡ rcon n → r ≡ nextKey k x → r ≡ roundKey key (n + 1)
 unfolding roundKey
 key-more key n x k r ek ex er = rw add-one (cc)
-
--- the key itself is the first
-pub first-key : (f : ℕ → List ℕ) (x : List ℕ) (xs : List (List ℕ)) → length (x ∷ xs) ≡ 11 → x ≡ f 0 → Filled 11 [] f (x ∷ xs) 1
-first-key f x xs l e = record { upto = omega arith; len = l; done = here }
-  where
-    here : (k : ℕ) → k < 1 → getD (x ∷ xs) k [] ≡ f k
-    here k h = let z : k ≡ 0 = omega arith in ap (λ (j : ℕ). getD (x ∷ xs) j []) z ∙ e ∙ ap f (sym z)
 
 -- byte i of the round key k added to x; and the sixteen bytes as the code adds them, where p, q, r, s are added to the first word
 abbrev sum : List ℕ → ℕ → ℕ → ℕ
@@ -61,17 +54,17 @@ rcon-byte (suc n) = xtime-byte (rcon n) (rcon-byte n)
 
 turned-byte : (k : List ℕ) (c r : ℕ) → c < 256 → Block k → turnedByte k c r < 256
 unfolding turnedByte
-turned-byte k c zero hc b = byte _ _ (sbox-byte _ (b .bytes 13 (lit< tt))) hc
-turned-byte k c (suc r) hc b = sbox-byte _ (b .bytes _ (omega arith))
+turned-byte k c zero hc b = byte _ _ (sbox-byte _ (all-bytes b 13)) hc
+turned-byte k c (suc r) hc b = sbox-byte _ (all-bytes b _)
 
-next-byte : (k : List ℕ) (c j r : ℕ) → c < 256 → Block k → j < 4 → r < 4 → nextByte k c j r < 256
+next-byte : (k : List ℕ) (c j r : ℕ) → c < 256 → Block k → nextByte k c j r < 256
 unfolding nextByte
-next-byte k c zero r hc b hj hr = byte _ _ (b .bytes r (omega arith)) (turned-byte k c r hc b)
-next-byte k c (suc j) r hc b hj hr = byte _ _ (b .bytes (4 * suc j + r) (omega arith)) (next-byte k c j r hc b (omega arith) hr)
+next-byte k c zero r hc b = byte _ _ (all-bytes b r) (turned-byte k c r hc b)
+next-byte k c (suc j) r hc b = byte _ _ (all-bytes b _) (next-byte k c j r hc b)
 
 next-block : (k : List ℕ) (c : ℕ) → c < 256 → Block k → Block (nextKey k c)
 unfolding nextKey
-next-block k c hc b = block-of _ (λ i h. next-byte k c (i / 4) (i % 4) hc b (omega arith) (omega arith))
+next-block k c hc b = block-of _ (λ i h. next-byte k c (i / 4) (i % 4) hc b)
 
 roundKey-block : (key : List ℕ) → Block key → (n : ℕ) → Block (roundKey key n)
 unfolding roundKey
@@ -82,9 +75,6 @@ roundKey-block key b (suc n) = next-block (roundKey key n) (rcon n) (rcon-byte n
 abbrev pub Keys : List (List ℕ) → Type 0
 Keys ks = (i : ℕ) → i < 11 → Block (getD ks i [])
 
-expandKey-at : (key : List ℕ) (i : ℕ) → i < 11 → getD (expandKey key) i [] ≡ roundKey key i
-unfolding expandKey
-expandKey-at key i h = run-from-zero (roundKey key) 11 i [] h
-
 pub expandKey-keys : (key : List ℕ) → Block key → Keys (expandKey key)
-expandKey-keys key b i h = subst Block (sym (expandKey-at key i h)) (roundKey-block key b i)
+unfolding expandKey
+expandKey-keys key b i h = rw (run-from-zero (roundKey key) 11 i [] h) (roundKey-block key b i)

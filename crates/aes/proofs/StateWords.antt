@@ -7,23 +7,23 @@ use native.Mathlib.Omega.{arith}
 use lib.Bits.{xor-mod, xor-shr}
 use lib.ListN.{getD}
 use Rattle.laws.proofs.ByteLists.{AllBytes, nil-bytes, cons-bytes, append-bytes}
-use Rattle.field.specs.Runs.{run}
+use Rattle.laws.specs.Runs.{run}
 use Rattle.field.specs.Xor.{xor}
 use Rattle.field.specs.Words.{word}
 use Rattle.field.proofs.Words.{byte0, byte1, byte2, byte3}
 use Rattle.aes.specs.declared.columns.State.{State}
 use Rattle.aes.specs.State.{block, Block, addRoundKey}
 use Rattle.aes.specs.Words.{bytesOf}
-use Rattle.aes.proofs.Steps.{block-is}
+use Rattle.aes.proofs.Steps.{all-bytes, block-is}
 
 -- ---- words and their bytes
 
 -- the four words are the four columns of the list m
-pub record Columns (m : List ℕ) (a b c d : ℕ) : Type 0 where
-  pub is-a : a ≡ word (getD m 0 0) (getD m 1 0) (getD m 2 0) (getD m 3 0)
-  pub is-b : b ≡ word (getD m 4 0) (getD m 5 0) (getD m 6 0) (getD m 7 0)
-  pub is-c : c ≡ word (getD m 8 0) (getD m 9 0) (getD m 10 0) (getD m 11 0)
-  pub is-d : d ≡ word (getD m 12 0) (getD m 13 0) (getD m 14 0) (getD m 15 0)
+abbrev pub Columns : List ℕ → ℕ → ℕ → ℕ → ℕ → Type 0
+Columns m a b c d = (a ≡ word (getD m 0 0) (getD m 1 0) (getD m 2 0) (getD m 3 0))
+    × (b ≡ word (getD m 4 0) (getD m 5 0) (getD m 6 0) (getD m 7 0))
+    × (c ≡ word (getD m 8 0) (getD m 9 0) (getD m 10 0) (getD m 11 0))
+    × (d ≡ word (getD m 12 0) (getD m 13 0) (getD m 14 0) (getD m 15 0))
 
 -- the bytes of a word
 abbrev four : ℕ → List ℕ
@@ -44,9 +44,8 @@ bytesOf-block s ha hb hc hd =
 four-sum : (x y : ℕ) → four (xor x y)
     ≡ xor (x % 256) (y % 256) ∷ xor (x / 256 % 256) (y / 256 % 256) ∷ xor (x / 65536 % 256) (y / 65536 % 256) ∷ xor (x / 16777216) (y / 16777216) ∷ []
 unfolding xor
-four-sum x y t =
-    xor-mod x y 8 t ∷ (ap (λ (z : ℕ). z % 256) (xor-shr x y 8) ∙ xor-mod (x / 256) (y / 256) 8) t
-    ∷ (ap (λ (z : ℕ). z % 256) (xor-shr x y 16) ∙ xor-mod (x / 65536) (y / 65536) 8) t ∷ xor-shr x y 24 t ∷ []
+four-sum x y =
+    rw (xor-shr x y 8, xor-shr x y 16, xor-shr x y 24, xor-mod x y 8, xor-mod (x / 256) (y / 256) 8, xor-mod (x / 65536) (y / 65536) 8)
 
 pub words-added : (s k : State)
     → bytesOf (record { a = xor (s .a) (k .a); b = xor (s .b) (k .b); c = xor (s .c) (k .c); d = xor (s .d) (k .d) })
@@ -56,23 +55,12 @@ words-added s k t = four-sum (s .a) (k .a) t ++ four-sum (s .b) (k .b) t ++ four
 
 -- ---- words made of columns
 
--- a word that is made of four bytes has them
-word-four : (p q r s : ℕ) → p < 256 → q < 256 → r < 256 → s < 256 → four (word p q r s) ≡ p ∷ q ∷ r ∷ s ∷ []
-word-four p q r s hp hq hr hs t =
-    byte0 p q r s hp hq hr hs t ∷ byte1 p q r s hp hq hr hs t ∷ byte2 p q r s hp hq hr hs t ∷ byte3 p q r s hp hq hr hs t ∷ []
-
 -- the words of a list alone
 pub columns-bytes : (m : List ℕ) → Block m → (s : State) → Columns m (s .a) (s .b) (s .c) (s .d) → bytesOf s ≡ m
 unfolding bytesOf block run
-columns-bytes m b s e =
-    (λ t. four (e .is-a t) ++ four (e .is-b t) ++ four (e .is-c t) ++ four (e .is-d t))
-    ∙ (λ t. from 0 (omega arith) t ++ from 4 (omega arith) t ++ from 8 (omega arith) t ++ from 12 (omega arith) t)
-    ∙ block-is (λ i. getD m i 0) m (b .len) (λ i h. refl)
-  where
-    from : (i : ℕ) → i + 4 ≤ 16 → four (word (getD m i 0) (getD m (i + 1) 0) (getD m (i + 2) 0) (getD m (i + 3) 0))
-        ≡ getD m i 0 ∷ getD m (i + 1) 0 ∷ getD m (i + 2) 0 ∷ getD m (i + 3) 0 ∷ []
-    from i h = word-four _ _ _ _ (b .bytes i (omega arith)) (b .bytes (i + 1) (omega arith)) (b .bytes (i + 2) (omega arith))
-        (b .bytes (i + 3) (omega arith))
+columns-bytes m b s (ea, eb, ec, ed) =
+    rw (ea, eb, ec, ed)
+    (simp (byte0, byte1, byte2, byte3, all-bytes b) (block-is (λ i. getD m i 0) m (b .len) (λ i h. refl)))
 
 -- the words of a list with the words of a key added
 pub columns-added : (m : List ℕ) → Block m → (k : State) (p q r u : ℕ) → Columns m p q r u

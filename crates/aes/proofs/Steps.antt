@@ -2,16 +2,19 @@
 -- The steps of a round: each takes a block to a block, and each is undone by its inverse.
 use mathlib.Core.Path.{_≡_, refl, sym, ap, _∙_, subst}
 use mathlib.Core.List.{List, [], _∷_, _++_}
-use Prim.Native.Nat.{ℕ, _<_}
+use Prim.Native.Nat.{ℕ, _+_, _*_, _/_, _%_, _<_, _≤_}
+use native.Mathlib.Nat.{add-mod-mod}
 use native.Mathlib.Omega.{arith}
 use lib.Dec.{lit<}
-use lib.ListN.{getD, length}
-use Rattle.field.specs.Runs.{run}
+use mathlib.Core.Logic.{⊎-elim}
+use lib.ListN.{getD, length, replicate, getD-replicate, List·getD-eq-default}
+use Rattle.laws.proofs.Order.{lt-or-ge}
+use Rattle.laws.specs.Runs.{run}
 use Rattle.field.specs.Xor.{xor}
 use Rattle.field.specs.Sbox.{invSbox}
 use Rattle.field.specs.Mix.{row, mixed, unmixed}
-use Rattle.field.proofs.Below.{agree, bounded}
-use Rattle.field.proofs.Runs.{run-length, run-from-zero, run-is}
+use Rattle.laws.proofs.Below.{agree, bounded}
+use Rattle.laws.proofs.Runs.{run-length, run-from-zero, run-is}
 use Rattle.field.proofs.Xor.{byte, cancel, zero-r}
 use Rattle.field.proofs.Sbox.{sbox-byte, invSbox-byte, invSbox-sbox}
 use Rattle.field.proofs.Mix.{mixed-byte, unmixed-byte, unmixed-mixed, row-xor}
@@ -29,7 +32,11 @@ unfolding block
 block-at f i h = run-from-zero f 16 i 0 h
 
 pub block-of : (f : ℕ → ℕ) → ((i : ℕ) → i < 16 → f i < 256) → Block (block f)
-block-of f h = record { len = block-length f; bytes = λ i g. subst (λ (x : ℕ). x < 256) (sym (block-at f i g)) (h i g) }
+block-of f h = record { len = block-length f; bytes = λ i g. rw (block-at f i g) (h i g) }
+
+-- past its end too there is a byte, 0
+pub all-bytes : {s : List ℕ} → Block s → (i : ℕ) → getD s i 0 < 256
+all-bytes {s} b i = ⊎-elim (b .bytes i) (λ h. rw (List·getD-eq-default s 0 (subst (λ (n : ℕ). n ≤ i) (sym (b .len)) h)) (lit< tt)) (lt-or-ge i 16)
 
 -- a block is s where its bytes are those of s
 pub block-is : (f : ℕ → ℕ) (s : List ℕ) → length s ≡ 16 → ((i : ℕ) → i < 16 → f i ≡ getD s i 0) → block f ≡ s
@@ -47,17 +54,16 @@ add-length s k = block-length _
 
 pub add-block : (s k : List ℕ) → Block s → Block k → Block (addRoundKey s k)
 unfolding addRoundKey
-add-block s k bs bk = block-of _ (λ i h. byte (getD s i 0) (getD k i 0) (bs .bytes i h) (bk .bytes i h))
+add-block s k bs bk = block-of _ (λ i h. byte _ _ (all-bytes bs i) (all-bytes bk i))
 
 pub add-add : (s k : List ℕ) → length s ≡ 16 → addRoundKey (addRoundKey s k) k ≡ s
 unfolding addRoundKey
-add-add s k e =
-    block-is _ s e (λ i h. ap (λ (x : ℕ). xor x (getD k i 0)) (block-at _ i h) ∙ cancel (getD s i 0) (getD k i 0))
+add-add s k e = block-is _ s e (λ i h. rw (block-at _ i h) (cancel (getD s i 0) (getD k i 0)))
 
 -- zeros add nothing
-pub add-zeros : (s z : List ℕ) → length s ≡ 16 → ((i : ℕ) → i < 16 → getD z i 0 ≡ 0) → addRoundKey s z ≡ s
+pub add-zeros : (s : List ℕ) → length s ≡ 16 → addRoundKey s (replicate 16 0) ≡ s
 unfolding addRoundKey
-add-zeros s z e h = block-is _ s e (λ i g. ap (xor (getD s i 0)) (h i g) ∙ zero-r (getD s i 0))
+add-zeros s e = block-is _ s e (λ i h. rw (getD-replicate {A = ℕ} 16 i 0 0 h) (zero-r (getD s i 0)))
 
 -- ---- SubBytes
 
@@ -71,87 +77,67 @@ unsub-block s b = block-of _ (λ i h. invSbox-byte (getD s i 0) (b .bytes i h))
 
 pub unsub-sub : (s : List ℕ) → Block s → invSubBytes (subBytes s) ≡ s
 unfolding subBytes invSubBytes
-unsub-sub s b = block-is _ s (b .len) (λ i h. ap invSbox (block-at _ i h) ∙ invSbox-sbox (getD s i 0) (b .bytes i h))
+unsub-sub s b = block-is _ s (b .len) (λ i h. rw (block-at _ i h) (invSbox-sbox (getD s i 0) (b .bytes i h)))
 
 -- ---- ShiftRows
 
-shifted-lt : (i : ℕ) → i < 16 → shifted i < 16
-unfolding shifted
-shifted-lt = bounded shifted 16 16 tt
-
 unshifted-lt : (i : ℕ) → i < 16 → unshifted i < 16
 unfolding unshifted
-unshifted-lt = bounded unshifted 16 16 tt
+unshifted-lt = bounded unshifted 16 16 refl
 
 shifted-unshifted : (i : ℕ) → i < 16 → shifted (unshifted i) ≡ i
 unfolding shifted unshifted
-shifted-unshifted = agree (λ i. shifted (unshifted i)) (λ i. i) 16 tt
+shifted-unshifted = agree (λ i. shifted (unshifted i)) (λ i. i) 16 refl
 
 pub shift-block : (s : List ℕ) → Block s → Block (shiftRows s)
 unfolding shiftRows
-shift-block s b = block-of _ (λ i h. b .bytes (shifted i) (shifted-lt i h))
+shift-block s b = block-of _ (λ i h. all-bytes b (shifted i))
 
 pub unshift-block : (s : List ℕ) → Block s → Block (invShiftRows s)
 unfolding invShiftRows
-unshift-block s b = block-of _ (λ i h. b .bytes (unshifted i) (unshifted-lt i h))
+unshift-block s b = block-of _ (λ i h. all-bytes b (unshifted i))
 
 pub unshift-shift : (s : List ℕ) → length s ≡ 16 → invShiftRows (shiftRows s) ≡ s
 unfolding shiftRows invShiftRows
-unshift-shift s e =
-    block-is _ s e (λ i h. block-at _ (unshifted i) (unshifted-lt i h) ∙ ap (λ (k : ℕ). getD s k 0) (shifted-unshifted i h))
+unshift-shift s e = block-is _ s e (λ i h. rw (block-at _ _ (unshifted-lt i h), shifted-unshifted i h))
 
 -- ---- MixColumns
 
-down-lt : (j i : ℕ) → i < 16 → down i j < 16
+down-lt : (i j : ℕ) → i < 16 → down i j < 16
 unfolding down
-down-lt j i h = omega arith
+down-lt i j h = omega arith
 
--- the four bytes of a column of a block are bytes
-module _ {A : Type 0} (s : List ℕ) (b : Block s) (i : ℕ) (h : i < 16) where
-  on-column : ((getD s (down i 0) 0 < 256) → (getD s (down i 1) 0 < 256) → (getD s (down i 2) 0 < 256) → (getD s (down i 3) 0 < 256) → A) → A
-  on-column f =
-      f (b .bytes (down i 0) (down-lt 0 i h)) (b .bytes (down i 1) (down-lt 1 i h)) (b .bytes (down i 2) (down-lt 2 i h))
-      (b .bytes (down i 3) (down-lt 3 i h))
+down-zero : (i : ℕ) → down i 0 ≡ i
+unfolding down
+down-zero i = omega arith
+
+down-down : (i j k : ℕ) → down (down i j) k ≡ down i ((j + k) % 4)
+unfolding down
+down-down i j k =
+    let column : (4 * (i / 4) + (i + j) % 4) / 4 ≡ i / 4 = omega arith in
+    let place : (4 * (i / 4) + (i + j) % 4 + k) % 4 ≡ (i + (j + k)) % 4 = omega arith in
+    rw (column, place, add-mod-mod)
 
 pub mix-block : (s : List ℕ) → Block s → Block (mixColumns s)
 unfolding mixColumns
-mix-block s b = block-of _ (λ i h. on-column s b i h (mixed-byte _ _ _ _))
+mix-block s b = block-of _ (λ i h. mixed-byte _ _ _ _ (all-bytes b _) (all-bytes b _) (all-bytes b _) (all-bytes b _))
 
 pub unmix-block : (s : List ℕ) → Block s → Block (invMixColumns s)
 unfolding invMixColumns
-unmix-block s b = block-of _ (λ i h. on-column s b i h (unmixed-byte _ _ _ _))
-
--- one column, there and back
-column-back : (a b c d : ℕ) → a < 256 → b < 256 → c < 256 → d < 256
-    → unmixed (mixed a b c d) (mixed b c d a) (mixed c d a b) (mixed d a b c)
-    ∷ unmixed (mixed b c d a) (mixed c d a b) (mixed d a b c) (mixed a b c d)
-    ∷ unmixed (mixed c d a b) (mixed d a b c) (mixed a b c d) (mixed b c d a)
-    ∷ unmixed (mixed d a b c) (mixed a b c d) (mixed b c d a) (mixed c d a b) ∷ [] ≡ a ∷ b ∷ c ∷ d ∷ []
-column-back a b c d ha hb hc hd t =
-    unmixed-mixed a b c d ha hb hc hd t ∷ unmixed-mixed b c d a hb hc hd ha t ∷ unmixed-mixed c d a b hc hd ha hb t
-    ∷ unmixed-mixed d a b c hd ha hb hc t ∷ []
+unmix-block s b = block-of _ (λ i h. unmixed-byte _ _ _ _ (all-bytes b _) (all-bytes b _) (all-bytes b _) (all-bytes b _))
 
 pub unmix-mix : (s : List ℕ) → Block s → invMixColumns (mixColumns s) ≡ s
-unfolding invMixColumns mixColumns block run down
+unfolding invMixColumns mixColumns
 unmix-mix s b =
-    (λ t. column-back _ _ _ _ (b .bytes 0 (lit< tt)) (b .bytes 1 (lit< tt)) (b .bytes 2 (lit< tt)) (b .bytes 3 (lit< tt)) t
-    ++ column-back _ _ _ _ (b .bytes 4 (lit< tt)) (b .bytes 5 (lit< tt)) (b .bytes 6 (lit< tt)) (b .bytes 7 (lit< tt)) t
-    ++ column-back _ _ _ _ (b .bytes 8 (lit< tt)) (b .bytes 9 (lit< tt)) (b .bytes 10 (lit< tt)) (b .bytes 11 (lit< tt)) t
-    ++ column-back _ _ _ _ (b .bytes 12 (lit< tt)) (b .bytes 13 (lit< tt)) (b .bytes 14 (lit< tt)) (b .bytes 15 (lit< tt)) t)
-    ∙ block-is (λ i. getD s i 0) s (b .len) (λ i h. refl)
+    block-is _ s (b .len)
+    (λ i h. simp (block-at, down-lt, down-down)
+    (unmixed-mixed _ _ _ _ (all-bytes b _) (all-bytes b _) (all-bytes b _) (all-bytes b _) ∙ ap (λ (k : ℕ). getD s k 0) (down-zero i)))
 
 -- InvMixColumns of a sum is the sum of both
 pub unmix-add : (s k : List ℕ) → Block s → Block k → invMixColumns (addRoundKey s k) ≡ addRoundKey (invMixColumns s) (invMixColumns k)
 unfolding addRoundKey invMixColumns unmixed
 unmix-add s k bs bk =
     block-same _ _
-    (λ i h. (λ t. row 14 11 13 9 (sum i h 0 t) (sum i h 1 t) (sum i h 2 t) (sum i h 3 t))
-    ∙ on-column s bs i h (λ p q r u. on-column k bk i h (λ v w x y. row-xor 14 11 13 9 _ _ _ _ _ _ _ _ p q r u v w x y))
-    ∙ sym (λ t. xor (block-at (unmixAt s) i h t) (block-at (unmixAt k) i h t)))
-  where
-    sum : (i : ℕ) → i < 16 → (j : ℕ) → getD (block (λ i. xor (getD s i 0) (getD k i 0))) (down i j) 0
-        ≡ xor (getD s (down i j) 0) (getD k (down i j) 0)
-    sum i h j = block-at _ (down i j) (down-lt j i h)
-
-    unmixAt : List ℕ → ℕ → ℕ
-    unmixAt l i = row 14 11 13 9 (getD l (down i 0) 0) (getD l (down i 1) 0) (getD l (down i 2) 0) (getD l (down i 3) 0)
+    (λ i h. simp (block-at, down-lt)
+    (row-xor 14 11 13 9 _ _ _ _ _ _ _ _ (all-bytes bs _) (all-bytes bs _) (all-bytes bs _) (all-bytes bs _)
+    (all-bytes bk _) (all-bytes bk _) (all-bytes bk _) (all-bytes bk _)))

@@ -23,8 +23,7 @@ use Rattle.aes.proofs.Schedule.{Keys, expandKey-keys}
 pub rounds-more : (ks : List (List ℕ)) (s₀ s k r : List ℕ) (n : ℕ) → s ≡ rounds ks s₀ n → k ≡ getD ks (n + 1) []
     → r ≡ addRoundKey (mixColumns (shiftRows (subBytes s))) k → r ≡ rounds ks s₀ (n + 1)
 unfolding rounds
-rounds-more ks s₀ s k r n es ek er =
-    er ∙ ap₂ (λ (x y : List ℕ). addRoundKey (mixColumns (shiftRows (subBytes x))) y) es ek ∙ (rw add-one)
+rounds-more ks s₀ s k r n es ek er = rw (er, es, ek, add-one)
 
 pub cipher-whole : (ks : List (List ℕ)) (b k s₀ s l r : List ℕ) → k ≡ getD ks 0 [] → s₀ ≡ addRoundKey b k → s ≡ rounds ks s₀ 9
     → l ≡ getD ks 10 [] → r ≡ addRoundKey (shiftRows (subBytes s)) l → r ≡ cipher ks b
@@ -32,36 +31,19 @@ unfolding cipher
 cipher-whole ks b k s₀ s l r ek e₀ es el er = cc
 
 -- by a key that InvMixColumns was applied to
-pub unrounds-less : (ks ds : List (List ℕ)) → InverseKeys ks ds 10 → (s k r : List ℕ) (n : ℕ) → 0 < n → n ≤ 9 → Block s → k ≡ getD ds n []
-    → r ≡ addRoundKey (invMixColumns (invSubBytes (invShiftRows s))) k → unrounds ks (n - 1) r ≡ unrounds ks n s
+pub unrounds-less : (ks ds : List (List ℕ)) → InverseKeys ks ds 10 → (k : List ℕ) (n : ℕ) → 0 < n → n ≤ 9 → k ≡ getD ds n [] → (s r : List ℕ)
+    → (r ≡ addRoundKey (invMixColumns (invSubBytes (invShiftRows s))) k) × Block s → unrounds ks (n - 1) r ≡ unrounds ks n s
 unfolding unrounds
-unrounds-less ks ds inv s k r zero h g b ek er = absurd (omega arith)
-unrounds-less ks ds inv s k r (suc n) h g b ek er =
+unrounds-less ks ds inv k zero h g ek s r e = absurd (omega arith)
+unrounds-less ks ds inv k (suc n) h g ek s r (er, b) =
     let key = inv (suc n) (omega arith) (omega arith) in
     let m : suc n - 1 ≡ n = omega arith in
-    ap₂ (unrounds ks) m
-    (er ∙ ap (addRoundKey (invMixColumns (invSubBytes (invShiftRows s)))) (ek ∙ key .0)
-    ∙ sym (unmix-add (invSubBytes (invShiftRows s)) (getD ks (suc n) []) (unsub-block _ (unshift-block s b)) (key .1)))
+    rw (m, er, ek, key .0, ← unmix-add _ _ (unsub-block _ (unshift-block s b)) (key .1))
 
-pub invCipher-whole : (ks : List (List ℕ)) (b k s₀ s l r : List ℕ) (n : ℕ) → k ≡ getD ks 10 [] → s₀ ≡ addRoundKey b k
-    → unrounds ks n s ≡ unrounds ks 9 s₀ → n ≤ 0 → l ≡ getD ks 0 [] → r ≡ addRoundKey (invSubBytes (invShiftRows s)) l → r ≡ invCipher ks b
+pub invCipher-whole : (ks : List (List ℕ)) (k l : List ℕ) (n : ℕ) → k ≡ getD ks 10 [] → n ≤ 0 → l ≡ getD ks 0 [] → (b s₀ s r : List ℕ)
+    → s₀ ≡ addRoundKey b k → unrounds ks n s ≡ unrounds ks 9 s₀ → r ≡ addRoundKey (invSubBytes (invShiftRows s)) l → r ≡ invCipher ks b
 unfolding invCipher unrounds
-invCipher-whole ks b k s₀ s l r (suc n) ek e₀ es h el er = absurd (omega arith)
-invCipher-whole ks b k s₀ s l r zero ek e₀ es h el er =
-    er ∙ ap (addRoundKey (invSubBytes (invShiftRows s))) el ∙ es ∙ ap (unrounds ks 9) (e₀ ∙ ap (addRoundKey b) ek)
-
--- one key more with InvMixColumns applied
-pub inverse-more : (ks ds : List (List ℕ)) (r : List ℕ) (n : ℕ) → n < length ds → InverseKeys ks ds n → r ≡ invMixColumns (getD ks n [])
-    → Block (getD ks n [])
-    → InverseKeys ks (set ds n r) (n + 1)
-inverse-more ks ds r n h inv er b i p g = here (ℕ-discrete i n)
-  where
-    here : Dec (i ≡ n) → (getD (set ds n r) i [] ≡ invMixColumns (getD ks i [])) × Block (getD ks i [])
-    here (yes e) = (
-      ap (λ (j : ℕ). getD (set ds n r) j []) e ∙ getD-set-same ds n r [] h ∙ er ∙ ap (λ (j : ℕ). invMixColumns (getD ks j [])) (sym e),
-      subst (λ (j : ℕ). Block (getD ks j [])) (sym e) b,
-    )
-    here (no q) = let old = inv i p (omega (arith, q)) in (getD-set-other ds n i r [] q ∙ old .0, old .1)
+invCipher-whole ks k l n ek h el b s₀ s r e₀ es er = let z : n ≡ 0 = omega arith in cc
 
 -- ---- lengths and bytes
 
@@ -81,41 +63,32 @@ invCipher-length ks b = unrounds-length ks 9 _
 -- ---- decryption undoes encryption
 
 module _ (ks : List (List ℕ)) (hk : Keys ks) (b : List ℕ) (hb : Block b) where
-  begun : List ℕ
+  abbrev begun : List ℕ
   begun = addRoundKey b (getD ks 0 [])
 
   rounds-block : (n : ℕ) → n < 11 → Block (rounds ks begun n)
-  unfolding rounds begun
-  rounds-block zero h = add-block b (getD ks 0 []) hb (hk 0 (lit< tt))
-  rounds-block (suc n) h =
-      add-block _ _ (mix-block _ (shift-block _ (sub-block _ (rounds-block n (le-trans (le-suc (suc n)) h))))) (hk (suc n) h)
+  unfolding rounds
+  rounds-block zero h = add-block b (getD ks 0 []) hb (hk 0 h)
+  rounds-block (suc n) h = add-block _ _ (mix-block _ (shift-block _ (sub-block _ (rounds-block n (omega arith))))) (hk (suc n) h)
 
   pub cipher-block : Block (cipher ks b)
-  unfolding cipher begun
+  unfolding cipher
   cipher-block = add-block _ _ (shift-block _ (sub-block _ (rounds-block 9 (lit< tt)))) (hk 10 (lit< tt))
 
   sub-shift : (s : List ℕ) → Block s → invSubBytes (invShiftRows (shiftRows (subBytes s))) ≡ s
-  sub-shift s h = ap invSubBytes (unshift-shift (subBytes s) (sub-block s h .len)) ∙ unsub-sub s h
+  sub-shift s h = rw (unshift-shift (subBytes s) (sub-block s h .len)) (unsub-sub s h)
 
   back : (n : ℕ) → n < 11 → unrounds ks n (shiftRows (subBytes (rounds ks begun n))) ≡ b
-  unfolding rounds unrounds begun
-  back zero h =
-      ap (λ (s : List ℕ). addRoundKey s (getD ks 0 [])) (sub-shift _ (rounds-block zero h)) ∙ add-add b (getD ks 0 []) (hb .len)
+  unfolding rounds unrounds
+  back zero h = rw (sub-shift _ (rounds-block zero h)) (add-add b (getD ks 0 []) (hb .len))
   back (suc n) h =
-      let g : n < 11 = le-trans (le-suc (suc n)) h in
-      let m : Block (shiftRows (subBytes (rounds ks begun n))) = shift-block _ (sub-block _ (rounds-block n g)) in
-      ap (unrounds ks n)
-      (ap invMixColumns
-      (ap (λ (s : List ℕ). addRoundKey s (getD ks (suc n) [])) (sub-shift _ (rounds-block (suc n) h))
-      ∙ add-add (mixColumns (shiftRows (subBytes (rounds ks begun n)))) (getD ks (suc n) []) (mix-block _ m .len))
-      ∙ unmix-mix _ m)
-      ∙ back n g
+      let g : n < 11 = omega arith in
+      let m = shift-block _ (sub-block _ (rounds-block n g)) in
+      rw (sub-shift _ (rounds-block (suc n) h), add-add _ (getD ks (suc n) []) (mix-block _ m .len), unmix-mix _ m) (back n g)
 
   pub invCipher-cipher : invCipher ks (cipher ks b) ≡ b
-  unfolding invCipher cipher begun
-  invCipher-cipher =
-      ap (unrounds ks 9) (add-add _ (getD ks 10 []) (shift-block _ (sub-block _ (rounds-block 9 (lit< tt))) .len))
-      ∙ back 9 (lit< tt)
+  unfolding invCipher cipher
+  invCipher-cipher = rw (add-add _ (getD ks 10 []) (shift-block _ (sub-block _ (rounds-block 9 (lit< tt))) .len)) (back 9 (lit< tt))
 
 -- for every key and block
 pub decrypt-encrypt : (key b : List ℕ) → Block key → Block b → invCipher (expandKey key) (cipher (expandKey key) b) ≡ b

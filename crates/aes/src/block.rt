@@ -16,7 +16,7 @@ use field::tables::unmixing;
 ghost use mathlib.Core.Path.{_≡_};
 ghost use Prim.Native.Nat.{_≤_};
 ghost use lib.ListN.{getD, length};
-ghost use Rattle.field.specs.Runs.{table};
+ghost use Rattle.laws.specs.Runs.{table};
 ghost use Rattle.field.specs.Sbox.{sbox, invSbox};
 ghost use Rattle.field.specs.Words.{Mixes};
 ghost use Rattle.aes.specs.State.{loadBlock};

@@ -21,7 +21,7 @@ ghost use Prim.Native.Nat.{_+_, _%_, _≤_, _<_};
 ghost use lib.Dec.{eqb, leb};
 ghost use lib.ListN.{length, take, drop};
 ghost use lib.Seq.{paste};
-ghost use Rattle.field.specs.Runs.{table};
+ghost use Rattle.laws.specs.Runs.{table};
 ghost use Rattle.field.specs.Sbox.{sbox, invSbox};
 ghost use Rattle.field.specs.Words.{Mixes};
 ghost use Rattle.aes.specs.State.{addRoundKey};

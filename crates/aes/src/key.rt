@@ -2,7 +2,7 @@
 // Key expansion (FIPS 197, 5.2).
 use field::tables::substitution;
 ghost use mathlib.Core.Path.{_≡_};
-ghost use Rattle.field.specs.Runs.{table};
+ghost use Rattle.laws.specs.Runs.{table};
 ghost use Rattle.field.specs.Field.{xtime};
 ghost use Rattle.field.specs.Sbox.{sbox};
 ghost use Rattle.aes.specs.Key.{nextKey, expandKey};

@@ -10,7 +10,7 @@ use super::columns::join;
 use super::columns::words;
 ghost use mathlib.Core.Path.{_≡_};
 ghost use Prim.Native.Nat.{_/_, _%_, _<_};
-ghost use Rattle.field.specs.Runs.{table};
+ghost use Rattle.laws.specs.Runs.{table};
 ghost use Rattle.field.specs.Sbox.{sbox, invSbox};
 ghost use Rattle.field.specs.Words.{column, Mixes};
 ghost use Rattle.aes.specs.State.{Block, subBytes, shiftRows, mixColumns, addRoundKey, invShiftRows, invSubBytes, invMixColumns};

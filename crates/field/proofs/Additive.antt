@@ -24,13 +24,13 @@ after g f ag af bytes =
 
 module _ (f g : ℕ → ℕ) (af : Additive f) (ag : Additive g) (one : (j : ℕ) → j < 8 → f (2 ^ j) ≡ g (2 ^ j)) where
   at-digit : (b j : ℕ) → b < 2 → j < 8 → f (b * 2 ^ j) ≡ g (b * 2 ^ j)
-  at-digit zero j hb hj = ap f (zero-mul (2 ^ j)) ∙ at-zero f af ∙ sym (ap g (zero-mul (2 ^ j)) ∙ at-zero g ag)
-  at-digit (suc zero) j hb hj = ap f (one-mul (2 ^ j)) ∙ one j hj ∙ sym (ap g (one-mul (2 ^ j)))
+  at-digit zero j hb hj = simp (zero-mul, at-zero f af, at-zero g ag)
+  at-digit (suc zero) j hb hj = simp one-mul (one j hj)
   at-digit (suc (suc b)) j hb hj = absurd (omega arith)
 
   -- digit by digit, from the top
   upto : (n d : ℕ) → n ≤ 8 → d < 256 → d < 2 ^ n → f d ≡ g d
-  upto zero d hn hd h = let z : d ≡ 0 = omega arith in ap f z ∙ at-zero f af ∙ sym (ap g z ∙ at-zero g ag)
+  upto zero d hn hd h = let z : d ≡ 0 = omega arith in rw (z, at-zero f af, at-zero g ag)
   upto (suc n) d hn hd h =
       let top = d / 2 ^ n in
       let low = d % 2 ^ n in
@@ -40,9 +40,8 @@ module _ (f g : ℕ → ℕ) (af : Additive f) (ag : Additive g) (one : (j : ℕ
       let e : xor (top * 2 ^ n) low ≡ d = is-bit-xor _ _ ∙ xor-shifted top n low hl ∙ parts in
       let bt : top * 2 ^ n < 256 = omega (arith, parts) in
       let bl : low < 256 = omega (arith, parts) in
-      ap f (sym e) ∙ af .sum (top * 2 ^ n) low bt bl
-      ∙ ap₂ xor (at-digit top n ht (omega arith)) (upto n low (omega arith) bl hl)
-      ∙ sym (ag .sum (top * 2 ^ n) low bt bl) ∙ ap g e
+      subst (λ (x : ℕ). f x ≡ g x) e
+      (rw (af .sum _ low bt bl, ag .sum _ low bt bl, at-digit top n ht (omega arith), upto n low (omega arith) bl hl))
 
   pub additive-same : (d : ℕ) → d < 256 → f d ≡ g d
   additive-same d h = upto 8 d (omega arith) h h

@@ -1,6 +1,4 @@
 -- SPDX-License-Identifier: MPL-2.0
-pub mod Below
-pub mod Runs
 pub mod Xor
 pub mod Linear
 pub mod Additive

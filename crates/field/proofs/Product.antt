@@ -4,12 +4,13 @@
 use mathlib.Core.Path.{_≡_, refl, _∙_}
 use mathlib.Core.Bool.{Bool}
 use Prim.Native.Nat.{ℕ, _^_, _<_}
-use lib.Dec.{T, eqb, eqb→eq, lit<}
+use lib.Dec.{eqb, lit<}
+use borrow.Author.Tests.{eqb-true}
 use Rattle.field.specs.Xor.{xor}
 use Rattle.field.specs.Field.{xtime, times, mul}
 use Rattle.field.proofs.Linear.{mul-byte, mul-xor, xor-mul}
 use Rattle.field.proofs.Additive.{Additive, at-zero, after, additive-same}
-use Rattle.field.proofs.Below.{every, below, agree, bounded}
+use Rattle.laws.proofs.Below.{every, below, agree, bounded}
 
 -- in the second factor, and in the first
 by : (k : ℕ) → Additive (mul k)
@@ -19,7 +20,7 @@ of : (b : ℕ) → b < 256 → Additive (λ a. mul a b)
 of b h = record { sum = λ a c ha hc. xor-mul a c b h }
 
 digit-byte : (j : ℕ) → j < 8 → 2 ^ j < 256
-digit-byte = bounded (λ j. 2 ^ j) 256 8 tt
+digit-byte = bounded (λ j. 2 ^ j) 256 8 refl
 
 pub mul-zero : (k : ℕ) → mul k 0 ≡ 0
 mul-zero k = at-zero (mul k) (by k)
@@ -27,17 +28,16 @@ mul-zero k = at-zero (mul k) (by k)
 pub one-times : (x : ℕ) → x < 256 → mul 1 x ≡ x
 unfolding mul times xtime xor
 one-times =
-    additive-same (mul 1) (λ x. x) (by 1) (record { sum = λ a b ha hb. refl }) (agree (λ j. mul 1 (2 ^ j)) (λ j. 2 ^ j) 8 tt)
+    additive-same (mul 1) (λ x. x) (by 1) (record { sum = λ a b ha hb. refl }) (agree (λ j. mul 1 (2 ^ j)) (λ j. 2 ^ j) 8 refl)
 
 -- ---- either factor first
 
-commute : ℕ → ℕ → Bool
+abbrev commute : ℕ → ℕ → Bool
 commute i j = eqb (mul (2 ^ i) (2 ^ j)) (mul (2 ^ j) (2 ^ i))
 
 digits-commute : (i j : ℕ) → i < 8 → j < 8 → mul (2 ^ i) (2 ^ j) ≡ mul (2 ^ j) (2 ^ i)
-unfolding commute mul times xtime xor
-digits-commute i j hi hj =
-    eqb→eq (mul (2 ^ i) (2 ^ j)) (mul (2 ^ j) (2 ^ i)) (below (commute i) 8 (below (λ i. every (commute i) 0 8) 8 tt i hi) j hj)
+unfolding mul times xtime xor
+digits-commute i j hi hj = eqb-true _ _ (below (commute i) 8 (below (λ i. every (commute i) 8) 8 refl i hi) j hj)
 
 pub times-comm : (a b : ℕ) → a < 256 → b < 256 → mul a b ≡ mul b a
 times-comm a b ha hb = additive-same (λ x. mul x b) (mul b) (of b hb) (by b) one a ha
@@ -51,19 +51,14 @@ zero-times x h = times-comm 0 x (lit< tt) h ∙ mul-zero x
 
 -- ---- three factors
 
-associate : ℕ → ℕ → ℕ → Bool
+abbrev associate : ℕ → ℕ → ℕ → Bool
 associate i j k = eqb (mul (mul (2 ^ i) (2 ^ j)) (2 ^ k)) (mul (2 ^ i) (mul (2 ^ j) (2 ^ k)))
 
-all-associate : T (every (λ i. every (λ j. every (associate i j) 0 8) 0 8) 0 8)
-unfolding associate mul times xtime xor
-all-associate = tt
-
 digits-associate : (i j k : ℕ) → i < 8 → j < 8 → k < 8 → mul (mul (2 ^ i) (2 ^ j)) (2 ^ k) ≡ mul (2 ^ i) (mul (2 ^ j) (2 ^ k))
-unfolding associate
+unfolding mul times xtime xor
 digits-associate i j k hi hj hk =
-    eqb→eq (mul (mul (2 ^ i) (2 ^ j)) (2 ^ k)) (mul (2 ^ i) (mul (2 ^ j) (2 ^ k)))
-    (below (associate i j) 8 (below (λ j. every (associate i j) 0 8) 8
-    (below (λ i. every (λ j. every (associate i j) 0 8) 0 8) 8 all-associate i hi) j hj) k hk)
+    let all = below (λ i. every (λ j. every (associate i j) 8) 8) 8 refl i hi in
+    eqb-true _ _ (below (associate i j) 8 (below (λ j. every (associate i j) 8) 8 all j hj) k hk)
 
 pub times-assoc : (a b c : ℕ) → a < 256 → b < 256 → c < 256 → mul (mul a b) c ≡ mul a (mul b c)
 times-assoc a b c ha hb hc =

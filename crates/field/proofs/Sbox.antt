@@ -9,7 +9,7 @@ use Rattle.field.specs.Field.{xtime, times, mul, square, ones, inverse}
 use Rattle.field.specs.Sbox.{affine, unaffine, sbox, invSbox, Substitute}
 use Rattle.field.proofs.Linear.{mul-byte}
 use Rattle.field.proofs.Product.{mul-zero, one-times, times-comm, times-assoc}
-use Rattle.field.proofs.Below.{agree}
+use Rattle.laws.proofs.Below.{agree}
 
 -- ---- b to the power of 254 is the inverse of b
 
@@ -23,16 +23,13 @@ unfolding inverse square
 inverse-byte b h = mul-byte (ones 6 b) (ones 6 b) (ones-byte 6 b h)
 
 -- the one test over all bytes
-inverts : (b : ℕ) → b < 256 → mul b (inverse b) ≡ min b 1
+inverts : (b : ℕ) → b < 256 → 0 < b → mul b (inverse b) ≡ 1
 unfolding inverse square ones mul times xtime xor
-inverts = agree (λ b. mul b (inverse b)) (λ b. min b 1) 256 tt
+inverts b h g = agree (λ b. mul b (inverse b)) (λ b. min b 1) 256 refl b h ∙ omega arith
 
 inverse-zero : inverse 0 ≡ 0
 unfolding inverse square ones mul times xtime xor
 inverse-zero = refl
-
-one-of-positive : (b : ℕ) → 0 < b → min b 1 ≡ 1
-one-of-positive b g = omega arith
 
 pub sbox-substitutes : (b : ℕ) → b < 256 → Substitute b (sbox b)
 unfolding sbox
@@ -41,7 +38,7 @@ sbox-substitutes b h =
       inverted = inverse b;
       a-byte = inverse-byte b h;
       zero-to-zero = λ e. ap inverse e ∙ inverse-zero;
-      product-one = λ g. inverts b h ∙ one-of-positive b g;
+      product-one = inverts b h;
       image = refl;
     }
 
@@ -49,30 +46,26 @@ sbox-substitutes b h =
 
 one-inverse : (b y z : ℕ) → b < 256 → y < 256 → z < 256 → mul b y ≡ 1 → mul b z ≡ 1 → y ≡ z
 one-inverse b y z hb hy hz ey ez =
-    sym (one-times y hy) ∙ ap (λ (x : ℕ). mul x y) (sym (times-comm z b hz hb ∙ ez)) ∙ times-assoc z b y hz hb hy
-    ∙ ap (mul z) ey ∙ times-comm z 1 hz (lit< tt) ∙ one-times z hz
+    sym (one-times y hy) ∙ rw (← ez, times-comm b z hb hz, times-assoc z b y hz hb hy, ey, times-comm z 1 hz (lit< tt), one-times z hz)
 
 inverse-positive : (b i : ℕ) → mul b i ≡ 1 → 0 < i
 inverse-positive b zero e = let z = mul-zero b in absurd (omega arith)
 inverse-positive b (suc i) e = omega arith
 
 inverse-inverse : (b : ℕ) → b < 256 → inverse (inverse b) ≡ b
-inverse-inverse zero h = ap inverse inverse-zero ∙ inverse-zero
+inverse-inverse zero h = rw (inverse-zero, inverse-zero)
 inverse-inverse (suc k) h =
     let i = inverse (suc k) in
     let hi : i < 256 = inverse-byte (suc k) h in
-    let e : mul (suc k) i ≡ 1 = inverts (suc k) h ∙ one-of-positive (suc k) (omega arith) in
-    one-inverse i (inverse i) (suc k) hi (inverse-byte i hi) h
-    (inverts i hi ∙ one-of-positive i (inverse-positive (suc k) i e)) (times-comm i (suc k) hi h ∙ e)
+    let e : mul (suc k) i ≡ 1 = inverts (suc k) h (omega arith) in
+    one-inverse i (inverse i) (suc k) hi (inverse-byte i hi) h (inverts i hi (inverse-positive (suc k) i e)) (times-comm i (suc k) hi h ∙ e)
 
 pub only-sbox-substitutes : (b s : ℕ) → b < 256 → Substitute b s → s ≡ sbox b
 unfolding sbox
 only-sbox-substitutes zero s h r = r .image ∙ ap affine (r .zero-to-zero refl ∙ sym inverse-zero)
 only-sbox-substitutes (suc k) s h r =
-    r .image
-    ∙ ap affine
-    (one-inverse (suc k) (r .inverted) (inverse (suc k)) h (r .a-byte) (inverse-byte (suc k) h) (r .product-one (omega arith))
-    (inverts (suc k) h ∙ one-of-positive (suc k) (omega arith)))
+    let g : 0 < suc k = omega arith in
+    r .image ∙ ap affine (one-inverse (suc k) (r .inverted) _ h (r .a-byte) (inverse-byte (suc k) h) (r .product-one g) (inverts (suc k) h g))
 
 -- ---- bytes to bytes, and back
 
@@ -86,7 +79,7 @@ unaffine-byte b = omega arith
 
 unaffine-affine : (b : ℕ) → b < 256 → unaffine (affine b) ≡ b
 unfolding unaffine affine
-unaffine-affine = agree (λ b. unaffine (affine b)) (λ b. b) 256 tt
+unaffine-affine = agree (λ b. unaffine (affine b)) (λ b. b) 256 refl
 
 pub sbox-byte : (b : ℕ) → b < 256 → sbox b < 256
 unfolding sbox
@@ -98,4 +91,4 @@ invSbox-byte b h = inverse-byte (unaffine b) (unaffine-byte b)
 
 pub invSbox-sbox : (b : ℕ) → b < 256 → invSbox (sbox b) ≡ b
 unfolding invSbox sbox
-invSbox-sbox b h = ap inverse (unaffine-affine (inverse b) (inverse-byte b h)) ∙ inverse-inverse b h
+invSbox-sbox b h = rw (unaffine-affine _ (inverse-byte b h), inverse-inverse b h)

@@ -36,16 +36,13 @@ pub assoc : (a b c : ℕ) → xor (xor a b) c ≡ xor a (xor b c)
 unfolding xor
 assoc = xor-assoc
 
-left-comm : (a b c : ℕ) → xor a (xor b c) ≡ xor b (xor a c)
-left-comm a b c = sym (assoc a b c) ∙ ap (λ (x : ℕ). xor x c) (comm a b) ∙ assoc b a c
-
 -- twice the same cancels
 pub cancel : (a b : ℕ) → xor (xor a b) b ≡ a
-cancel a b = assoc a b b ∙ ap (xor a) (self b) ∙ zero-r a
+cancel a b = rw (assoc a b b, self b, zero-r a)
 
 -- two sums of two, regrouped
 pub swap4 : (a b c d : ℕ) → xor (xor a b) (xor c d) ≡ xor (xor a c) (xor b d)
-swap4 a b c d = assoc a b (xor c d) ∙ ap (xor a) (left-comm b c d) ∙ sym (assoc a c (xor b d))
+swap4 a b c d = rw (assoc a b, ← assoc b c d, comm b c, assoc c b d, ← assoc a c)
 
 -- a sum doubled and halved, its lowest digit and its eighth
 pub double : (a b : ℕ) → xor a b * 2 ≡ xor (a * 2) (b * 2)

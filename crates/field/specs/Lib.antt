@@ -1,5 +1,4 @@
 -- SPDX-License-Identifier: MPL-2.0
-pub mod Runs
 pub mod Xor
 pub mod Field
 pub mod Sbox

@@ -6,7 +6,7 @@ use mathlib.Core.List.{List}
 use Prim.Native.Nat.{ℕ, _+_, _*_}
 use Rattle.field.specs.Field.{mul}
 use Rattle.field.specs.Mix.{row}
-use Rattle.field.specs.Runs.{table}
+use Rattle.laws.specs.Runs.{table}
 
 -- Four bytes as a word.
 abbrev pub word : ℕ → ℕ → ℕ → ℕ → ℕ

@@ -2,7 +2,7 @@
 // The tables of AES. An array constant is built anew wherever it is indexed, so a caller takes each table once, by the functions here,
 // and passes it on by reference.
 ghost use mathlib.Core.Path.{_≡_};
-ghost use Rattle.field.specs.Runs.{table};
+ghost use Rattle.laws.specs.Runs.{table};
 ghost use Rattle.field.specs.Sbox.{sbox, invSbox};
 ghost use Rattle.field.specs.Words.{spread, twice};
 

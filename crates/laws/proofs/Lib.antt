@@ -14,3 +14,5 @@ pub mod Parts
 pub mod Stores
 pub mod Order
 pub mod Lent
+pub mod Below
+pub mod Runs

@@ -12,7 +12,4 @@ returns c =
     ∙ ap (invCipher _) (c .before .before .before .before .before .before .words .ensures)
 
 pub decrypt-block-spec : {M : Type 1} → statement M
-decrypt-block-spec =
-    tie.close (tie.spec
-    (λ c κs. search needs) (λ c κs. search needs) (λ c κs. search needs) (λ c κs. search needs) (λ c κs. search needs)
-    (λ c κs. search needs) (λ c κs. search needs) (λ c κs. search needs) returns)
+decrypt-block-spec = tie.close (tie.spec _ _ _ (λ c κs. search needs) _ _ (λ c κs. search needs) _ returns)

@@ -21,33 +21,27 @@ loop-holds c = (search needs, refl, refl)
 
 loop-again : tie.Need-loop-again Inv-loop μ-loop
 loop-again c =
-    let l = c .before .before .before .before .before .loop in
-    let a = c .before .before .before .before .before .before .before .before .before .before .args in
-    let keys = c .before .before .before .before .before .before .before .before .before .before .pre .2 in
-    let k = c .before .before .words2 .ensures in
-    let h = c .before .before .before .before .loop-test .taken in (
-      search needs,
-      unrounds-less (a .keys .now) (a .inverse .now) keys _ _ _ (l .n) h (l .inv .0) (c .before .inv-round .ensures .1) k
-          (c .before .inv-round .ensures .0) ∙ l .inv .1,
-      unrounds-less (a .keys .now) (a .inverse .now) keys _ _ _ (l .n) h (l .inv .0) (c .inv-round2 .ensures .1) k
-          (c .inv-round2 .ensures .0) ∙ l .inv .2,
-    )
+    let at-loop = c .before .before .before .before .before in
+    let start = at-loop .before .before .before .before .before in
+    let inv = at-loop .loop .inv in
+    let test = c .before .before .before .before .loop-test .taken in
+    let less = unrounds-less (start .args .keys .now) (start .args .inverse .now) (start .pre .2) _ _ test (inv .0) (c .before .before .words2 .ensures) in
+    (search needs, less _ _ (c .before .inv-round .ensures) ∙ inv .1, less _ _ (c .inv-round2 .ensures) ∙ inv .2)
 
 returns : tie.Need-returns Inv-loop μ-loop
 returns c =
-    let l = c .before .before .before .before .before .loop in
-    let k = c .before .before .before .before .before .before .before .before .words .ensures in
-    let h = c .before .before .before .before .loop-test .left in (
-      invCipher-whole _ _ _ _ _ _ _ (l .n) k (c .before .before .before .before .before .before .before .add .ensures) (l .inv .1) h
-          (c .before .before .words3 .ensures) (c .before .inv-last-round .ensures),
-      invCipher-whole _ _ _ _ _ _ _ (l .n) k (c .before .before .before .before .before .before .add2 .ensures) (l .inv .2) h
-          (c .before .before .words3 .ensures) (c .inv-last-round2 .ensures),
+    let at-words = c .before .before in
+    let at-loop = at-words .before .before .before in
+    let at-add2 = at-loop .before in
+    let inv = at-loop .loop .inv in
+    let test = at-words .before .before .loop-test .left in
+    let whole = invCipher-whole _ _ _ (at-loop .loop .n) (at-add2 .before .before .words .ensures) test (at-words .words3 .ensures) in (
+      whole _ _ _ _ (at-add2 .before .add .ensures) (inv .1) (c .before .inv-last-round .ensures),
+      whole _ _ _ _ (at-add2 .add2 .ensures) (inv .2) (c .inv-last-round2 .ensures),
     )
 
 pub decrypt-pair-spec : {M : Type 1} → statement M
 decrypt-pair-spec =
     tie.close (tie.spec
-    Inv-loop μ-loop (λ c. search needs) (λ c κs. search needs) (λ c κs. search needs) (λ c κs. search needs)
-    loop-holds (λ c. search needs) (λ c. search needs) (λ c κs. search needs) (λ c κs. search needs)
-    (λ c κs. search needs) (λ c. search needs) (λ c. search needs) loop-again (λ c. search needs)
-    (λ c κs. search needs) (λ c κs. search needs) (λ c κs. search needs) returns)
+    Inv-loop μ-loop (λ c. search needs) _ _ _ loop-holds (λ c. search needs) (λ c. search needs) _ (λ c κs. search needs) (λ c κs. search needs)
+    (λ c. search needs) (λ c. search needs) loop-again (λ c. search needs) _ (λ c κs. search needs) (λ c κs. search needs) returns)

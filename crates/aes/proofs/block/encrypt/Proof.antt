@@ -23,20 +23,18 @@ loop-holds c = search needs
 loop-again : tie.Need-loop-again Inv-loop μ-loop
 loop-again c = (
   search needs,
-  rounds-more _ _ _ _ _ _ (c .before .before .before .before .loop .inv .1) (c .before .words2 .ensures)
-      (c .round .ensures),
+  rounds-more _ _ _ _ _ _ (c .before .before .before .before .loop .inv .1) (c .before .words2 .ensures) (c .round .ensures),
 )
 
 returns : tie.Need-returns Inv-loop μ-loop
 returns c =
-    let e : c .before .before .before .before .loop .n ≡ 9 = omega arith in
-    cipher-whole _ _ _ _ _ _ _ (c .before .before .before .before .before .before .words .ensures)
-    (c .before .before .before .before .before .add .ensures)
-    (rw e at (c .before .before .before .before .loop .inv .1)) (c .before .words3 .ensures) (c .last-round .ensures)
+    let at-loop = c .before .before .before .before in
+    let e : at-loop .loop .n ≡ 9 = omega arith in
+    cipher-whole _ _ _ _ _ _ _ (at-loop .before .before .words .ensures) (at-loop .before .add .ensures) (rw e at (at-loop .loop .inv .1))
+    (c .before .words3 .ensures) (c .last-round .ensures)
 
 pub encrypt-spec : {M : Type 1} → statement M
 encrypt-spec =
     tie.close (tie.spec
-    Inv-loop μ-loop (λ c. search needs) (λ c κs. search needs) (λ c κs. search needs) loop-holds (λ c. search needs)
-    (λ c. search needs) (λ c. search needs) (λ c κs. search needs) (λ c κs. search needs) (λ c. search needs)
-    (λ c. search needs) loop-again (λ c. search needs) (λ c κs. search needs) (λ c κs. search needs) returns)
+    Inv-loop μ-loop (λ c. search needs) _ _ loop-holds (λ c. search needs) (λ c. search needs) (λ c. search needs) _ (λ c κs. search needs)
+    (λ c. search needs) (λ c. search needs) loop-again (λ c. search needs) _ (λ c κs. search needs) returns)

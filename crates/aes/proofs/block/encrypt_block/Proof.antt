@@ -10,5 +10,4 @@ returns : tie.Need-returns
 returns c = c .bytes-of .ensures ∙ c .before .encrypt .ensures ∙ ap (cipher _) (c .before .before .words .ensures)
 
 pub encrypt-block-spec : {M : Type 1} → statement M
-encrypt-block-spec =
-    tie.close (tie.spec (λ c κs. search needs) (λ c κs. search needs) (λ c κs. search needs) (λ c κs. search needs) (λ c κs. search needs) returns)
+encrypt-block-spec = tie.close (tie.spec _ _ _ (λ c κs. search needs) _ returns)

@@ -1,7 +1,7 @@
 -- SPDX-License-Identifier: MPL-2.0
 -- The code is the definition.
 use mathlib.Core.Path.{refl}
-use Rattle.field.specs.Runs.{run}
+use Rattle.laws.specs.Runs.{run}
 use Rattle.aes.specs.State.{block, loadBlock}
 use borrow.Author.Needs.{needs}
 use Rattle.aes.proofs.block.front.Statement.{statement}
@@ -14,7 +14,6 @@ returns c = refl
 pub front-spec : {M : Type 1} → statement M
 front-spec =
     tie.close (tie.spec
-    (λ c. search needs) (λ c. search needs) (λ c. search needs) (λ c. search needs) (λ c. search needs)
-    (λ c. search needs) (λ c. search needs) (λ c. search needs) (λ c. search needs) (λ c. search needs)
-    (λ c. search needs) (λ c. search needs) (λ c. search needs) (λ c. search needs) (λ c. search needs)
-    (λ c. search needs) returns)
+    (λ c. search needs) (λ c. search needs) (λ c. search needs) (λ c. search needs) (λ c. search needs) (λ c. search needs) (λ c. search needs)
+    (λ c. search needs) (λ c. search needs) (λ c. search needs) (λ c. search needs) (λ c. search needs) (λ c. search needs) (λ c. search needs)
+    (λ c. search needs) (λ c. search needs) returns)

@@ -9,4 +9,4 @@ returns : tie.Need-returns
 returns c = c .words .ensures ∙ c .before .front .ensures
 
 pub words-from-spec : {M : Type 1} → statement M
-words-from-spec = tie.close (tie.spec (λ c κs. search needs) (λ c κs. search needs) returns)
+words-from-spec = tie.close (tie.spec (λ c κs. search needs) _ returns)

@@ -1,6 +1,7 @@
 -- SPDX-License-Identifier: MPL-2.0
 -- A chain of two blocks.
 use mathlib.Core.Path.{refl}
+use native.Mathlib.Omega.{arith}
 use lib.ListN.{replicate}
 use Rattle.aes.proofs.Ends.{both-ends}
 use borrow.Author.Needs.{needs}
@@ -17,16 +18,12 @@ returns c =
     let at-put = at-put2 .before .before .before in
     let start = at-put .before .before in
     let a = start .args in
-    let good-first = start .good .1 .1 .0 in
-    let good-last = start .good .1 .1 .1 .1 .0 in
-    both-ends (a .keys .now) (a .vector) (a .first) (a .last) (search needs) (search needs) (replicate 32 0) (replicate 32 0) _ _ _ refl refl
+    both-ends _ _ (a .first) (a .last) (omega (arith, start .good)) (omega (arith, start .good)) (replicate 32 0) (replicate 32 0) _ _ _ refl refl
     (at-put .put .ensures) (at-put2 .put2 .ensures) (at-plain .cbc-decrypt .ensures .1) _ _ _ _ _ (at-front2 .front2 .ensures)
     (at-front .front .ensures) (at-sum .sum .ensures) (c .sum2 .ensures)
 
 pub cbc-decrypt-ends-spec : {M : Type 1} → statement M
 cbc-decrypt-ends-spec =
     tie.close (tie.spec
-    (λ c. search needs) (λ c κs. search needs) (λ c. search needs) (λ c κs. search needs) (λ c. search needs)
-    (λ c. search needs) (λ c κs. search needs) (λ c. search needs) (λ c. search needs) (λ c. search needs)
-    (λ c κs. search needs) (λ c κs. search needs) (λ c. search needs) (λ c κs. search needs) (λ c κs. search needs)
-    returns)
+    (λ c. search needs) (λ c κs. search needs) (λ c. search needs) (λ c κs. search needs) (λ c. search needs) (λ c. search needs) _
+    (λ c. search needs) (λ c. search needs) (λ c. search needs) (λ c κs. search needs) _ (λ c. search needs) (λ c κs. search needs) _ returns)

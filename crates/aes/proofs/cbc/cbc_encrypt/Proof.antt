@@ -1,30 +1,28 @@
 -- SPDX-License-Identifier: MPL-2.0
 -- A copy, encrypted in place.
 use native.Mathlib.Omega.{arith}
-use mathlib.Core.Path.{refl}
+use mathlib.Core.Path.{refl, sym, _∙_}
 use Prim.Native.Nat.{_-_}
 use lib.ListN.{length}
 use Rattle.aes.specs.Cbc.{cbcEncrypt}
-use Rattle.aes.proofs.ChainCalls.{roomy, no-fit, encrypted-copy}
+use Rattle.aes.proofs.ChainCalls.{roomy, encrypted-copy}
+use borrow.Author.Tests.{not-true, not-false}
 use borrow.Author.Needs.{needs}
 use Rattle.aes.proofs.cbc.cbc_encrypt.Statement.{statement}
 use Rattle.aes.proofs.cbc.cbc_encrypt.Tie as tie
 
 returns : tie.Need-returns
-returns c =
-    let a = c .before .before .before .before .args in
-    no-fit (a .source .now) (a .target .now) _ (c .before .fit .ensures) (cbcEncrypt (a .keys .now) (a .vector) (a .source .now)) (c .if1 .taken)
+returns c = rw (sym (c .before .fit .ensures) ∙ not-true _ (c .if1 .taken)) (refl, refl)
 
 copy-requires : tie.Need-copy-requires
-copy-requires c κs =
-    let a = c .before .before .before .before .before .args in
-    roomy (a .source .now) (a .target .now) _ (c .before .before .fit .ensures) (c .before .if1 .left) .1
+copy-requires c κs = roomy _ _ (c .before .before .fit .ensures) (c .before .if1 .left) .1
 
 part-cbc-encrypt-in-place-end : tie.Need-part-cbc-encrypt-in-place-end
 part-cbc-encrypt-in-place-end c =
     let at-if = c .before .before .before .before in
     let a = at-if .before .before .before .before .args in
-    omega (arith, roomy (a .source .now) (a .target .now) _ (at-if .before .fit .ensures) (at-if .if1 .left) .1, c .before .before .copy .ensures .0)
+    let room = roomy (length (a .source .now)) (length (a .target .now)) (at-if .before .fit .ensures) (at-if .if1 .left) .1 in
+    omega (arith, room, c .before .before .copy .ensures .0)
 
 returns-2 : tie.Need-returns-2
 returns-2 c =
@@ -32,12 +30,10 @@ returns-2 c =
     let at-copy = at-encrypted .before .before .before .before in
     let at-if = at-copy .before .before in
     let a = at-if .before .before .before .before .args in
-    encrypted-copy (a .keys .now) (a .vector) (a .source .now) (a .target .now) _ (at-if .before .fit .ensures) (at-if .if1 .left) _ _ _
+    encrypted-copy _ _ (a .source .now) (a .target .now) (sym (at-if .before .fit .ensures) ∙ not-false _ (at-if .if1 .left)) _ _ _
     (length (a .source .now) - 0) _ (omega arith) (at-copy .copy .ensures .1) (at-encrypted .cbc-encrypt-in-place .ensures .0)
     (at-encrypted .cbc-encrypt-in-place .ensures .1) refl
 
 pub cbc-encrypt-spec : {M : Type 1} → statement M
 cbc-encrypt-spec =
-    tie.close (tie.spec
-    (λ c κs. search needs) returns copy-requires (λ c. search needs) (λ c. search needs)
-    part-cbc-encrypt-in-place-end (λ c κs. search needs) (λ c. search needs) returns-2)
+    tie.close (tie.spec _ returns copy-requires (λ c. search needs) (λ c. search needs) part-cbc-encrypt-in-place-end _ (λ c. search needs) returns-2)

@@ -9,4 +9,4 @@ returns : tie.Need-returns
 returns c = one-encrypted _ (c .before .before .before .args .block) _ (search needs) (c .before .cbc-encrypt-in-place .ensures .1)
 
 pub cbc-encrypt-one-spec : {M : Type 1} → statement M
-cbc-encrypt-one-spec = tie.close (tie.spec (λ c. search needs) (λ c κs. search needs) returns)
+cbc-encrypt-one-spec = tie.close (tie.spec (λ c. search needs) _ returns)

@@ -3,6 +3,7 @@
 use native.Mathlib.Decide.{ℕ-discrete}
 use native.Mathlib.Omega.{arith}
 use Prim.Native.Nat.{_-_}
+use borrow.Author.Needs.{needs}
 use lib.ListN.{length}
 use Rattle.aes.specs.Words.{bytesOf}
 use Rattle.aes.specs.Cbc.{cbcDecryptBlock, cbcDecrypt}
@@ -20,38 +21,19 @@ abbrev μ-loop : tie.MeasureT-loop
 loop-holds : tie.Need-loop-holds Inv-loop μ-loop
 loop-holds c = begin _ _ _ _ _ (c .before .before .pre .3) (c .before .before .pre .4)
 
-following-requires : tie.Need-following-requires Inv-loop μ-loop
-following-requires c κs = block-left _ _ _ _ _ _ _ _ (c .before .loop .inv) (c .loop-test .taken) .0
-
-decrypt-two-requires : tie.Need-decrypt-two-requires Inv-loop μ-loop
-decrypt-two-requires c κs =
-    let a = c .before .before .before .before .before .before .pre in
-    let l = c .before .before .before .loop .inv in
-    let f = c .before .following .ensures in
-    (a .0, a .1, a .2, f .0, f .1, omega (arith, l .room, l .len, f .1))
-
-add-at : tie.Need-add-at Inv-loop μ-loop
-add-at c = omega (arith, c .before .before .before .before .following .ensures .1)
-
-loop-less : tie.Need-loop-less Inv-loop μ-loop
-loop-less c = omega (arith, c .before .before .before .before .following .ensures .0, c .before .before .before .before .following .ensures .1)
-
 loop-again : tie.Need-loop-again Inv-loop μ-loop
 loop-again c =
     let f = c .before .before .before .before .following in
     let d = c .before .before .decrypt-two .ensures in
-    decrypt-two-more _ _ _ _ _ _ _ (c .before .before .before .before .before .before .loop .inv) (f .result) _ _ (f .ensures .0)
+    decrypt-two-more _ (c .before .before .before .before .before .before .loop .inv) (f .result) _ _ (f .ensures .0)
     (f .ensures .1) (f .ensures .2) (d .0) (d .1) (ℕ-discrete (f .result) _)
-
-same-length : tie.Need-same-length Inv-loop μ-loop
-same-length c = c .before .loop .inv .len
 
 returns : tie.Need-returns Inv-loop μ-loop
 unfolding cbcDecrypt
-returns c = done _ _ _ _ _ _ _ _ (c .before .loop .inv) (c .loop-test .left)
+returns c = done (c .before .loop .inv) (c .loop-test .left)
 
 pub decrypt-blocks-spec : {M : Type 1} → statement M
 decrypt-blocks-spec =
     tie.close (tie.spec
-    Inv-loop μ-loop loop-holds following-requires decrypt-two-requires add-at loop-less loop-again same-length
+    Inv-loop μ-loop loop-holds (λ c κs. search needs) (λ c κs. search needs) (λ c. search needs) (λ c. search needs) loop-again (λ c. search needs)
     returns)

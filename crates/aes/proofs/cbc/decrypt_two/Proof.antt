@@ -1,7 +1,9 @@
 -- SPDX-License-Identifier: MPL-2.0
 -- By the contracts of what it calls.
 use native.Mathlib.Omega.{arith}
-use Rattle.aes.proofs.ChainLoop.{decrypted-two}
+use mathlib.Core.Path.{_∙_}
+use Rattle.aes.specs.Cbc.{cbcDecryptBlock}
+use Rattle.aes.proofs.ChainLoop.{loaded}
 use Rattle.aes.proofs.ChainCalls.{room-after}
 use borrow.Author.Needs.{needs}
 use Rattle.aes.proofs.cbc.decrypt_two.Statement.{statement}
@@ -14,6 +16,7 @@ put-requires-2 c κs =
     room-after _ _ _ _ _ _ (known .3) (known .5) (at-put .before .bytes-of .ensures) (at-put .put .ensures)
 
 returns : tie.Need-returns
+unfolding cbcDecryptBlock
 returns c =
     let at-put2 = c .before .before in
     let at-add2 = at-put2 .before .before in
@@ -23,15 +26,13 @@ returns c =
     let at-y = at-pair .before in
     let at-x = at-y .before .before in
     let a = at-x .before .before .before .before in
-    decrypted-two _ (a .args .source .now) _ _ (a .args .at) (a .args .next) (omega (arith, a .pre .3, a .pre .4)) (a .pre .4) _ _ _ _ _ _ _ _ _ _
-    (at-x .words-from .ensures) (at-y .words-from2 .ensures) (at-pair .decrypt-pair .ensures .0) (at-pair .decrypt-pair .ensures .1)
-    (at-add .add .ensures) (at-put .before .bytes-of .ensures) (at-put .put .ensures) (at-add2 .add2 .ensures) (at-put2 .before .bytes-of2 .ensures)
-    (at-put2 .put2 .ensures)
+    let x = at-x .words-from .ensures ∙ loaded (a .args .source .now) (a .args .at) (omega (arith, a .pre .3, a .pre .4)) in
+    let y = at-y .words-from2 .ensures ∙ loaded (a .args .source .now) (a .args .next) (a .pre .4) in
+    (y, rw (at-put2 .put2 .ensures, at-put .put .ensures, at-put .before .bytes-of .ensures, at-add .add .ensures, at-pair .decrypt-pair .ensures .1,
+    at-put2 .before .bytes-of2 .ensures, at-add2 .add2 .ensures, at-pair .decrypt-pair .ensures .0, y, x))
 
 pub decrypt-two-spec : {M : Type 1} → statement M
 decrypt-two-spec =
     tie.close (tie.spec
-    (λ c. search needs) (λ c. search needs) (λ c. search needs) (λ c κs. search needs) (λ c. search needs)
-    (λ c. search needs) (λ c. search needs) (λ c κs. search needs) (λ c κs. search needs) (λ c κs. search needs)
-    (λ c κs. search needs) (λ c κs. search needs) (λ c κs. search needs) (λ c κs. search needs) put-requires-2
-    (λ c. search needs) returns)
+    (λ c. search needs) (λ c. search needs) (λ c. search needs) (λ c κs. search needs) (λ c. search needs) (λ c. search needs) (λ c. search needs)
+    (λ c κs. search needs) (λ c κs. search needs) _ _ (λ c κs. search needs) _ _ put-requires-2 (λ c. search needs) returns)

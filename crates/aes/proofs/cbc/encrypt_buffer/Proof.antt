@@ -2,13 +2,15 @@
 -- Block by block; what is not done yet is as it was.
 use native.Mathlib.Omega.{arith}
 use native.Mathlib.Nat.{le-refl}
-use mathlib.Core.Path.{_∙_}
+use mathlib.Core.List.{append-nil}
+use lib.Seq.{drop-length}
 use Prim.Native.Nat.{_-_, _<_}
-use lib.ListN.{length}
+use lib.ListN.{length, take}
 use Rattle.aes.specs.Words.{bytesOf}
 use Rattle.aes.specs.Cbc.{cbcEncryptBlock, cbcEncrypt}
-use Rattle.aes.proofs.ChainLoop.{enough, Chained, begin, done, block-here, encrypt-more}
-use Rattle.aes.proofs.ChainCalls.{all-written}
+use Rattle.aes.proofs.ChainLoop.{enough, loaded, Chained, begin, more, done}
+use Rattle.aes.proofs.Chain.{encrypt-long}
+use mathlib.Core.Path.{ap, _∙_}
 use borrow.Author.Needs.{needs}
 use Rattle.aes.proofs.cbc.encrypt_buffer.Statement.{statement}
 use Rattle.aes.proofs.cbc.encrypt_buffer.Tie as tie
@@ -23,47 +25,29 @@ abbrev μ-loop : tie.MeasureT-loop
 loop-holds : tie.Need-loop-holds Inv-loop μ-loop
 loop-holds c = (begin _ _ _ _ _ (c .before .pre .2) (le-refl _), omega arith)
 
-sub-words-from : tie.Need-sub-words-from Inv-loop μ-loop
-sub-words-from c = omega (arith, c .before .loop .inv .0 .len)
-
 words-from-requires : tie.Need-words-from-requires Inv-loop μ-loop
 words-from-requires c κs =
     let l = c .before .before .before .loop in
-    enough (l .buffer) (l .at) (block-here _ _ _ _ _ _ (l .inv .0) (omega arith))
-
-put-requires : tie.Need-put-requires Inv-loop μ-loop
-put-requires c κs = block-here _ _ _ _ _ _ (c .before .before .before .before .before .before .before .before .loop .inv .0) (omega arith)
-
-add-at : tie.Need-add-at Inv-loop μ-loop
-add-at c =
-    let l = c .before .before .before .before .before .before .before .before .before .before .before .loop in
-    omega (arith, l .inv .1, l .inv .0 .len, block-here _ _ _ _ _ _ (l .inv .0) (omega arith))
-
-loop-less : tie.Need-loop-less Inv-loop μ-loop
-loop-less c = omega (arith, c .before .before .before .before .before .before .before .before .before .before .before .loop .inv .0 .len)
+    enough (l .buffer) (l .at) (omega (arith, l .inv .0 .whole, l .inv .0 .len))
 
 loop-again : tie.Need-loop-again Inv-loop μ-loop
+unfolding cbcEncryptBlock
 loop-again c =
-    let at-add = c .before .before .before .before .before .before in
-    let l = at-add .before .before .before .before .before .loop in (
-      encrypt-more _ _ _ _ _ _ (l .inv .0) (omega arith) _ _ _ _ _ (at-add .before .words-from .ensures) (at-add .add .ensures)
-          (c .before .before .before .before .before .encrypt .ensures) (c .before .before .before .bytes-of .ensures)
-          (c .before .before .put .ensures),
-      l .inv .1,
-    )
-
-same-length : tie.Need-same-length Inv-loop μ-loop
-same-length c = c .before .loop .inv .0 .len
+    let at-bytes = c .before .before .before in
+    let at-add = at-bytes .before .before .before in
+    let at-block = at-add .before in
+    let l = at-block .before .before .before .before .loop in
+    let b = l .inv .0 in
+    let block = at-block .words-from .ensures ∙ loaded (l .buffer) (l .at) (omega (arith, b .whole, b .len)) ∙ ap (take 16) (b .rest) in
+    let v = rw (at-add .add .ensures, block) at (at-bytes .before .before .encrypt .ensures) in
+    (more b (encrypt-long _) (omega (arith, b .len)) _ _ v (rw (c .before .before .put .ensures, at-bytes .bytes-of .ensures, v)), l .inv .1)
 
 returns : tie.Need-returns Inv-loop μ-loop
 unfolding cbcEncrypt
-returns c =
-    done _ _ _ _ _ _ _ _ (c .before .loop .inv .0) (omega (arith, c .before .loop .inv .0 .len))
-    ∙ all-written _ (c .before .before .before .args .buffer .now)
+returns c = simp (drop-length, append-nil) at (done (c .before .loop .inv .0) (omega (arith, c .before .loop .inv .0 .len)))
 
 pub encrypt-buffer-spec : {M : Type 1} → statement M
 encrypt-buffer-spec =
     tie.close (tie.spec
-    Inv-loop μ-loop loop-holds sub-words-from (λ c. search needs) (λ c. search needs) words-from-requires
-    (λ c κs. search needs) (λ c κs. search needs) (λ c κs. search needs) put-requires add-at loop-less loop-again
-    same-length returns)
+    Inv-loop μ-loop loop-holds (λ c. search needs) (λ c. search needs) (λ c. search needs) words-from-requires _ (λ c κs. search needs) _
+    (λ c κs. search needs) (λ c. search needs) (λ c. search needs) loop-again (λ c. search needs) returns)

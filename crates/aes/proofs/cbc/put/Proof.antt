@@ -20,32 +20,19 @@ abbrev μ-loop : tie.MeasureT-loop
 loop-holds : tie.Need-loop-holds Inv-loop μ-loop
 loop-holds c = (omega arith, paste-zero (c .args .s .now) (c .args .at) (c .args .t3), refl)
 
-slice-write-s : tie.Need-slice-write-s Inv-loop μ-loop
-slice-write-s c = omega (arith, c .before .loop .inv .2)
-
 loop-again : tie.Need-loop-again Inv-loop μ-loop
 loop-again c =
     let l = c .before .loop in
     let a = c .before .before .args in
-    let n : length (a .t3) ≡ 16 = search needs in (
-      omega arith,
-      ap (λ (x : List ℕ). set x (a .at + l .i) (getD (a .t3) (l .i) 0)) (l .inv .1)
-          ∙ paste-suc (a .s .now) (a .at) (a .t3) (l .i) 0 (omega arith) (omega arith)
-          ∙ ap (paste (a .s .now) (a .at) (a .t3)) (sym (add-one (l .i))),
-      simp length-set (l .inv .2),
-    )
-
-same-length : tie.Need-same-length Inv-loop μ-loop
-same-length c = c .before .loop .inv .2
+    let n : length (a .t3) ≡ 16 = search needs in
+    (omega arith, rw (l .inv .1, add-one, paste-suc (a .s .now) (a .at) (a .t3) (l .i) 0 (omega arith) (omega arith)),
+    simp length-set (l .inv .2))
 
 returns : tie.Need-returns Inv-loop μ-loop
-returns c =
-    let a = c .before .before .args in
-    let e : c .before .loop .i ≡ 16 = omega arith in
-    c .before .loop .inv .1 ∙ ap (paste (a .s .now) (a .at) (a .t3)) e
+returns c = let e : c .before .loop .i ≡ 16 = omega arith in rw e at (c .before .loop .inv .1)
 
 pub put-spec : {M : Type 1} → statement M
 put-spec =
     tie.close (tie.spec
-    Inv-loop μ-loop loop-holds (λ c. search needs) (λ c. search needs) slice-write-s (λ c. search needs)
-    (λ c. search needs) loop-again same-length returns)
+    Inv-loop μ-loop loop-holds (λ c. search needs) (λ c. search needs) (λ c. search needs) (λ c. search needs) (λ c. search needs) loop-again
+    (λ c. search needs) returns)

@@ -8,4 +8,4 @@ returns : tie.Need-returns
 returns c = rw (c .bytes-of .ensures, c .before .add .ensures, c .before .before .words2 .ensures, c .before .before .before .words .ensures)
 
 pub sum-spec : {M : Type 1} → statement M
-sum-spec = tie.close (tie.spec (λ c κs. search needs) (λ c κs. search needs) (λ c κs. search needs) (λ c κs. search needs) returns)
+sum-spec = tie.close (tie.spec _ _ _ _ returns)

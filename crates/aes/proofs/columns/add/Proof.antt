@@ -7,7 +7,7 @@ use Rattle.aes.proofs.columns.add.Tie as tie
 
 returns : tie.Need-returns
 unfolding xor
-returns c = let a = c .before .before .before .before .before .before .before .before .args in words-added (a .s) (a .k)
+returns c = words-added _ _
 
 pub add-spec : {M : Type 1} → statement M
 add-spec = tie.close (tie.spec returns)

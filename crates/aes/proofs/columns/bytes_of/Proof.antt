@@ -21,5 +21,5 @@ returns c = refl
 pub bytes-of-spec : {M : Type 1} → statement M
 bytes-of-spec =
     tie.close (tie.spec
-    (λ c. low _) (λ c. low _) (λ c. low _) (λ c. omega arith) (λ c. low _) (λ c. low _) (λ c. low _) (λ c. omega arith)
-    (λ c. low _) (λ c. low _) (λ c. low _) (λ c. omega arith) (λ c. low _) (λ c. low _) (λ c. low _) (λ c. omega arith) returns)
+    (λ c. low _) (λ c. low _) (λ c. low _) (λ c. omega arith) (λ c. low _) (λ c. low _) (λ c. low _) (λ c. omega arith) (λ c. low _) (λ c. low _)
+    (λ c. low _) (λ c. omega arith) (λ c. low _) (λ c. low _) (λ c. low _) (λ c. omega arith) returns)

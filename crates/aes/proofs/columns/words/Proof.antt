@@ -14,18 +14,11 @@ returns : tie.Need-returns
 returns c =
     let k = c .before .before .before .before .args .t1 in
     let b : Block k = record { len = omega arith; bytes = λ i h. (let f : Fits w8 (getD k i 0) = search needs in f .fits) } in
-    columns-bytes k b _
-    (record {
-      is-a = c .before .before .before .join .ensures;
-      is-b = c .before .before .join2 .ensures;
-      is-c = c .before .join3 .ensures;
-      is-d = c .join4 .ensures;
-    })
+    columns-bytes k b _ (c .before .before .before .join .ensures, c .before .before .join2 .ensures, c .before .join3 .ensures, c .join4 .ensures)
 
 pub words-spec : {M : Type 1} → statement M
 words-spec =
     tie.close (tie.spec
-    (λ c. search needs) (λ c. search needs) (λ c. search needs) (λ c. search needs) (λ c κs. search needs)
-    (λ c. search needs) (λ c. search needs) (λ c. search needs) (λ c. search needs) (λ c κs. search needs)
-    (λ c. search needs) (λ c. search needs) (λ c. search needs) (λ c. search needs) (λ c κs. search needs)
-    (λ c. search needs) (λ c. search needs) (λ c. search needs) (λ c. search needs) (λ c κs. search needs) returns)
+    (λ c. search needs) (λ c. search needs) (λ c. search needs) (λ c. search needs) _ (λ c. search needs) (λ c. search needs) (λ c. search needs)
+    (λ c. search needs) _ (λ c. search needs) (λ c. search needs) (λ c. search needs) (λ c. search needs) _ (λ c. search needs) (λ c. search needs)
+    (λ c. search needs) (λ c. search needs) _ returns)

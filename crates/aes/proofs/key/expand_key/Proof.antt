@@ -4,22 +4,22 @@ use native.Mathlib.Omega.{arith}
 use mathlib.Core.Path.{_≡_, refl}
 use mathlib.Core.List.{[]}
 use Prim.Native.Nat.{_+_, _-_, _≤_}
-use Rattle.field.proofs.Runs.{Filled, fill-more, fill-all}
+use Rattle.laws.proofs.Runs.{Filled, fill-more, fill-all}
 use Rattle.aes.specs.Key.{rcon, roundKey, expandKey}
-use Rattle.aes.proofs.Schedule.{rcon-more, key-more, first-key}
+use Rattle.aes.proofs.Schedule.{rcon-more, key-more}
 use borrow.Author.Needs.{needs}
 use Rattle.aes.proofs.key.expand_key.Statement.{statement}
 use Rattle.aes.proofs.key.expand_key.Tie as tie
 
 abbrev Inv-loop : tie.InvT-loop
-Inv-loop sb keys₀ k₀ c₀ n₀ keys k c n = (n ≤ 10) × Filled 11 [] (roundKey k₀) keys (n + 1) × (k ≡ roundKey k₀ n) × (c ≡ rcon n)
+Inv-loop sb keys₀ k₀ c₀ n₀ keys k c n = (n ≤ 10) × Filled 11 [] (λ i k. k ≡ roundKey k₀ i) keys (n + 1) × (k ≡ roundKey k₀ n) × (c ≡ rcon n)
 
 abbrev μ-loop : tie.MeasureT-loop
 μ-loop sb keys₀ k₀ c₀ n₀ keys k c n = 10 - n
 
 loop-holds : tie.Need-loop-holds Inv-loop μ-loop
 unfolding roundKey rcon
-loop-holds c = (search needs, first-key _ _ _ refl refl, refl, refl)
+loop-holds c = (search needs, record { len = refl; done = λ i h. (let z : i ≡ 0 = omega arith in rw z) }, refl, refl)
 
 loop-again : tie.Need-loop-again Inv-loop μ-loop
 loop-again c =
@@ -34,5 +34,5 @@ returns c = fill-all _ _ _ _ _ (c .before .loop .inv .1) (omega arith)
 pub expand-key-spec : {M : Type 1} → statement M
 expand-key-spec =
     tie.close (tie.spec
-    Inv-loop μ-loop (λ c κs. search needs) loop-holds (λ c κs. search needs) (λ c. search needs) (λ c. search needs)
-    (λ c. search needs) (λ c κs. search needs) (λ c. search needs) (λ c. search needs) loop-again returns)
+    Inv-loop μ-loop _ loop-holds (λ c κs. search needs) (λ c. search needs) (λ c. search needs) (λ c. search needs) _ (λ c. search needs)
+    (λ c. search needs) loop-again returns)

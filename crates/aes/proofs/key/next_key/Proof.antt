@@ -9,15 +9,14 @@ use Rattle.aes.proofs.key.next_key.Tie as tie
 returns : tie.Need-returns
 unfolding xor
 returns c =
-    next-by (c .before .before .before .before .args .t2) (c .before .before .before .before .args .c) _ _ _ _
+    next-by _ _ _ _ _ _
     (c .before .before .before .substitute .ensures)
     (c .before .before .substitute2 .ensures) (c .before .substitute3 .ensures) (c .substitute4 .ensures)
 
 pub next-key-spec : {M : Type 1} → statement M
 next-key-spec =
     tie.close (tie.spec
-    (λ c. search needs) (λ c. search needs) (λ c κs. search needs) (λ c. search needs) (λ c. search needs)
-    (λ c κs. search needs) (λ c. search needs) (λ c. search needs) (λ c κs. search needs) (λ c. search needs)
-    (λ c. search needs) (λ c κs. search needs) (λ c. search needs) (λ c. search needs) (λ c. search needs)
-    (λ c. search needs) (λ c. search needs) (λ c. search needs) (λ c. search needs) (λ c. search needs)
-    (λ c. search needs) (λ c. search needs) (λ c. search needs) (λ c. search needs) returns)
+    (λ c. search needs) (λ c. search needs) (λ c κs. search needs) (λ c. search needs) (λ c. search needs) (λ c κs. search needs) (λ c. search needs)
+    (λ c. search needs) (λ c κs. search needs) (λ c. search needs) (λ c. search needs) (λ c κs. search needs) (λ c. search needs) (λ c. search needs)
+    (λ c. search needs) (λ c. search needs) (λ c. search needs) (λ c. search needs) (λ c. search needs) (λ c. search needs) (λ c. search needs)
+    (λ c. search needs) (λ c. search needs) (λ c. search needs) returns)

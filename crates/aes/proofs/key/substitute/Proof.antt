@@ -5,7 +5,7 @@ use mathlib.Core.List.{List}
 use Prim.Native.Nat.{ℕ}
 use lib.ListN.{getD}
 use Rattle.field.specs.Sbox.{sbox}
-use Rattle.field.proofs.Runs.{table-at}
+use Rattle.laws.proofs.Runs.{table-at}
 use borrow.Author.Needs.{needs}
 use Rattle.aes.proofs.key.substitute.Statement.{statement}
 use Rattle.aes.proofs.key.substitute.Tie as tie

@@ -2,7 +2,6 @@
 -- The bytes looked up, the columns turned, are those of the round back.
 use Rattle.field.specs.Xor.{xor}
 use Rattle.aes.proofs.TableRounds.{unshifted-round}
-use borrow.Author.Needs.{needs}
 use Rattle.aes.proofs.rounds.inv_last_round.Statement.{statement}
 use Rattle.aes.proofs.rounds.inv_last_round.Tie as tie
 
@@ -13,10 +12,7 @@ returns c =
     let y = z .before .before in
     let x = y .before .before in
     let w = x .before .before in
-    let a = w .before in
-    unshifted-round (a .args .s) (a .args .k) _ _ _ _ _ (a .pre)
-    (record { one = w .look-bytes .ensures; two = z .look-bytes4 .ensures; three = y .look-bytes3 .ensures; four = x .look-bytes2 .ensures })
+    unshifted-round _ _ _ _ _ _ _ (w .before .pre) (w .look-bytes .ensures, x .look-bytes2 .ensures, y .look-bytes3 .ensures, z .look-bytes4 .ensures)
 
 pub inv-last-round-spec : {M : Type 1} → statement M
-inv-last-round-spec =
-    tie.close (tie.spec (λ c κs. search needs) (λ c κs. search needs) (λ c κs. search needs) (λ c κs. search needs) returns)
+inv-last-round-spec = tie.close (tie.spec _ _ _ _ returns)

@@ -2,7 +2,6 @@
 -- The words looked up, the columns turned, are those of the round back.
 use Rattle.field.specs.Xor.{xor}
 use Rattle.aes.proofs.TableRounds.{unmixed-round}
-use borrow.Author.Needs.{needs}
 use Rattle.aes.proofs.rounds.inv_round.Statement.{statement}
 use Rattle.aes.proofs.rounds.inv_round.Tie as tie
 
@@ -13,10 +12,7 @@ returns c =
     let y = z .before .before in
     let x = y .before .before in
     let w = x .before .before in
-    let a = w .before in
-    unmixed-round (a .args .s) (a .args .k) _ _ _ _ _ (a .pre)
-    (record { one = w .look .ensures; two = z .look4 .ensures; three = y .look3 .ensures; four = x .look2 .ensures })
+    unmixed-round _ _ _ _ _ _ _ (w .before .pre) (w .look .ensures, x .look2 .ensures, y .look3 .ensures, z .look4 .ensures)
 
 pub inv-round-spec : {M : Type 1} → statement M
-inv-round-spec =
-    tie.close (tie.spec (λ c κs. search needs) (λ c κs. search needs) (λ c κs. search needs) (λ c κs. search needs) returns)
+inv-round-spec = tie.close (tie.spec _ _ _ _ returns)

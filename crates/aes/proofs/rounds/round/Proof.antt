@@ -2,7 +2,6 @@
 -- The words looked up are the columns of the round.
 use Rattle.field.specs.Xor.{xor}
 use Rattle.aes.proofs.TableRounds.{mixed-round}
-use borrow.Author.Needs.{needs}
 use Rattle.aes.proofs.rounds.round.Statement.{statement}
 use Rattle.aes.proofs.rounds.round.Tie as tie
 
@@ -13,10 +12,7 @@ returns c =
     let y = z .before .before in
     let x = y .before .before in
     let w = x .before .before in
-    let a = w .before in
-    mixed-round (a .args .s) (a .args .k) _ _ _ _ _ (a .pre)
-    (record { one = w .look .ensures; two = x .look2 .ensures; three = y .look3 .ensures; four = z .look4 .ensures })
+    mixed-round _ _ _ _ _ _ _ (w .before .pre) (w .look .ensures, x .look2 .ensures, y .look3 .ensures, z .look4 .ensures)
 
 pub round-spec : {M : Type 1} → statement M
-round-spec =
-    tie.close (tie.spec (λ c κs. search needs) (λ c κs. search needs) (λ c κs. search needs) (λ c κs. search needs) returns)
+round-spec = tie.close (tie.spec _ _ _ _ returns)

@@ -1,33 +1,27 @@
 -- SPDX-License-Identifier: MPL-2.0
 -- The four words are the columns mixed back.
-use mathlib.Core.Path.{_∙_, ap, subst}
-use Rattle.aes.specs.State.{Block, invMixColumns}
+use mathlib.Core.Path.{_∙_}
+use Rattle.laws.specs.Runs.{run}
+use Rattle.field.specs.Mix.{unmixed}
+use Rattle.field.specs.Words.{column}
+use Rattle.aes.specs.State.{block, down, invMixColumns}
 use Rattle.aes.specs.Words.{bytesOf}
 use Rattle.aes.proofs.Steps.{unmix-block}
 use Rattle.aes.proofs.StateWords.{bytesOf-block, columns-bytes}
-use Rattle.aes.proofs.TableRounds.{key-columns}
 use borrow.Author.Needs.{needs}
 use Rattle.aes.proofs.rounds.unmix_key.Statement.{statement}
 use Rattle.aes.proofs.rounds.unmix_key.Tie as tie
 
 returns : tie.Need-returns
+unfolding invMixColumns block run down bytesOf column unmixed
 returns c =
-    let at-words = c .before .before .before .before .before in
-    let s = at-words .words .result in
-    let e = at-words .words .ensures in
+    let at-words = c .before .before .before .before .before .words in
     let p = c .before .before .before .before .unmix-word .ensures in
     let q = c .before .before .before .unmix-word2 .ensures in
     let r = c .before .before .unmix-word3 .ensures in
     let u = c .before .unmix-word4 .ensures in
-    let b = bytesOf-block s (p .1) (q .1) (r .1) (u .1) in (
-      c .bytes-of .ensures
-          ∙ columns-bytes (invMixColumns (bytesOf s)) (unmix-block (bytesOf s) b) _ (key-columns s _ _ _ _ (p .0) (q .0) (r .0) (u .0))
-          ∙ ap invMixColumns e,
-      subst Block e b,
-    )
+    let b = bytesOf-block (at-words .result) (p .1) (q .1) (r .1) (u .1) in
+    rw (← at-words .ensures) (c .bytes-of .ensures ∙ columns-bytes _ (unmix-block _ b) _ (p .0, q .0, r .0, u .0), b)
 
 pub unmix-key-spec : {M : Type 1} → statement M
-unmix-key-spec =
-    tie.close (tie.spec
-    (λ c κs. search needs) (λ c κs. search needs) (λ c κs. search needs) (λ c κs. search needs) (λ c κs. search needs)
-    (λ c κs. search needs) returns)
+unmix-key-spec = tie.close (tie.spec _ (λ c κs. search needs) (λ c κs. search needs) (λ c κs. search needs) (λ c κs. search needs) _ returns)

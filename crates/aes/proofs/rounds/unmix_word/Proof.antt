@@ -14,4 +14,4 @@ returns c =
     )
 
 pub unmix-word-spec : {M : Type 1} → statement M
-unmix-word-spec = tie.close (tie.spec (λ c κs. search needs) (λ c κs. search needs) returns)
+unmix-word-spec = tie.close (tie.spec _ _ returns)

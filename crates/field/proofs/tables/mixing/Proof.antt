@@ -5,13 +5,13 @@ use Rattle.field.specs.Xor.{xor}
 use Rattle.field.specs.Field.{xtime, times, mul, square, ones, inverse}
 use Rattle.field.specs.Sbox.{affine, sbox}
 use Rattle.field.specs.Words.{spread, twice}
-use Rattle.field.proofs.Runs.{tabled}
+use Rattle.laws.specs.Runs.{run, table}
 use Rattle.field.proofs.tables.mixing.Statement.{statement}
 use Rattle.field.proofs.tables.mixing.Tie as tie
 
 returns : tie.Need-returns
-unfolding twice spread sbox affine inverse square ones mul times xtime xor
-returns c = tabled (λ x. twice (spread 0x02 0x03 0x01 0x01 (sbox x))) _ refl tt
+unfolding table run twice spread sbox affine inverse square ones mul times xtime xor
+returns c = refl
 
 pub mixing-spec : {M : Type 1} → statement M
 mixing-spec = tie.close (tie.spec returns)

@@ -5,13 +5,13 @@ use Rattle.field.specs.Xor.{xor}
 use Rattle.field.specs.Field.{xtime, times, mul, square, ones, inverse}
 use Rattle.field.specs.Sbox.{unaffine, invSbox}
 use Rattle.field.specs.Words.{spread, twice}
-use Rattle.field.proofs.Runs.{tabled}
+use Rattle.laws.specs.Runs.{run, table}
 use Rattle.field.proofs.tables.unmixing.Statement.{statement}
 use Rattle.field.proofs.tables.unmixing.Tie as tie
 
 returns : tie.Need-returns
-unfolding twice spread invSbox unaffine inverse square ones mul times xtime xor
-returns c = tabled (λ x. twice (spread 0x0E 0x0B 0x0D 0x09 (invSbox x))) _ refl tt
+unfolding table run twice spread invSbox unaffine inverse square ones mul times xtime xor
+returns c = refl
 
 pub unmixing-spec : {M : Type 1} → statement M
 unmixing-spec = tie.close (tie.spec returns)
