@@ -15,11 +15,11 @@ use Rattle.wire.specs.Refusals.{wrongPiece, pastSequence, futureSequence, lastS
 use Rattle.joining.specs.declared.Progress.{Progress}
 use Rattle.joining.specs.declared.Piece.{Piece}
 use Rattle.joining.specs.Heard.{most}
-use Rattle.joining.specs.Join.{isLast, misfit, turnRows, placeRows, repeatRows, joinRefusal, Fitting}
+use Rattle.joining.specs.Join.{isLast, misfit, sequenceRows, placeRows, repeatRows, joinRefusal, Fitting}
 use Rattle.joining.proofs.Cuts.{good-size}
 
 -- The piece is one of the expected message.
-pub record InTurn (F expected : ℕ) (p : Piece) : Type 0 where
+pub record Expected (F expected : ℕ) (p : Piece) : Type 0 where
   pub pos : 0 < F
   pub small : F ≤ 16384
   pub under : p .index < p .count
@@ -27,9 +27,9 @@ pub record InTurn (F expected : ℕ) (p : Piece) : Type 0 where
   pub sequence : p .sequence ≡ expected
   pub more : expected ≡ 4294967295 → ⊥
 
-pub in-turn : (F expected : ℕ) (p : Piece) → first (turnRows F expected p) ≡ 0 → InTurn F expected p
-in-turn F expected p e =
-    let rows = turnRows F expected p in
+pub is-expected : (F expected : ℕ) (p : Piece) → first (sequenceRows F expected p) ≡ 0 → Expected F expected p
+is-expected F expected p e =
+    let rows = sequenceRows F expected p in
     let at : (n : ℕ) → testOf n rows ≡ false = λ n. row-false n rows refl e in
     let s = good-size F (at wrongFragmentSize) in
     let n = or-false (ltb most (p .count)) (leb (p .count) (p .index)) (at wrongPiece) in
@@ -53,10 +53,10 @@ pub fitting : (F : ℕ) (h : Progress) (p : Piece) (bytes report : List ℕ) →
     → Fitting F h p (length bytes) × (F * p .index + length bytes ≤ length report)
 unfolding joinRefusal
 fitting F h p bytes report e =
-    let turns = turnRows F (h .expected) p in
+    let sequences = sequenceRows F (h .expected) p in
     let rest = placeRows F h p (length bytes) (length report) ++ repeatRows F h p bytes report in
-    let z = neither (first turns) (first rest) (sym (first-append turns rest refl) ∙ e) in
-    let t = in-turn F (h .expected) p (z .0) in
+    let z = neither (first sequences) (first rest) (sym (first-append sequences rest refl) ∙ e) in
+    let t = is-expected F (h .expected) p (z .0) in
     let at : (n : ℕ) → testOf n rest ≡ false = λ n. row-false n rest refl (z .1) in (
       record {
         small = t .small;

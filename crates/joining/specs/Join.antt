@@ -43,8 +43,8 @@ conflict F held piece bytes report =
     && not (eqb (length bytes) (cond (isLast piece) (held .last) F) && same (part report (F * piece .index) (length bytes)) bytes)
 
 -- The refusals of a piece that is not one of the expected message: 24 and 7, which a step has made before it joins, then 19, 17, 18.
-abbrev pub turnRows : ℕ → ℕ → Piece → List (ℕ × Bool)
-turnRows F expected piece =
+abbrev pub sequenceRows : ℕ → ℕ → Piece → List (ℕ × Bool)
+sequenceRows F expected piece =
     (wrongFragmentSize, badSize F)
     ∷ (wrongPiece, badIndex (piece .count) (piece .index))
     ∷ (lastSequence, eqb (piece .sequence) 4294967295)
@@ -67,7 +67,7 @@ repeatRows F held piece bytes report = (unlikeRepeat, conflict F held piece byte
 -- The table: "then 19, 17, 18, 21, 20, 22, 23".
 abbrev pub joinRows : ℕ → Progress → Piece → List ℕ → List ℕ → List (ℕ × Bool)
 joinRows F held piece bytes report =
-    turnRows F (held .expected) piece ++ (placeRows F held piece (length bytes) (length report) ++ repeatRows F held piece bytes report)
+    sequenceRows F (held .expected) piece ++ (placeRows F held piece (length bytes) (length report) ++ repeatRows F held piece bytes report)
 
 -- The first refusal that applies; 0 is none.
 unfoldable pub joinRefusal : ℕ → Progress → Piece → List ℕ → List ℕ → ℕ
