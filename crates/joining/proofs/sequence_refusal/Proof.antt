@@ -6,8 +6,5 @@ use Rattle.joining.specs.Join.{sequenceRows}
 use Rattle.joining.proofs.sequence_refusal.Statement.{statement}
 use Rattle.joining.proofs.sequence_refusal.Tie as tie
 
-returns : tie.Need-returns
-returns c = rw (← down-first 0 (sequenceRows _ _ _) refl) (cc)
-
 pub sequence-refusal-spec : {M : Type 1} → statement M
-sequence-refusal-spec = tie.close (tie.spec _ _ _ _ _ _ _ returns)
+sequence-refusal-spec = tie.close (tie.spec _ _ _ _ _ _ _ (λ c. rw (← down-first 0 (sequenceRows _ _ _) refl) (cc)))
