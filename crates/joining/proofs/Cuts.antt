@@ -45,12 +45,7 @@ place-bound F i N h l = mul-le-mul h (le-of-lt l)
 pub good-size : (F : ℕ) → badSize F ≡ false → (0 < F) × (F ≤ 16384)
 good-size F e =
     let n = or-false (eqb F 0) (ltb 16384 F) e in
-    let z : F ≡ 0 → ⊥ = eqb-false F 0 (n .0) in
-    (positive F z, ltb-false 16384 F (n .1))
-  where
-    positive : (F : ℕ) → (F ≡ 0 → ⊥) → 0 < F
-    positive zero z = absurd (z refl)
-    positive (suc F) z = omega arith
+    (omega (arith, eqb-false F 0 (n .0)), ltb-false 16384 F (n .1))
 
 -- What the cutter does not refuse: neither row applies.
 pub uncut : (F L i : ℕ) → cutRefusal F L i ≡ 0 → (badSize F ≡ false) × (ltb (F * most) L ≡ false) × (leb (pieceCount F L) i ≡ false)
@@ -108,8 +103,8 @@ module _ (F i k : ℕ) (p : 0 < F) where
   pub piece-at : F * i ≤ k → k < F * i + F → k / F ≡ i
   piece-at lo hi = div-eq-of-lt-le F (omega arith) (omega arith)
 
-  pub not-before : k < F * i → k / F ≡ i → ⊥
-  not-before lt e = omega (arith, le-div-iff-mul-le {k = F} {x = i} {y = k} p .0 (omega arith))
-
-  pub ends-within : k / F ≡ i → k < F * i + F
-  ends-within e = omega (arith, div-lt-iff-lt-mul {k = F} {x = k} {y = i + 1} p .0 (omega arith))
+  pub places-of : k / F ≡ i → (F * i ≤ k) × (k < F * i + F)
+  places-of e = (
+    omega (arith, le-div-iff-mul-le {k = F} {x = i} {y = k} p .0 (omega arith)),
+    omega (arith, div-lt-iff-lt-mul {k = F} {x = k} {y = i + 1} p .0 (omega arith)),
+  )
