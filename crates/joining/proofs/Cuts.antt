@@ -92,11 +92,9 @@ module _ {F N n : ℕ} (R : List ℕ) (c : Cut F N n (length R)) (i : ℕ) (l : 
 
   -- The last of several is not empty.
   pub not-empty : i + 1 ≡ n → 1 < n → 0 < length (part R (F * i) F)
-  not-empty m k = go i (remainder m) m
-    where
-      go : (j : ℕ) → length (part R (F * i) F) ≡ length R - F * j → j + 1 ≡ n → 0 < length (part R (F * i) F)
-      go zero e m = absurd (omega arith)
-      go (suc j) e m = omega (arith, c .full j (omega arith))
+  not-empty m k =
+      let e : i ≡ i - 1 + 1 = omega arith in
+      omega (arith, remainder m, c .full (i - 1) (omega arith), ap (λ (k : ℕ). F * k) e)
 
 -- The piece that a place belongs to.
 module _ (F i k : ℕ) (p : 0 < F) where

@@ -8,17 +8,17 @@ use native.Mathlib.Omega.{arith}
 use lib.Dec.{eqb}
 use lib.ListN.{length}
 use lib.Seq.{getD-set-same, getD-set-other}
-use borrow.Author.Tests.{ne-eqb, eqb-true, eqb-false}
+use borrow.Author.Tests.{ne-eqb, eqb-false}
 use Rattle.laws.proofs.Cases.{on}
 use Rattle.joining.specs.declared.Arrival.{Arrival}
 use Rattle.joining.specs.declared.Arrival.the-variants.{Refused, Taken, Repeat, Complete}
 use Rattle.joining.specs.Heard.{tally, has, mark}
 use Rattle.joining.specs.Join.{lastOf, join, reportAfter}
 use Rattle.joining.proofs.HeardLaws.{full, mark-known, tally-some, full-has}
-use Rattle.joining.proofs.Cuts.{begins, remainder}
-use Rattle.joining.proofs.Snapshot.{Start, Startable, Lawful, pieceOf, pieceBytes, lastSize, partHeld, heldAt, bufferAt}
+use Rattle.joining.proofs.Cuts.{begins}
+use Rattle.joining.proofs.Snapshot.{Start, Startable, Lawful, pieceOf, pieceBytes, partHeld, heldAt, bufferAt}
 use Rattle.joining.proofs.SnapshotBuffer.{in-set, put-buffer}
-use Rattle.joining.proofs.PieceAllowed.{unrefused, late}
+use Rattle.joining.proofs.PieceAllowed.{due, unrefused, late}
 
 -- What is answered to piece i where S has come.
 abbrev pub answerAt : Start → List Bool → ℕ → Arrival
@@ -28,17 +28,14 @@ answerAt s S i =
     (cond (full (s .count) (mark S i)) (Complete (length (s .report)) (s .count)) (Taken (tally (mark S i)))))
 
 module _ (s : Start) (f : Startable s) (S : List Bool) (w : Lawful s S) (i : ℕ) (l : i < s .count) where
+  in-mark : has (mark S i) i ≡ true
+  in-mark = getD-set-same S i true false (in-set s f S w i l)
+
   -- The remembered length, with this piece too.
-  last-more : lastOf (partHeld s S) (pieceOf s i) (length (pieceBytes s i)) ≡ cond (has (mark S i) (s .count - 1)) (lastSize s) (s .held .last)
+  last-more : lastOf (partHeld s S) (pieceOf s i) (length (pieceBytes s i)) ≡ partHeld s (mark S i) .last
   last-more =
-      on (eqb (i + 1) (s .count))
-      (λ e.
-      let m : i + 1 ≡ s .count = eqb-true (i + 1) (s .count) e in
-      let p : s .count - 1 ≡ i = omega arith in
-      rw (e, p, getD-set-same S i true false (in-set s f S w i l)) (remainder (s .report) (f .cut) i l m))
-      (λ e.
-      let m : s .count - 1 ≡ i → ⊥ = λ z. omega (arith, eqb-false (i + 1) (s .count) e) in
-      rw (e, getD-set-other S i (s .count - 1) true false m))
+      on (eqb (i + 1) (s .count)) (λ e. rw e (rw e at (due s f S w i l (mark S i) in-mark)))
+      (λ e. rw (e, getD-set-other S i (s .count - 1) true false (λ z. omega (arith, eqb-false))))
 
   -- The report's length, when with this piece all have come.
   whole-length : full (s .count) (mark S i) ≡ true
@@ -61,5 +58,5 @@ module _ (s : Start) (f : Startable s) (S : List Bool) (w : Lawful s S) (i : ℕ
       (λ h.
       on (full (s .count) (mark S i)) (λ e. rw (a, u, h, e, whole-length e) (refl, put-buffer s f S w i l))
       (λ e.
-      let t = tally-some (mark S i) i (getD-set-same S i true false (in-set s f S w i l)) in
-      rw (a, u, h, e, ne-eqb (tally (mark S i)) 0 (λ z. omega arith), last-more) (refl, put-buffer s f S w i l))))
+      let t = ne-eqb (tally (mark S i)) 0 (λ z. omega (arith, tally-some (mark S i) i in-mark)) in
+      rw (a, u, h, e, t, last-more) (refl, put-buffer s f S w i l))))

@@ -27,7 +27,8 @@ returns-3 c =
     let l = c .before .before in
     let i = l .before .before in
     let s = i .before .before .before .before in
-    rw (← (s .pre .0), not-false (heard s) (i .if1 .left), ← (l .before .due .ensures), eq-eqb _ _ (l .if2 .left), c .alike .ensures, add-sub-cancel-left)
+    let e = c .alike .ensures in
+    rw (← (s .pre .0), not-false (heard s) (i .if1 .left), ← (l .before .due .ensures), eq-eqb _ _ (l .if2 .left), e, add-sub-cancel-left)
 
 pub conflict-spec : {M : Type 1} → statement M
 unfolding mostPieces
