@@ -14,14 +14,13 @@ use Rattle.laws.proofs.Bools.{or-true, or-none}
 use Rattle.laws.proofs.Cases.{on}
 use Rattle.joining.specs.Heard.{bit, tally, come, has, mark, none}
 
-pub bit-le : (b : Bool) → bit b ≤ 1
-bit-le true = omega arith
-bit-le false = omega arith
-
 -- A bool read as a number.
 pub bit-byte : (b : Bool) → (boolByte b ≡ bit b) × (bit b ≤ 1)
 bit-byte true = (refl, omega arith)
 bit-byte false = (refl, omega arith)
+
+pub bit-le : (b : Bool) → bit b ≤ 1
+bit-le b = bit-byte b .1
 
 -- One index more, in order.
 pub come-suc : (h : List Bool) (i : ℕ) → come (suc i) h ≡ come i h + bit (has h i)
@@ -67,9 +66,6 @@ has-none (suc N) (suc i) = has-none N i
 
 pub tally-none : (N : ℕ) → tally (none N) ≡ 0
 tally-none N = tally-come 0 (none N) (λ i l. has-none N i)
-
-pub come-none : (n N : ℕ) → come n (none N) ≡ 0
-come-none n N = omega (arith, come-tally n (none N), tally-none N)
 
 -- All indexes below n are heard: the test, and what it says.
 abbrev pub full : ℕ → List Bool → Bool

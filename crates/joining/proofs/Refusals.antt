@@ -20,29 +20,22 @@ use Rattle.joining.proofs.Cuts.{good-size}
 
 -- The piece is one of the expected message.
 pub record Expected (F expected : ℕ) (p : Piece) : Type 0 where
-  pub pos : 0 < F
   pub small : F ≤ 16384
   pub under : p .index < p .count
   pub few : p .count ≤ most
-  pub sequence : p .sequence ≡ expected
   pub more : expected ≡ 4294967295 → ⊥
 
 pub is-expected : (F expected : ℕ) (p : Piece) → first (sequenceRows F expected p) ≡ 0 → Expected F expected p
 is-expected F expected p e =
-    let rows = sequenceRows F expected p in
-    let at : (n : ℕ) → testOf n rows ≡ false = λ n. row-false n rows refl e in
-    let s = good-size F (at wrongFragmentSize) in
+    let at : (n : ℕ) → testOf n (sequenceRows F expected p) ≡ false = λ n. row-false n (sequenceRows F expected p) refl e in
     let n = or-false (ltb most (p .count)) (leb (p .count) (p .index)) (at wrongPiece) in
     let past = ltb-false (p .sequence) expected (at pastSequence) in
     let future = ltb-false expected (p .sequence) (at futureSequence) in
-    let q : p .sequence ≡ expected = omega arith in
     record {
-      pos = s .0;
-      small = s .1;
+      small = good-size F (at wrongFragmentSize) .1;
       under = leb-false (p .count) (p .index) (n .1);
       few = ltb-false most (p .count) (n .0);
-      sequence = q;
-      more = λ z. eqb-false (p .sequence) 4294967295 (at lastSequence) (q ∙ z);
+      more = λ z. eqb-false (p .sequence) 4294967295 (at lastSequence) (omega arith);
     }
 
 fit : (F : ℕ) (p : Piece) (size : ℕ) (t : Bool) → isLast p ≡ t → misfit F p size ≡ false → size ≤ F

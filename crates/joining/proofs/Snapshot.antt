@@ -10,14 +10,13 @@ use native.Mathlib.Nat.{div-lt-iff-lt-mul}
 use lib.Dec.{eqb}
 use lib.ListN.{length, getD, take, length-take, length-replicate}
 use lib.Seq.{getD-take, ext-getD}
-use borrow.Author.Tests.{ne-eqb}
 use Rattle.laws.proofs.Lists.{getD-any}
 use Rattle.joining.specs.declared.Progress.{Progress}
 use Rattle.joining.specs.declared.Piece.{Piece}
 use Rattle.joining.specs.Heard.{most, tally, has, none}
 use Rattle.joining.specs.Report.{part}
 use Rattle.joining.specs.Join.{expecting}
-use Rattle.joining.proofs.HeardLaws.{full, tally-none, come-none, has-none, full-has}
+use Rattle.joining.proofs.HeardLaws.{full, tally-none, has-none, not-full, full-has}
 use Rattle.joining.proofs.Cuts.{Cut}
 
 -- A report, how it was cut, and how what is remembered and the report buffer began.
@@ -101,13 +100,7 @@ module _ (s : Start) (f : Startable s) where
   -- The empty set: all is as it began.
   pub held-none : heldAt s (none most) ≡ s .held
   held-none =
-      rw (
-        come-none (s .count) most,
-        ne-eqb 0 (s .count) (λ z. omega (arith, f .cut .some)),
-        tally-none most,
-        has-none most (s .count - 1),
-        ← f .fresh,
-      )
+      rw (not-full (s .count) (none most) 0 (f .cut .some) (has-none most 0), tally-none most, has-none most (s .count - 1), ← f .fresh)
 
   pub buffer-none : bufferAt s (none most) ≡ s .buffer
   buffer-none = sym (listed-is (s .buffer) (length (s .buffer)) (byteAt s (none most)) refl (λ k l. rw (has-none most (k / s .size))))

@@ -31,12 +31,6 @@ returns : tie.Need-returns
 unfolding cutRefusal
 returns c = let s = c .before .before .before in above (sizeRows (s .args .size)) (pieces s) refl (sized (c .before)) (c .if1 .taken)
 
-piece-count-requires : tie.Need-piece-count-requires
-piece-count-requires c κs = good c .0
-
-mul-next : tie.Need-mul-next
-mul-next c = omega (arith, good (c .before) .1)
-
 returns-2 : tie.Need-returns-2
 unfolding cutRefusal mostPieces
 returns-2 c =
@@ -45,4 +39,4 @@ returns-2 c =
     below (sizeRows (s .args .size)) (pieces s) refl (sized (at-if1 .before)) refl (cc)
 
 pub cut-refusal-spec : {M : Type 1} → statement M
-cut-refusal-spec = tie.close (tie.spec _ _ returns piece-count-requires mul-next _ returns-2)
+cut-refusal-spec = tie.close (tie.spec _ _ returns (λ c κs. good c .0) (λ c. omega (arith, good (c .before) .1)) _ returns-2)
