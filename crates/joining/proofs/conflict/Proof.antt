@@ -9,26 +9,29 @@ use Rattle.wire.specs.Fields.{mostPieces}
 use Rattle.joining.proofs.conflict.Statement.{statement}
 use Rattle.joining.proofs.conflict.Tie as tie
 
+abbrev entry : tie.After-if12 → tie.Start
+entry c = c .before .before .before
+
 -- The index is heard, in what was lent: that is what is remembered.
-abbrev heard : tie.Start → Bool
-heard s = has (s .args .heard .now) (s .args .piece .index)
+abbrev heard : tie.After-if12 → Bool
+heard c = let a = entry c .args in has (a .heard .now) (a .piece .index)
 
 returns : tie.Need-returns
-returns c = let s = c .before .before .before .before in rw (← (s .pre .0), not-true (heard s) (c .if1 .taken))
+returns c = let t = c .before in rw (← (entry t .pre .0), not-true (heard t) (c .if1 .taken))
 
 returns-2 : tie.Need-returns-2
 returns-2 c =
-    let i = c .before .before in
-    let s = i .before .before .before .before in
-    rw (← (s .pre .0), not-false (heard s) (i .if1 .left), ← (c .before .due .ensures), ne-eqb _ _ (c .if2 .taken))
+    let d = c .before in
+    let t = d .before .before in
+    rw (← (entry t .pre .0), not-false (heard t) (d .before .if1 .left), ← (d .due .ensures), ne-eqb _ _ (c .if2 .taken))
 
 returns-3 : tie.Need-returns-3
 returns-3 c =
     let l = c .before .before in
-    let i = l .before .before in
-    let s = i .before .before .before .before in
-    let e = c .alike .ensures in
-    rw (← (s .pre .0), not-false (heard s) (i .if1 .left), ← (l .before .due .ensures), eq-eqb _ _ (l .if2 .left), e, add-sub-cancel-left)
+    let d = l .before in
+    let t = d .before .before in
+    rw (← (entry t .pre .0), not-false (heard t) (d .before .if1 .left), ← (d .due .ensures), eq-eqb _ _ (l .if2 .left))
+    (rw (c .alike .ensures, add-sub-cancel-left))
 
 pub conflict-spec : {M : Type 1} → statement M
 unfolding mostPieces

@@ -14,13 +14,17 @@ use Rattle.joining.proofs.Refusals.{fitting}
 use Rattle.joining.proofs.Progress.join.Statement.{statement}
 use Rattle.joining.proofs.Progress.join.Tie as tie
 
-abbrev entry : tie.Else1 → tie.Start
-entry c = c .before .before .before .before .before .before .before
+abbrev entry : tie.After-refusal → tie.Start
+entry c = c .before .before .before .before .before .before
+
+-- Where the index is looked up: the piece was not refused.
+abbrev unrefused : tie.After-struct-known → tie.Else1
+unrefused c = c .before .before .before
 
 -- What no row refuses fits.
-known : (c : tie.Else1) → let s = entry c .args in
-    Fitting (s .size) (s .self) (s .piece) (length (s .payload .now)) ×
-    (s .size * s .piece .index + length (s .payload .now) ≤ length (s .report .now))
+known : (c : tie.Else1) → let a = entry (c .before) .args in
+    Fitting (a .size) (a .self) (a .piece) (length (a .payload .now)) ×
+    (a .size * a .piece .index + length (a .payload .now) ≤ length (a .report .now))
 known c = fitting _ _ _ _ _ (sym (c .before .refusal .ensures) ∙ c .if1 .left)
 
 returns : tie.Need-returns
@@ -30,30 +34,30 @@ returns c = rw (← (c .before .refusal .ensures), ne-eqb _ _ (c .if1 .taken)) (
 returns-2 : tie.Need-returns-2
 unfolding join reportAfter
 returns-2 c =
-    let m = c .before .before .before in
-    let r = m .before in
-    let s = entry r .args in
-    let same = mark-known (s .self .heard) (s .piece .index) (c .if2 .taken) in
-    rw (← (r .before .refusal .ensures), eq-eqb _ _ (r .if1 .left), c .if2 .taken, m .mark .ensures .1, same) (refl, refl)
+    let r = unrefused (c .before) in
+    let a = entry (r .before) .args in
+    let same = mark-known (a .self .heard) (a .piece .index) (c .if2 .taken) in
+    rw (← (r .before .refusal .ensures), eq-eqb _ _ (r .if1 .left), c .if2 .taken, c .before .before .before .mark .ensures .1, same) (refl, refl)
 
 advance-requires : tie.Need-advance-requires
 advance-requires c κs =
-    let m = c .before .before .before .before .before .before .before in
-    let e = m .mark .ensures in
-    (e .0, e .1 ∙ ap tally (sym (e .0)), known (m .before) .0)
+    let n = c .before .before .before .before .before in
+    let e = n .before .before .mark .ensures in
+    (e .0, e .1 ∙ ap tally (sym (e .0)), known (unrefused n) .0)
 
 returns-3 : tie.Need-returns-3
 unfolding join reportAfter
 returns-3 c =
-    let t = c .before .before .before .before .before in
-    let r = t .before .before .before .before in
-    rw (← (r .before .refusal .ensures), eq-eqb _ _ (r .if1 .left), t .if2 .left) (c .advance .ensures, c .before .before .before .store .ensures)
+    let s = c .before .before .before in
+    let t = s .before .before in
+    let r = unrefused (t .before) in
+    rw (← (r .before .refusal .ensures), eq-eqb _ _ (r .if1 .left), t .if2 .left) (c .advance .ensures, s .store .ensures)
 
 pub join-spec : {M : Type 1} → statement M
 unfolding mostPieces
 join-spec =
     tie.close (tie.spec
     (λ c κs. (refl, search needs)) (λ c. search needs) returns (λ c κs. omega (arith, known c .0)) (λ c. search needs)
-    (λ c. omega (arith, known (c .before .before .before) .0)) (λ c. search needs) returns-2
-    (λ c. omega (arith, known (c .before .before .before .before .before) .1)) (λ c κs. known (c .before .before .before .before .before) .1)
+    (λ c. omega (arith, known (unrefused c) .0)) (λ c. search needs) returns-2
+    (λ c. omega (arith, known (unrefused (c .before .before)) .1)) (λ c κs. known (unrefused (c .before .before)) .1)
     advance-requires (λ c. search needs) returns-3)
