@@ -4,12 +4,17 @@
 use Prim.Native.Nat.{ℕ, _+_, _<_}
 use mathlib.Core.Path.{_≡_, refl, sym, ap, ap₂, _∙_}
 use mathlib.Core.List.{List, _∷_}
-use mathlib.Core.Bool.{Bool, true, false, cond, true≢false}
+use mathlib.Core.Logic.{⊎-elim}
+use mathlib.Core.Bool.{Bool, true, false, cond, _||_, true≢false}
+use native.Mathlib.Omega.{arith}
 use lib.Dec.{eqb}
-use lib.ListN.{length, take}
+use lib.ListN.{length, take, length-set, length-replicate}
+use lib.Seq.{ext-getD}
 use borrow.Author.Tests.{ne-eqb, eqb-false}
 use Rattle.laws.specs.Courses.{final}
+use Rattle.laws.proofs.Bools.{or-none, or-assoc}
 use Rattle.laws.proofs.Cases.{on}
+use Rattle.laws.proofs.Order.{lt-or-ge}
 use Rattle.laws.proofs.Courses.{Course, end, goes, course-seat}
 use Rattle.joining.specs.declared.Progress.{Progress}
 use Rattle.joining.specs.declared.Piece.{Piece}
@@ -17,13 +22,13 @@ use Rattle.joining.specs.declared.Arrival.{Arrival}
 use Rattle.joining.specs.declared.Arrival.the-variants.{Refused, Taken, Repeat, Complete}
 use Rattle.joining.specs.Heard.{most, tally, has, mark, none}
 use Rattle.joining.specs.Join.{expecting, join, reportAfter}
-use Rattle.joining.proofs.HeardLaws.{full, not-full, full-has, has-full}
+use Rattle.joining.proofs.HeardLaws.{full, not-full, full-has, has-full, has-none, mark-has}
 use Rattle.joining.proofs.Snapshot.{Start, Startable, Lawful, pieceOf, pieceBytes, heldAt, byteAt, bufferAt, listed-length, none-lawful}
 use Rattle.joining.proofs.Snapshot.{held-none, buffer-none, whole}
 use Rattle.joining.proofs.SnapshotBuffer.{in-set, mark-lawful}
 use Rattle.joining.proofs.PieceArrives.{answerAt, arrives}
 use Rattle.joining.specs.Events.{Event, piece, between, came, LastMissing}
-use Rattle.joining.proofs.EventSet.{heardWith, Under, setOf, mark-came, set-has, set-only}
+use Rattle.joining.proofs.EventSet.{heardWith, setOf, mark-came}
 
 -- The machine, as far as demand 3 looks at it: states C, inputs X, answers A.
 pub record Machine (F : ℕ) : Type 1 where
@@ -60,11 +65,6 @@ pub data Is (s : Start) (m : Machine (s .size)) : m .C → m .X → Event → Ty
 abbrev pub CourseOf : (s : Start) (m : Machine (s .size)) → m .C → List (m .X) → List Event → Type 0
 CourseOf s m = Course (m .next) (Is s m)
 
-pub under : {s : Start} {m : Machine (s .size)} {c : m .C} {xs : List (m .X)} {es : List Event} → CourseOf s m c xs es → Under (s .count) es
-under end = tt
-under (goes (brings l h) r) = (l, under r)
-under (goes (rests q) r) = under r
-
 module _ (s : Start) (f : Startable s) (m : Machine (s .size)) where
   -- The state once S has come.
   abbrev seated : List Bool → m .C
@@ -95,11 +95,28 @@ module _ (s : Start) (f : Startable s) (m : Machine (s .size)) where
       course-seat seated heardWith (Lawful s) each (none most) (none-lawful s f)
       (ap₂ (m .seat) (sym (held-none s f)) (sym (buffer-none s f))) r
 
+  -- A set has, after a course, what it had and what has come.
+  marks-has : {c : m .C} {xs : List (m .X)} {es : List Event} → CourseOf s m c xs es → (S : List Bool) → length S ≡ most → (j : ℕ)
+      → has (final heardWith S es) j ≡ (has S j || came j es)
+  marks-has end S e j = sym (or-none (has S j))
+  marks-has (goes {es = es} (brings {i = i} l h) r) S e j =
+      rw (marks-has r (mark S i) (length-set S i true ∙ e) j, mark-has S i j (omega (arith, f .cut .most))) (or-assoc (has S j) (eqb j i) (came j es))
+  marks-has (goes (rests q) r) S e j = marks-has r S e j
+
+  pub has-came : {xs : List (m .X)} {es : List Event} → CourseOf s m began xs es → (j : ℕ) → has (setOf es) j ≡ came j es
+  has-came r j = rw (marks-has r (none most) (length-replicate most false) j, has-none most j)
+
   -- "connection and report buffer depend only on how they began and which fragments have come"
   pub only-the-set : {xs xs′ : List (m .X)} {es es′ : List Event} → CourseOf s m began xs es → CourseOf s m began xs′ es′
       → ((j : ℕ) → j < s .count → came j es ≡ came j es′) → final (m .next) began xs ≡ final (m .next) began xs′
   only-the-set {es = es} {es′ = es′} r r′ e =
-      ends-at r .1 ∙ ap seated (set-only s f es es′ (under r) (under r′) (ends-at r .0) (ends-at r′ .0) e) ∙ sym (ends-at r′ .1)
+      let w = ends-at r in
+      let w′ = ends-at r′ in
+      let same : setOf es ≡ setOf es′ =
+      ext-getD false (setOf es) (setOf es′) (w .0 .long ∙ sym (w′ .0 .long))
+      (λ j h.
+      ⊎-elim (λ l. has-came r j ∙ e j l ∙ sym (has-came r′ j)) (λ l. w .0 .below j l ∙ sym (w′ .0 .below j l)) (lt-or-ge j (s .count))) in
+      w .1 ∙ ap seated same ∙ sym (w′ .1)
 
   module _ {xs : List (m .X)} {es : List Event} (r : CourseOf s m began xs es) (i : ℕ) (l : i < s .count) where
     abbrev S : List Bool
@@ -108,11 +125,8 @@ module _ (s : Start) (f : Startable s) (m : Machine (s .size)) where
     w : Lawful s S
     w = ends-at r .0
 
-    pub has-came : (j : ℕ) → has S j ≡ came j es
-    has-came j = set-has s f es (under r) j
-
     pub with-came : (j : ℕ) → has (mark S i) j ≡ came j (piece i ∷ es)
-    with-came j = mark-came S es has-came i (in-set s f S w i l) j
+    with-came j = mark-came S es (has-came r) i (in-set s f S w i l) j
 
     -- With this piece all have come.
     pub all-come : LastMissing (s .count) i es → full (s .count) (mark S i) ≡ true
@@ -131,7 +145,7 @@ module _ (s : Start) (f : Startable s) (m : Machine (s .size)) where
       -- "the report is handed out … at the call that brings the last missing fragment", with its length and its count
       pub handed-out : LastMissing (s .count) i es → m .says (final (m .next) began xs) x ≡ m .answer (Complete (length (s .report)) (s .count))
       handed-out d =
-          let a : has S i ≡ false = has-came i ∙ d .0 in
+          let a : has S i ≡ false = has-came r i ∙ d .0 in
           says-here ∙ ap (m .answer) (rw (not-full (s .count) S i l a, a, all-come d))
 
       -- "whole, exactly as sent"; what is remembered is then that nothing is heard of the next number
@@ -149,7 +163,7 @@ module _ (s : Start) (f : Startable s) (m : Machine (s .size)) where
       pub at-no-other : m .done (m .says (final (m .next) began xs) x) ≡ true → LastMissing (s .count) i es
       at-no-other d =
           let e = complete (full (s .count) S) (has S i) (full (s .count) (mark S i)) (tally (mark S i)) (ap (m .done) (sym says-here) ∙ d) in (
-            sym (has-came i) ∙ e .0,
+            sym (has-came r i) ∙ e .0,
             λ j k n. rw (with-came j, ne-eqb j i n) at (full-has (s .count) (mark S i) (e .1) j k),
           )
         where
@@ -164,4 +178,4 @@ module _ (s : Start) (f : Startable s) (m : Machine (s .size)) where
 
       -- "later copies get 17"
       pub late-copy : ((j : ℕ) → j < s .count → came j es ≡ true) → m .says (final (m .next) began xs) x ≡ m .answer (Refused 17)
-      late-copy d = says-here ∙ ap (m .answer) (rw (has-full (s .count) S (λ j k. has-came j ∙ d j k)))
+      late-copy d = says-here ∙ ap (m .answer) (rw (has-full (s .count) S (λ j k. has-came r j ∙ d j k)))

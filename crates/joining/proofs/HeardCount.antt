@@ -37,7 +37,7 @@ module _ (s : Start) (f : Startable s) (m : Machine (s .size)) {xs : List (m .X)
         → m .says (final (m .next) (began s f m) xs) x ≡ m .answer (Repeat (howMany (s .count) (piece i ∷ es)))
     told-again a j k c =
         says-here s f m r i l x h
-        ∙ ap (m .answer) (rw (not-full (s .count) S j k (has-came s f m r i l j ∙ c), has-came s f m r i l i, a, tally-here))
+        ∙ ap (m .answer) (rw (not-full (s .count) S j k (has-came s f m r j ∙ c), has-came s f m r i, a, tally-here))
 
     -- A piece that had not, while another is missing.
     pub told-taken : came i es ≡ false → (j : ℕ) → j < s .count → (j ≡ i → ⊥) → came j es ≡ false
@@ -46,4 +46,4 @@ module _ (s : Start) (f : Startable s) (m : Machine (s .size)) {xs : List (m .X)
         let o : has (mark S i) j ≡ false = rw (with-came s f m r i l j, ne-eqb j i n) c in
         says-here s f m r i l x h
         ∙ ap (m .answer)
-        (rw (not-full (s .count) S j k (has-came s f m r i l j ∙ c), has-came s f m r i l i, a, not-full (s .count) (mark S i) j k o, tally-here))
+        (rw (not-full (s .count) S j k (has-came s f m r j ∙ c), has-came s f m r i, a, not-full (s .count) (mark S i) j k o, tally-here))

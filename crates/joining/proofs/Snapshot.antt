@@ -8,8 +8,8 @@ use mathlib.Core.Bool.{Bool, true, false, cond}
 use native.Mathlib.Omega.{arith}
 use native.Mathlib.Nat.{div-lt-iff-lt-mul}
 use lib.Dec.{eqb}
-use lib.ListN.{length, getD, take, length-take, length-replicate}
-use lib.Seq.{getD-take, ext-getD}
+use lib.ListN.{length, getD, take, length-replicate}
+use lib.Seq.{ext-getD}
 use Rattle.laws.proofs.Lists.{getD-any}
 use Rattle.joining.specs.declared.Progress.{Progress}
 use Rattle.joining.specs.declared.Piece.{Piece}
@@ -88,6 +88,11 @@ listed-at zero f k l = absurd (omega arith)
 listed-at (suc n) f zero l = refl
 listed-at (suc n) f (suc k) l = listed-at n (λ k. f (suc k)) k (omega arith)
 
+pub listed-take : (n N : ℕ) (f : ℕ → ℕ) → n ≤ N → take n (listed N f) ≡ listed n f
+listed-take zero N f l = refl
+listed-take (suc n) zero f l = absurd (omega arith)
+listed-take (suc n) (suc N) f l = ap (λ (b : List ℕ). f zero ∷ b) (listed-take n N (λ k. f (suc k)) (omega arith))
+
 -- A list whose bytes follow the rule.
 pub listed-is : (b : List ℕ) (n : ℕ) (f : ℕ → ℕ) → length b ≡ n → ((k : ℕ) → k < n → getD b k 0 ≡ f k) → b ≡ listed n f
 listed-is b n f e g =
@@ -108,16 +113,9 @@ module _ (s : Start) (f : Startable s) where
   -- The full set: the buffer begins with the report.
   pub whole : (S : List Bool) → full (s .count) S ≡ true → take (length (s .report)) (bufferAt s S) ≡ s .report
   whole S e =
-      let n : length (take (length (s .report)) (bufferAt s S)) ≡ length (s .report) =
-      simp (length-take, listed-length) (omega (arith, f .room)) in
-      ext-getD 0 (take (length (s .report)) (bufferAt s S)) (s .report) n
-      (λ k h.
-      let m : k < length (s .report) = omega arith in
-      let d : k / s .size < s .count =
-      div-lt-iff-lt-mul {k = s .size} {x = k} {y = s .count} (f .cut .pos) .1 (omega (arith, f .cut .enough)) in
-      rw (
-        getD-take (length (s .report)) (bufferAt s S) k 0 m,
-        listed-at (length (s .buffer)) (byteAt s S) k (omega (arith, f .room)),
-        full-has (s .count) S e (k / s .size) d,
-        getD-any (s .report) k (getD (s .buffer) k 0) 0 m,
-      ))
+      listed-take (length (s .report)) (length (s .buffer)) (byteAt s S) (f .room)
+      ∙ sym
+      (listed-is (s .report) (length (s .report)) (byteAt s S) refl
+      (λ k l.
+      let d = div-lt-iff-lt-mul {k = s .size} {x = k} {y = s .count} (f .cut .pos) .1 (omega (arith, f .cut .enough)) in
+      rw (full-has (s .count) S e (k / s .size) d) (getD-any (s .report) k 0 (getD (s .buffer) k 0) l)))
