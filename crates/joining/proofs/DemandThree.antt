@@ -1,7 +1,7 @@
 -- SPDX-License-Identifier: MPL-2.0
 -- Demand 3 in the abstract: over any machine that joins the pieces of a report and leaves all alone at what comes between, and over any
 -- course of pieces, in any order, with repeats.
-use Prim.Native.Nat.{ℕ, _+_, _<_}
+use Prim.Native.Nat.{ℕ, _+_, _≤_, _<_}
 use mathlib.Core.Path.{_≡_, refl, sym, ap, ap₂, _∙_}
 use mathlib.Core.List.{List, _∷_}
 use mathlib.Core.Logic.{⊎-elim}
@@ -23,9 +23,9 @@ use Rattle.joining.specs.declared.Arrival.the-variants.{Refused, Taken, 
 use Rattle.joining.specs.Heard.{most, tally, has, mark, none}
 use Rattle.joining.specs.Join.{expecting, join, reportAfter}
 use Rattle.joining.proofs.HeardLaws.{full, not-full, full-has, has-full, has-none, mark-has}
-use Rattle.joining.proofs.Snapshot.{Start, Startable, Lawful, pieceOf, pieceBytes, heldAt, byteAt, bufferAt, listed-length, none-lawful}
+use Rattle.joining.proofs.Snapshot.{Start, Startable, pieceOf, pieceBytes, heldAt, byteAt, bufferAt, listed-length}
 use Rattle.joining.proofs.Snapshot.{held-none, buffer-none, whole}
-use Rattle.joining.proofs.SnapshotBuffer.{in-set, mark-lawful}
+use Rattle.joining.proofs.SnapshotBuffer.{in-set}
 use Rattle.joining.proofs.PieceArrives.{answerAt, arrives}
 use Rattle.joining.specs.Events.{Event, piece, between, came, LastMissing}
 use Rattle.joining.proofs.EventSet.{heardWith, setOf, mark-came}
@@ -75,7 +75,7 @@ module _ (s : Start) (f : Startable s) (m : Machine (s .size)) where
   began = m .seat (s .held) (s .buffer)
 
   -- Piece i comes when S has come.
-  piece-comes : (c : m .C) (S : List Bool) → Lawful s S → c ≡ seated S → (i : ℕ) → i < s .count → (x : m .X)
+  piece-comes : (c : m .C) (S : List Bool) → length S ≡ most → c ≡ seated S → (i : ℕ) → i < s .count → (x : m .X)
       → m .Brings (pieceOf s i) (pieceBytes s i) x
       → (m .next c x ≡ seated (mark S i)) × (m .says c x ≡ m .answer (answerAt s S i))
   piece-comes c S w e i l x h =
@@ -83,17 +83,23 @@ module _ (s : Start) (f : Startable s) (m : Machine (s .size)) where
       rw (e, m .joins (heldAt s S) (bufferAt s S) _ _ x h, m .answers (heldAt s S) (bufferAt s S) _ _ x h, a .0, a .1) (refl, refl)
 
   -- An input, by what it is.
-  each : (c : m .C) (x : m .X) (e : Event) (S : List Bool) → Lawful s S → c ≡ seated S → Is s m c x e
-      → Lawful s (heardWith S e) × (m .next c x ≡ seated (heardWith S e))
-  each c x _ S w e (brings {i = i} l h) = (mark-lawful s f S w i l, piece-comes c S w e i l x h .0)
+  each : (c : m .C) (x : m .X) (e : Event) (S : List Bool) → length S ≡ most → c ≡ seated S → Is s m c x e
+      → (length (heardWith S e) ≡ most) × (m .next c x ≡ seated (heardWith S e))
+  each c x _ S w e (brings {i = i} l h) = (length-set S i true ∙ w, piece-comes c S w e i l x h .0)
   each c x _ S w e (rests q) = (w, m .still c x q ∙ e)
 
   -- After any course the state is that of the set of pieces that have come.
   pub ends-at : {xs : List (m .X)} {es : List Event} → CourseOf s m began xs es
-      → Lawful s (setOf es) × (final (m .next) began xs ≡ seated (setOf es))
+      → (length (setOf es) ≡ most) × (final (m .next) began xs ≡ seated (setOf es))
   ends-at r =
-      course-seat seated heardWith (Lawful s) each (none most) (none-lawful s f)
+      course-seat seated heardWith (λ S. length S ≡ most) each (none most) (length-replicate most false)
       (ap₂ (m .seat) (sym (held-none s f)) (sym (buffer-none s f))) r
+
+  -- What has come is under the count.
+  pub came-past : {c : m .C} {xs : List (m .X)} {es : List Event} → CourseOf s m c xs es → (j : ℕ) → s .count ≤ j → came j es ≡ false
+  came-past end j p = refl
+  came-past (goes (brings {i = i} l h) r) j p = rw (ne-eqb j i (λ e. omega arith)) (came-past r j p)
+  came-past (goes (rests q) r) j p = came-past r j p
 
   -- A set has, after a course, what it had and what has come.
   marks-has : {c : m .C} {xs : List (m .X)} {es : List Event} → CourseOf s m c xs es → (S : List Bool) → length S ≡ most → (j : ℕ)
@@ -112,21 +118,17 @@ module _ (s : Start) (f : Startable s) (m : Machine (s .size)) where
   only-the-set {es = es} {es′ = es′} r r′ e =
       let w = ends-at r in
       let w′ = ends-at r′ in
-      let same : setOf es ≡ setOf es′ =
-      ext-getD false (setOf es) (setOf es′) (w .0 .long ∙ sym (w′ .0 .long))
-      (λ j h.
-      ⊎-elim (λ l. has-came r j ∙ e j l ∙ sym (has-came r′ j)) (λ l. w .0 .below j l ∙ sym (w′ .0 .below j l)) (lt-or-ge j (s .count))) in
-      w .1 ∙ ap seated same ∙ sym (w′ .1)
+      let same : (j : ℕ) → came j es ≡ came j es′ =
+      λ j. ⊎-elim (e j) (λ p. came-past r j p ∙ sym (came-past r′ j p)) (lt-or-ge j (s .count)) in
+      let set = ext-getD false (setOf es) (setOf es′) (w .0 ∙ sym (w′ .0)) (λ j h. has-came r j ∙ same j ∙ sym (has-came r′ j)) in
+      w .1 ∙ ap seated set ∙ sym (w′ .1)
 
   module _ {xs : List (m .X)} {es : List Event} (r : CourseOf s m began xs es) (i : ℕ) (l : i < s .count) where
     abbrev S : List Bool
     S = setOf es
 
-    w : Lawful s S
-    w = ends-at r .0
-
     pub with-came : (j : ℕ) → has (mark S i) j ≡ came j (piece i ∷ es)
-    with-came j = mark-came S es (has-came r) i (in-set s f S w i l) j
+    with-came j = mark-came S es (has-came r) i (in-set s f S (ends-at r .0) i l) j
 
     -- With this piece all have come.
     pub all-come : LastMissing (s .count) i es → full (s .count) (mark S i) ≡ true
@@ -135,18 +137,15 @@ module _ (s : Start) (f : Startable s) (m : Machine (s .size)) where
         (λ j k. on (eqb j i) (λ e. rw (with-came j, e)) (λ e. rw (with-came j, e) (d .1 j k (eqb-false j i e))))
 
     module _ (x : m .X) (h : m .Brings (pieceOf s i) (pieceBytes s i) x) where
-      here : (m .next (final (m .next) began xs) x ≡ seated (mark S i)) × (m .says (final (m .next) began xs) x ≡ m .answer (answerAt s S i))
-      here = piece-comes (final (m .next) began xs) S w (ends-at r .1) i l x h
-
-      -- What is answered to piece i, by the set of what has come.
-      pub says-here : m .says (final (m .next) began xs) x ≡ m .answer (answerAt s (setOf es) i)
-      says-here = here .1
+      -- What piece i does, and what is answered to it, by the set of what has come.
+      pub here : (m .next (final (m .next) began xs) x ≡ seated (mark S i)) × (m .says (final (m .next) began xs) x ≡ m .answer (answerAt s S i))
+      here = let w = ends-at r in piece-comes (final (m .next) began xs) S (w .0) (w .1) i l x h
 
       -- "the report is handed out … at the call that brings the last missing fragment", with its length and its count
       pub handed-out : LastMissing (s .count) i es → m .says (final (m .next) began xs) x ≡ m .answer (Complete (length (s .report)) (s .count))
       handed-out d =
           let a : has S i ≡ false = has-came r i ∙ d .0 in
-          says-here ∙ ap (m .answer) (rw (not-full (s .count) S i l a, a, all-come d))
+          here .1 ∙ ap (m .answer) (rw (not-full (s .count) S i l a, a, all-come d))
 
       -- "whole, exactly as sent"; what is remembered is then that nothing is heard of the next number
       pub as-sent : LastMissing (s .count) i es
@@ -162,7 +161,7 @@ module _ (s : Start) (f : Startable s) (m : Machine (s .size)) where
       -- "at no other"
       pub at-no-other : m .done (m .says (final (m .next) began xs) x) ≡ true → LastMissing (s .count) i es
       at-no-other d =
-          let e = complete (full (s .count) S) (has S i) (full (s .count) (mark S i)) (tally (mark S i)) (ap (m .done) (sym says-here) ∙ d) in (
+          let e = complete (full (s .count) S) (has S i) (full (s .count) (mark S i)) (tally (mark S i)) (ap (m .done) (sym (here .1)) ∙ d) in (
             sym (has-came r i) ∙ e .0,
             λ j k n. rw (with-came j, ne-eqb j i n) at (full-has (s .count) (mark S i) (e .1) j k),
           )
@@ -178,4 +177,4 @@ module _ (s : Start) (f : Startable s) (m : Machine (s .size)) where
 
       -- "later copies get 17"
       pub late-copy : ((j : ℕ) → j < s .count → came j es ≡ true) → m .says (final (m .next) began xs) x ≡ m .answer (Refused 17)
-      late-copy d = says-here ∙ ap (m .answer) (rw (has-full (s .count) S (λ j k. has-came r j ∙ d j k)))
+      late-copy d = here .1 ∙ ap (m .answer) (rw (has-full (s .count) S (λ j k. has-came r j ∙ d j k)))

@@ -4,15 +4,15 @@ use Prim.Native.Nat.{ℕ, _<_}
 use mathlib.Core.Path.{_≡_, sym, ap, _∙_}
 use mathlib.Core.List.{List, _∷_}
 use mathlib.Core.Bool.{Bool, true, false}
+use native.Mathlib.Omega.{arith}
 use borrow.Author.Tests.{eqb-true, ne-eqb}
 use Rattle.laws.specs.Courses.{final}
 use Rattle.joining.specs.declared.Arrival.the-variants.{Taken, Repeat}
 use Rattle.joining.specs.Heard.{tally, come, has, mark}
 use Rattle.joining.proofs.HeardLaws.{full, not-full}
-use Rattle.joining.proofs.Snapshot.{Start, Startable, Lawful, pieceOf, pieceBytes}
-use Rattle.joining.proofs.SnapshotBuffer.{mark-lawful}
+use Rattle.joining.proofs.Snapshot.{Start, Startable, pieceOf, pieceBytes}
 use Rattle.joining.proofs.EventSet.{setOf, come-came, tally-came}
-use Rattle.joining.proofs.DemandThree.{Machine, CourseOf, began, ends-at, has-came, with-came, all-come, says-here}
+use Rattle.joining.proofs.DemandThree.{Machine, CourseOf, began, came-past, has-came, with-came, all-come, here}
 use Rattle.joining.specs.Events.{Event, piece, came, LastMissing, howMany}
 
 module _ (s : Start) (f : Startable s) (m : Machine (s .size)) {xs : List (m .X)} {es : List Event} (r : CourseOf s m (began s f m) xs es) (i : ℕ)
@@ -29,14 +29,15 @@ module _ (s : Start) (f : Startable s) (m : Machine (s .size)) {xs : List (m .X)
   -- How many have come with piece i.
   tally-here : tally (mark S i) ≡ howMany (s .count) (piece i ∷ es)
   tally-here =
-      tally-came (mark S i) (piece i ∷ es) (with-came s f m r i l) (s .count) (mark-lawful s f S (ends-at s f m r .0) i l .below)
+      tally-came (mark S i) (piece i ∷ es) (with-came s f m r i l) (s .count)
+      (λ j p. rw (with-came s f m r i l j, ne-eqb j i (λ e. omega arith)) (came-past s f m r j p))
 
   module _ (x : m .X) (h : m .Brings (pieceOf s i) (pieceBytes s i) x) where
     -- A piece that has come, while one is missing.
     pub told-again : came i es ≡ true → (j : ℕ) → j < s .count → came j es ≡ false
         → m .says (final (m .next) (began s f m) xs) x ≡ m .answer (Repeat (howMany (s .count) (piece i ∷ es)))
     told-again a j k c =
-        says-here s f m r i l x h
+        here s f m r i l x h .1
         ∙ ap (m .answer) (rw (not-full (s .count) S j k (has-came s f m r j ∙ c), has-came s f m r i, a, tally-here))
 
     -- A piece that had not, while another is missing.
@@ -44,6 +45,6 @@ module _ (s : Start) (f : Startable s) (m : Machine (s .size)) {xs : List (m .X)
         → m .says (final (m .next) (began s f m) xs) x ≡ m .answer (Taken (howMany (s .count) (piece i ∷ es)))
     told-taken a j k n c =
         let o : has (mark S i) j ≡ false = rw (with-came s f m r i l j, ne-eqb j i n) c in
-        says-here s f m r i l x h
+        here s f m r i l x h .1
         ∙ ap (m .answer)
         (rw (not-full (s .count) S j k (has-came s f m r j ∙ c), has-came s f m r i, a, not-full (s .count) (mark S i) j k o, tally-here))

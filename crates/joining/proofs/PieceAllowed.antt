@@ -14,10 +14,10 @@ use Rattle.joining.specs.Heard.{most, tally, has}
 use Rattle.joining.specs.Cut.{badSize}
 use Rattle.joining.specs.Join.{badIndex, unlike, isLast, misfit, conflict, joinRefusal, expecting}
 use Rattle.joining.proofs.Cuts.{not-over, filled, remainder, not-empty}
-use Rattle.joining.proofs.Snapshot.{Start, Startable, Lawful, pieceOf, pieceBytes, partHeld, bufferAt}
+use Rattle.joining.proofs.Snapshot.{Start, Startable, pieceOf, pieceBytes, partHeld, bufferAt}
 use Rattle.joining.proofs.SnapshotBuffer.{room, there}
 
-module _ (s : Start) (f : Startable s) (S : List Bool) (w : Lawful s S) (i : ℕ) (l : i < s .count) where
+module _ (s : Start) (f : Startable s) (S : List Bool) (w : length S ≡ most) (i : ℕ) (l : i < s .count) where
   abbrev bytes : List ℕ
   bytes = pieceBytes s i
 

@@ -12,11 +12,11 @@ use borrow.Author.Tests.{ne-eqb, eqb-false}
 use Rattle.laws.proofs.Cases.{on}
 use Rattle.joining.specs.declared.Arrival.{Arrival}
 use Rattle.joining.specs.declared.Arrival.the-variants.{Refused, Taken, Repeat, Complete}
-use Rattle.joining.specs.Heard.{tally, has, mark}
+use Rattle.joining.specs.Heard.{most, tally, has, mark}
 use Rattle.joining.specs.Join.{lastOf, join, reportAfter}
 use Rattle.joining.proofs.HeardLaws.{full, mark-known, tally-some, full-has}
 use Rattle.joining.proofs.Cuts.{begins}
-use Rattle.joining.proofs.Snapshot.{Start, Startable, Lawful, pieceOf, pieceBytes, partHeld, heldAt, bufferAt}
+use Rattle.joining.proofs.Snapshot.{Start, Startable, pieceOf, pieceBytes, partHeld, heldAt, bufferAt}
 use Rattle.joining.proofs.SnapshotBuffer.{in-set, put-buffer}
 use Rattle.joining.proofs.PieceAllowed.{due, unrefused, late}
 
@@ -27,7 +27,7 @@ answerAt s S i =
     (cond (has S i) (Repeat (tally (mark S i)))
     (cond (full (s .count) (mark S i)) (Complete (length (s .report)) (s .count)) (Taken (tally (mark S i)))))
 
-module _ (s : Start) (f : Startable s) (S : List Bool) (w : Lawful s S) (i : ℕ) (l : i < s .count) where
+module _ (s : Start) (f : Startable s) (S : List Bool) (w : length S ≡ most) (i : ℕ) (l : i < s .count) where
   in-mark : has (mark S i) i ≡ true
   in-mark = getD-set-same S i true false (in-set s f S w i l)
 

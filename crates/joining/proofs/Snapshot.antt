@@ -8,7 +8,7 @@ use mathlib.Core.Bool.{Bool, true, false, cond}
 use native.Mathlib.Omega.{arith}
 use native.Mathlib.Nat.{div-lt-iff-lt-mul}
 use lib.Dec.{eqb}
-use lib.ListN.{length, getD, take, length-replicate}
+use lib.ListN.{length, getD, take}
 use lib.Seq.{ext-getD}
 use Rattle.laws.proofs.Lists.{getD-any}
 use Rattle.joining.specs.declared.Progress.{Progress}
@@ -42,11 +42,6 @@ pieceOf s i = record { sequence = s .held .expected; channel = s .channel; count
 
 abbrev pub pieceBytes : Start → ℕ → List ℕ
 pieceBytes s i = part (s .report) (s .size * i) (s .size)
-
--- A set of pieces of this report.
-pub record Lawful (s : Start) (S : List Bool) : Type 0 where
-  pub long : length S ≡ most
-  pub below : (j : ℕ) → s .count ≤ j → has S j ≡ false
 
 abbrev pub lastSize : Start → ℕ
 lastSize s = length (s .report) - s .size * (s .count - 1)
@@ -99,9 +94,6 @@ listed-is b n f e g =
     ext-getD 0 b (listed n f) (e ∙ sym (listed-length n f)) (λ k l. g k (omega arith) ∙ sym (listed-at n f k (omega arith)))
 
 module _ (s : Start) (f : Startable s) where
-  pub none-lawful : Lawful s (none most)
-  none-lawful = record { long = length-replicate most false; below = λ j h. has-none most j }
-
   -- The empty set: all is as it began.
   pub held-none : heldAt s (none most) ≡ s .held
   held-none =

@@ -7,20 +7,20 @@ use mathlib.Core.List.{List}
 use mathlib.Core.Bool.{Bool, true, false}
 use native.Mathlib.Omega.{arith}
 use lib.Dec.{eqb}
-use lib.ListN.{length, getD, drop, length-set, List·getD-eq-default}
-use lib.Seq.{getD-take, getD-drop, getD-set-same, getD-set-other}
+use lib.ListN.{length, getD, drop, List·getD-eq-default}
+use lib.Seq.{getD-take, getD-drop, getD-set-same}
 use borrow.Author.Tests.{eqb-true}
 use Rattle.laws.proofs.Cases.{on}
 use Rattle.laws.proofs.Lists.{getD-any}
 use Rattle.laws.proofs.Order.{lt-or-ge}
-use Rattle.joining.specs.Heard.{has, mark}
+use Rattle.joining.specs.Heard.{most, has, mark}
 use Rattle.joining.specs.Report.{part, put}
 use Rattle.joining.proofs.HeardLaws.{mark-known, mark-has}
 use Rattle.joining.proofs.Places.{put-length, put-in, put-other, part-put}
 use Rattle.joining.proofs.Cuts.{part-length, inside, not-over, piece-at, places-of}
-use Rattle.joining.proofs.Snapshot.{Start, Startable, Lawful, pieceBytes, byteAt, bufferAt, listed-length, listed-at, listed-is}
+use Rattle.joining.proofs.Snapshot.{Start, Startable, pieceBytes, byteAt, bufferAt, listed-length, listed-at, listed-is}
 
-module _ (s : Start) (f : Startable s) (S : List Bool) (w : Lawful s S) (i : ℕ) (l : i < s .count) where
+module _ (s : Start) (f : Startable s) (S : List Bool) (w : length S ≡ most) (i : ℕ) (l : i < s .count) where
   abbrev bytes : List ℕ
   bytes = pieceBytes s i
 
@@ -31,14 +31,7 @@ module _ (s : Start) (f : Startable s) (S : List Bool) (w : Lawful s S) (i : ℕ
   room = rw (listed-length (length (s .buffer)) (byteAt s S)) (omega (arith, inside (s .report) (f .cut) i l, f .room))
 
   pub in-set : i < length S
-  in-set = omega (arith, w .long, f .cut .most)
-
-  pub mark-lawful : Lawful s (mark S i)
-  mark-lawful =
-      record {
-        long = length-set S i true ∙ w .long;
-        below = λ k h. getD-set-other S i k true false (λ e. omega arith) ∙ w .below k h;
-      }
+  in-set = omega (arith, f .cut .most)
 
   -- By the rule: a place of piece i, and any other place.
   there-at : (k : ℕ) → k < length bytes → getD bytes k 0 ≡ byteAt s (mark S i) (at + k)
