@@ -9,11 +9,11 @@ use native.Mathlib.Nat.{div-lt-iff-lt-mul, le-div-iff-mul-le, div-eq-of-lt-le, m
 use lib.Dec.{eqb, ltb, leb, eqb·suc-zero}
 use lib.ListN.{length, length-take, length-drop}
 use borrow.Author.Tests.{eqb-false, ltb-false, leb-false}
+use Rattle.laws.specs.Parts.{part}
 use Rattle.laws.proofs.Bools.{or-false}
 use Rattle.laws.proofs.Firsts.{first-quiet}
 use Rattle.wire.specs.Fields.{mostPieces}
 use Rattle.joining.specs.Heard.{most}
-use Rattle.joining.specs.Report.{part}
 use Rattle.joining.specs.Cut.{badSize, pieceCount, cutRefusal}
 
 -- L bytes cut into n pieces of F, n at most N: there is a piece, a byte follows each but the last, and the last is not over F.

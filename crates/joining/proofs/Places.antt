@@ -8,7 +8,8 @@ use native.Mathlib.Omega.{arith}
 use native.Mathlib.Decide.{decLt}
 use lib.ListN.{length, getD, take, drop, length-append, length-take, length-drop, List·getD-append}
 use lib.Seq.{getD-append-add, getD-take, getD-drop, length-take-le, take-all, drop-at, take-append-seam}
-use Rattle.joining.specs.Report.{part, put}
+use Rattle.laws.specs.Parts.{part}
+use Rattle.joining.specs.Report.{put}
 
 -- To take no more than there is takes the same.
 pub take-least : (n : ℕ) (l : List ℕ) (k : ℕ) → k ≡ length l → take (min n k) l ≡ take n l

@@ -10,11 +10,11 @@ use native.Mathlib.Nat.{div-lt-iff-lt-mul}
 use lib.Dec.{eqb}
 use lib.ListN.{length, getD, take}
 use lib.Seq.{ext-getD}
+use Rattle.laws.specs.Parts.{part}
 use Rattle.laws.proofs.Lists.{getD-any}
 use Rattle.joining.specs.declared.Progress.{Progress}
 use Rattle.joining.specs.declared.Piece.{Piece}
 use Rattle.joining.specs.Heard.{most, tally, has, none}
-use Rattle.joining.specs.Report.{part}
 use Rattle.joining.specs.Join.{expecting}
 use Rattle.joining.proofs.HeardLaws.{full, tally-none, has-none, not-full, full-has}
 use Rattle.joining.proofs.Cuts.{Cut}

@@ -10,11 +10,12 @@ use lib.Dec.{eqb}
 use lib.ListN.{length, getD, drop, List·getD-eq-default}
 use lib.Seq.{getD-take, getD-drop, getD-set-same}
 use borrow.Author.Tests.{eqb-true}
+use Rattle.laws.specs.Parts.{part}
 use Rattle.laws.proofs.Cases.{on}
 use Rattle.laws.proofs.Lists.{getD-any}
 use Rattle.laws.proofs.Order.{lt-or-ge}
 use Rattle.joining.specs.Heard.{most, has, mark}
-use Rattle.joining.specs.Report.{part, put}
+use Rattle.joining.specs.Report.{put}
 use Rattle.joining.proofs.HeardLaws.{mark-known, mark-has}
 use Rattle.joining.proofs.Places.{put-length, put-in, put-other, part-put}
 use Rattle.joining.proofs.Cuts.{part-length, inside, not-over, piece-at, places-of}

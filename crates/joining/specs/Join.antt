@@ -9,6 +9,7 @@ use lib.Dec.{eqb, ltb, leb}
 use lib.ListN.{length}
 use Rattle.laws.specs.Rows.{first}
 use Rattle.laws.specs.Same.{same}
+use Rattle.laws.specs.Parts.{part}
 use Rattle.wire.specs.Refusals.{wrongPiece, pastSequence, futureSequence, lastSequence, wrongPieceSize, unlikeFirstPiece, noRoom, unlikeRepeat}
 use Rattle.wire.specs.Refusals.{wrongFragmentSize}
 use Rattle.joining.specs.declared.Progress.{Progress}
@@ -16,7 +17,7 @@ use Rattle.joining.specs.declared.Piece.{Piece}
 use Rattle.joining.specs.declared.Joined.{Joined}
 use Rattle.joining.specs.declared.Arrival.the-variants.{Refused, Taken, Repeat, Complete}
 use Rattle.joining.specs.Heard.{most, tally, come, has, mark, none}
-use Rattle.joining.specs.Report.{part, put}
+use Rattle.joining.specs.Report.{put}
 use Rattle.joining.specs.Cut.{badSize}
 
 -- 7: "count 0 or over 64; index not under count".

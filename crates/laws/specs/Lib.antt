@@ -3,3 +3,4 @@ pub mod Rows
 pub mod Bytes
 pub mod Same
 pub mod Courses
+pub mod Parts
