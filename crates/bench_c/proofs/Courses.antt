@@ -7,7 +7,7 @@ use native.Mathlib.Numerals.{add-one}
 use Rattle.joining.specs.declared.Progress.{Progress}
 use Rattle.joining.specs.declared.Joined.{Joined}
 use Rattle.joining.specs.Join.{join, reportAfter}
-use Rattle.joining.specs.Report.{part}
+use Rattle.laws.specs.Parts.{part}
 use Rattle.bench_c.specs.Course.{pieceOf, lengthTold, course}
 
 module _ (F count : ℕ) (source report₀ : List ℕ) (n : ℕ) where

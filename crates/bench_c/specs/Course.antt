@@ -9,7 +9,7 @@ use Rattle.joining.specs.declared.Piece.{Piece}
 use Rattle.joining.specs.declared.Arrival.{Arrival}
 use Rattle.joining.specs.declared.Arrival.the-variants.{Refused, Taken, Repeat, Complete}
 use Rattle.joining.specs.Join.{expecting, join, reportAfter}
-use Rattle.joining.specs.Report.{part}
+use Rattle.laws.specs.Parts.{part}
 
 -- What the header of piece i says, in a report of number 0 on channel 0.
 abbrev pub pieceOf : ℕ → ℕ → Piece

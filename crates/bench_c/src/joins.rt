@@ -8,7 +8,7 @@ use octets::bounds::lesser;
 ghost use mathlib.Core.Path.{_≡_};
 ghost use Prim.Native.Nat.{_*_, _≤_, _<_};
 ghost use Rattle.joining.specs.Join.{join, reportAfter};
-ghost use Rattle.joining.specs.Report.{part};
+ghost use Rattle.laws.specs.Parts.{part};
 ghost use Rattle.bench_c.specs.Course.{pieceOf, lengthTold, course, notOne, joinedAll};
 
 // The bytes of a source from a place on, as many as there are of those that are wanted.

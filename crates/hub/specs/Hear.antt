@@ -11,7 +11,7 @@ use Rattle.sha256.specs.Digests.{digest}
 use Rattle.joining.specs.declared.Piece.{Piece}
 use Rattle.joining.specs.declared.Joined.{Joined}
 use Rattle.joining.specs.declared.Progress.{Progress}
-use Rattle.joining.specs.Report.{part}
+use Rattle.laws.specs.Parts.{part}
 use Rattle.joining.specs.Join.{join, reportAfter}
 use Rattle.hub.specs.declared.Connection.{Connection}
 use Rattle.hub.specs.declared.Stepped.{Stepped}

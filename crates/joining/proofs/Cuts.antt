@@ -9,11 +9,11 @@ use native.Mathlib.Nat.{div-lt-iff-lt-mul, le-div-iff-mul-le, div-eq-of-lt-le, m
 use lib.Dec.{eqb, ltb, leb, eqb·suc-zero}
 use lib.ListN.{length, length-take, length-drop}
 use borrow.Author.Tests.{eqb-false, ltb-false, leb-false}
+use Rattle.laws.specs.Parts.{part}
 use Rattle.laws.proofs.Bools.{or-false}
 use Rattle.laws.proofs.Firsts.{first-quiet}
 use Rattle.wire.specs.Fields.{mostPieces}
 use Rattle.joining.specs.Heard.{most}
-use Rattle.joining.specs.Report.{part}
 use Rattle.joining.specs.Cut.{badSize, pieceCount, cutRefusal}
 
 -- L bytes cut into n pieces of F, n at most N: there is a piece, a byte follows each but the last, and the last is not over F.
@@ -45,12 +45,7 @@ place-bound F i N h l = mul-le-mul h (le-of-lt l)
 pub good-size : (F : ℕ) → badSize F ≡ false → (0 < F) × (F ≤ 16384)
 good-size F e =
     let n = or-false (eqb F 0) (ltb 16384 F) e in
-    let z : F ≡ 0 → ⊥ = eqb-false F 0 (n .0) in
-    (positive F z, ltb-false 16384 F (n .1))
-  where
-    positive : (F : ℕ) → (F ≡ 0 → ⊥) → 0 < F
-    positive zero z = absurd (z refl)
-    positive (suc F) z = omega arith
+    (omega (arith, eqb-false F 0 (n .0)), ltb-false 16384 F (n .1))
 
 -- What the cutter does not refuse: neither row applies.
 pub uncut : (F L i : ℕ) → cutRefusal F L i ≡ 0 → (badSize F ≡ false) × (ltb (F * most) L ≡ false) × (leb (pieceCount F L) i ≡ false)
@@ -97,19 +92,17 @@ module _ {F N n : ℕ} (R : List ℕ) (c : Cut F N n (length R)) (i : ℕ) (l : 
 
   -- The last of several is not empty.
   pub not-empty : i + 1 ≡ n → 1 < n → 0 < length (part R (F * i) F)
-  not-empty m k = go i (remainder m) m
-    where
-      go : (j : ℕ) → length (part R (F * i) F) ≡ length R - F * j → j + 1 ≡ n → 0 < length (part R (F * i) F)
-      go zero e m = absurd (omega arith)
-      go (suc j) e m = omega (arith, c .full j (omega arith))
+  not-empty m k =
+      let e : i ≡ i - 1 + 1 = omega arith in
+      omega (arith, remainder m, c .full (i - 1) (omega arith), ap (λ (k : ℕ). F * k) e)
 
 -- The piece that a place belongs to.
 module _ (F i k : ℕ) (p : 0 < F) where
   pub piece-at : F * i ≤ k → k < F * i + F → k / F ≡ i
   piece-at lo hi = div-eq-of-lt-le F (omega arith) (omega arith)
 
-  pub not-before : k < F * i → k / F ≡ i → ⊥
-  not-before lt e = omega (arith, le-div-iff-mul-le {k = F} {x = i} {y = k} p .0 (omega arith))
-
-  pub ends-within : k / F ≡ i → k < F * i + F
-  ends-within e = omega (arith, div-lt-iff-lt-mul {k = F} {x = k} {y = i + 1} p .0 (omega arith))
+  pub places-of : k / F ≡ i → (F * i ≤ k) × (k < F * i + F)
+  places-of e = (
+    omega (arith, le-div-iff-mul-le {k = F} {x = i} {y = k} p .0 (omega arith)),
+    omega (arith, div-lt-iff-lt-mul {k = F} {x = k} {y = i + 1} p .0 (omega arith)),
+  )

@@ -1,33 +1,34 @@
 -- SPDX-License-Identifier: MPL-2.0
 -- Demand 3 in the abstract: over any machine that joins the pieces of a report and leaves all alone at what comes between, and over any
 -- course of pieces, in any order, with repeats.
-use Prim.Native.Nat.{ℕ, _+_, _<_}
-use mathlib.Core.Path.{_≡_, sym, ap, ap₂, _∙_}
-use mathlib.Core.List.{List}
-use mathlib.Core.Bool.{Bool, true, false, true≢false}
+use Prim.Native.Nat.{ℕ, _+_, _≤_, _<_}
+use mathlib.Core.Path.{_≡_, refl, sym, ap, ap₂, _∙_}
+use mathlib.Core.List.{List, _∷_}
+use mathlib.Core.Logic.{⊎-elim}
+use mathlib.Core.Bool.{Bool, true, false, cond, _||_, true≢false}
 use native.Mathlib.Omega.{arith}
-use native.Mathlib.Decide.{ℕ-discrete}
 use lib.Dec.{eqb}
-use lib.ListN.{length, take}
-use lib.Seq.{getD-set-same, getD-set-other}
-use borrow.Author.Tests.{eq-eqb, ne-eqb, eqb-true}
+use lib.ListN.{length, take, length-set, length-replicate}
+use lib.Seq.{ext-getD}
+use borrow.Author.Tests.{ne-eqb, eqb-false}
 use Rattle.laws.specs.Courses.{final}
+use Rattle.laws.proofs.Bools.{or-none, or-assoc}
 use Rattle.laws.proofs.Cases.{on}
+use Rattle.laws.proofs.Order.{lt-or-ge}
 use Rattle.laws.proofs.Courses.{Course, end, goes, course-seat}
 use Rattle.joining.specs.declared.Progress.{Progress}
 use Rattle.joining.specs.declared.Piece.{Piece}
-use Rattle.joining.specs.declared.Joined.{Joined}
 use Rattle.joining.specs.declared.Arrival.{Arrival}
 use Rattle.joining.specs.declared.Arrival.the-variants.{Refused, Taken, Repeat, Complete}
-use Rattle.joining.specs.Heard.{most, tally, come, has, mark, none}
+use Rattle.joining.specs.Heard.{most, tally, has, mark, none}
 use Rattle.joining.specs.Join.{expecting, join, reportAfter}
-use Rattle.joining.proofs.HeardLaws.{come-mark, come-full, full-come}
-use Rattle.joining.proofs.Snapshot.{Start, Startable, Lawful, pieceOf, pieceBytes, heldAt, byteAt, bufferAt, listed-length, none-lawful}
+use Rattle.joining.proofs.HeardLaws.{full, not-full, full-has, has-full, has-none, mark-has}
+use Rattle.joining.proofs.Snapshot.{Start, Startable, pieceOf, pieceBytes, heldAt, byteAt, bufferAt, listed-length}
 use Rattle.joining.proofs.Snapshot.{held-none, buffer-none, whole}
-use Rattle.joining.proofs.SnapshotBuffer.{mark-lawful}
+use Rattle.joining.proofs.SnapshotBuffer.{in-set}
 use Rattle.joining.proofs.PieceArrives.{answerAt, arrives}
 use Rattle.joining.specs.Events.{Event, piece, between, came, LastMissing}
-use Rattle.joining.proofs.EventSet.{heardWith, Under, setOf, set-has, set-only}
+use Rattle.joining.proofs.EventSet.{heardWith, setOf, mark-came}
 
 -- The machine, as far as demand 3 looks at it: states C, inputs X, answers A.
 pub record Machine (F : ℕ) : Type 1 where
@@ -64,11 +65,6 @@ pub data Is (s : Start) (m : Machine (s .size)) : m .C → m .X → Event → Ty
 abbrev pub CourseOf : (s : Start) (m : Machine (s .size)) → m .C → List (m .X) → List Event → Type 0
 CourseOf s m = Course (m .next) (Is s m)
 
-pub under : {s : Start} {m : Machine (s .size)} {c : m .C} {xs : List (m .X)} {es : List Event} → CourseOf s m c xs es → Under (s .count) es
-under end = tt
-under (goes (brings l h) r) = (l, under r)
-under (goes (rests q) r) = under r
-
 module _ (s : Start) (f : Startable s) (m : Machine (s .size)) where
   -- The state once S has come.
   abbrev seated : List Bool → m .C
@@ -78,105 +74,107 @@ module _ (s : Start) (f : Startable s) (m : Machine (s .size)) where
   abbrev pub began : m .C
   began = m .seat (s .held) (s .buffer)
 
-  next-at : (S : List Bool) → Lawful s S → (i : ℕ) → i < s .count → (x : m .X) → m .Brings (pieceOf s i) (pieceBytes s i) x
-      → m .next (seated S) x ≡ seated (mark S i)
-  next-at S w i l x h =
+  -- Piece i comes when S has come.
+  piece-comes : (c : m .C) (S : List Bool) → length S ≡ most → c ≡ seated S → (i : ℕ) → i < s .count → (x : m .X)
+      → m .Brings (pieceOf s i) (pieceBytes s i) x
+      → (m .next c x ≡ seated (mark S i)) × (m .says c x ≡ m .answer (answerAt s S i))
+  piece-comes c S w e i l x h =
       let a = arrives s f S w i l in
-      m .joins (heldAt s S) (bufferAt s S) (pieceOf s i) (pieceBytes s i) x h ∙ ap₂ (m .seat) (ap (λ (j : Joined). j .progress) (a .0)) (a .1)
-
-  says-at : (S : List Bool) → Lawful s S → (i : ℕ) → i < s .count → (x : m .X) → m .Brings (pieceOf s i) (pieceBytes s i) x
-      → m .says (seated S) x ≡ m .answer (answerAt s S i)
-  says-at S w i l x h =
-      m .answers (heldAt s S) (bufferAt s S) (pieceOf s i) (pieceBytes s i) x h
-      ∙ ap (λ (j : Joined). m .answer (j .answer)) (arrives s f S w i l .0)
+      rw (e, m .joins (heldAt s S) (bufferAt s S) _ _ x h, m .answers (heldAt s S) (bufferAt s S) _ _ x h, a .0, a .1) (refl, refl)
 
   -- An input, by what it is.
-  each : (c : m .C) (x : m .X) (e : Event) (S : List Bool) → Lawful s S → c ≡ seated S → Is s m c x e
-      → Lawful s (heardWith S e) × (m .next c x ≡ seated (heardWith S e))
-  each c x _ S w e (brings {i = i} l h) = (mark-lawful s f S w i l, ap (λ (c : m .C). m .next c x) e ∙ next-at S w i l x h)
+  each : (c : m .C) (x : m .X) (e : Event) (S : List Bool) → length S ≡ most → c ≡ seated S → Is s m c x e
+      → (length (heardWith S e) ≡ most) × (m .next c x ≡ seated (heardWith S e))
+  each c x _ S w e (brings {i = i} l h) = (length-set S i true ∙ w, piece-comes c S w e i l x h .0)
   each c x _ S w e (rests q) = (w, m .still c x q ∙ e)
 
   -- After any course the state is that of the set of pieces that have come.
   pub ends-at : {xs : List (m .X)} {es : List Event} → CourseOf s m began xs es
-      → Lawful s (setOf es) × (final (m .next) began xs ≡ seated (setOf es))
+      → (length (setOf es) ≡ most) × (final (m .next) began xs ≡ seated (setOf es))
   ends-at r =
-      course-seat seated heardWith (Lawful s) each (none most) (none-lawful s f)
+      course-seat seated heardWith (λ S. length S ≡ most) each (none most) (length-replicate most false)
       (ap₂ (m .seat) (sym (held-none s f)) (sym (buffer-none s f))) r
+
+  -- What has come is under the count.
+  pub came-past : {c : m .C} {xs : List (m .X)} {es : List Event} → CourseOf s m c xs es → (j : ℕ) → s .count ≤ j → came j es ≡ false
+  came-past end j p = refl
+  came-past (goes (brings {i = i} l h) r) j p = rw (ne-eqb j i (λ e. omega arith)) (came-past r j p)
+  came-past (goes (rests q) r) j p = came-past r j p
+
+  -- A set has, after a course, what it had and what has come.
+  marks-has : {c : m .C} {xs : List (m .X)} {es : List Event} → CourseOf s m c xs es → (S : List Bool) → length S ≡ most → (j : ℕ)
+      → has (final heardWith S es) j ≡ (has S j || came j es)
+  marks-has end S e j = sym (or-none (has S j))
+  marks-has (goes {es = es} (brings {i = i} l h) r) S e j =
+      rw (marks-has r (mark S i) (length-set S i true ∙ e) j, mark-has S i j (omega (arith, f .cut .most))) (or-assoc (has S j) (eqb j i) (came j es))
+  marks-has (goes (rests q) r) S e j = marks-has r S e j
+
+  pub has-came : {xs : List (m .X)} {es : List Event} → CourseOf s m began xs es → (j : ℕ) → has (setOf es) j ≡ came j es
+  has-came r j = rw (marks-has r (none most) (length-replicate most false) j, has-none most j)
 
   -- "connection and report buffer depend only on how they began and which fragments have come"
   pub only-the-set : {xs xs′ : List (m .X)} {es es′ : List Event} → CourseOf s m began xs es → CourseOf s m began xs′ es′
       → ((j : ℕ) → j < s .count → came j es ≡ came j es′) → final (m .next) began xs ≡ final (m .next) began xs′
   only-the-set {es = es} {es′ = es′} r r′ e =
-      ends-at r .1 ∙ ap seated (set-only s f es es′ (under r) (under r′) (ends-at r .0) (ends-at r′ .0) e) ∙ sym (ends-at r′ .1)
+      let w = ends-at r in
+      let w′ = ends-at r′ in
+      let same : (j : ℕ) → came j es ≡ came j es′ =
+      λ j. ⊎-elim (e j) (λ p. came-past r j p ∙ sym (came-past r′ j p)) (lt-or-ge j (s .count)) in
+      let set = ext-getD false (setOf es) (setOf es′) (w .0 ∙ sym (w′ .0)) (λ j h. has-came r j ∙ same j ∙ sym (has-came r′ j)) in
+      w .1 ∙ ap seated set ∙ sym (w′ .1)
 
   module _ {xs : List (m .X)} {es : List Event} (r : CourseOf s m began xs es) (i : ℕ) (l : i < s .count) where
     abbrev S : List Bool
     S = setOf es
 
-    w : Lawful s S
-    w = ends-at r .0
-
-    room : i < length S
-    room = omega (arith, w .long, f .cut .most)
+    pub with-came : (j : ℕ) → has (mark S i) j ≡ came j (piece i ∷ es)
+    with-came j = mark-came S es (has-came r) i (in-set s f S (ends-at r .0) i l) j
 
     -- With this piece all have come.
-    pub all-come : LastMissing (s .count) i es → come (s .count) (mark S i) ≡ s .count
+    pub all-come : LastMissing (s .count) i es → full (s .count) (mark S i) ≡ true
     all-come d =
-        full-come (s .count) (mark S i) (omega (arith, mark-lawful s f S w i l .long, f .cut .most)) (λ j k. go j k (ℕ-discrete j i))
-      where
-        go : (j : ℕ) → j < s .count → Dec (j ≡ i) → has (mark S i) j ≡ true
-        go j k (yes e) = rw e (getD-set-same S i true false room)
-        go j k (no e) = getD-set-other S i j true false e ∙ set-has s f es (under r) j ∙ d .1 j k e
+        has-full (s .count) (mark S i)
+        (λ j k. on (eqb j i) (λ e. rw (with-came j, e)) (λ e. rw (with-came j, e) (d .1 j k (eqb-false j i e))))
 
     module _ (x : m .X) (h : m .Brings (pieceOf s i) (pieceBytes s i) x) where
-      -- What is answered to piece i, by the set of what has come.
-      pub says-here : m .says (final (m .next) began xs) x ≡ m .answer (answerAt s (setOf es) i)
-      says-here = ap (λ (c : m .C). m .says c x) (ends-at r .1) ∙ says-at S w i l x h
-
-      next-here : m .next (final (m .next) began xs) x ≡ seated (mark S i)
-      next-here = ap (λ (c : m .C). m .next c x) (ends-at r .1) ∙ next-at S w i l x h
+      -- What piece i does, and what is answered to it, by the set of what has come.
+      pub here : (m .next (final (m .next) began xs) x ≡ seated (mark S i)) × (m .says (final (m .next) began xs) x ≡ m .answer (answerAt s S i))
+      here = let w = ends-at r in piece-comes (final (m .next) began xs) S (w .0) (w .1) i l x h
 
       -- "the report is handed out … at the call that brings the last missing fragment", with its length and its count
       pub handed-out : LastMissing (s .count) i es → m .says (final (m .next) began xs) x ≡ m .answer (Complete (length (s .report)) (s .count))
       handed-out d =
-          let a : has S i ≡ false = set-has s f es (under r) i ∙ d .0 in
-          let t : come (s .count) S + 1 ≡ s .count = sym (come-mark (s .count) S i l room a) ∙ all-come d in
-          says-here
-          ∙ ap (m .answer) (rw (ne-eqb (come (s .count) S) (s .count) (λ e. omega arith), a, eq-eqb (come (s .count) S + 1) (s .count) t))
+          let a : has S i ≡ false = has-came r i ∙ d .0 in
+          here .1 ∙ ap (m .answer) (rw (not-full (s .count) S i l a, a, all-come d))
 
       -- "whole, exactly as sent"; what is remembered is then that nothing is heard of the next number
       pub as-sent : LastMissing (s .count) i es
           → (b : List ℕ) × (m .next (final (m .next) began xs) x ≡ m .seat (expecting (s .held .expected + 1)) b)
           × (take (length (s .report)) b ≡ s .report) × (length b ≡ length (s .buffer))
-      as-sent d =
-          let t : come (s .count) (mark S i) ≡ s .count = all-come d in (
-            bufferAt s (mark S i),
-            next-here ∙ ap (λ (q : Progress). m .seat q (bufferAt s (mark S i))) (rw (eq-eqb (come (s .count) (mark S i)) (s .count) t)),
-            whole s f (mark S i) t,
-            listed-length (length (s .buffer)) (byteAt s (mark S i)),
-          )
+      as-sent d = (
+        bufferAt s (mark S i),
+        here .0 ∙ ap (λ (q : Progress). m .seat q (bufferAt s (mark S i))) (rw (all-come d)),
+        whole s f (mark S i) (all-come d),
+        listed-length (length (s .buffer)) (byteAt s (mark S i)),
+      )
 
       -- "at no other"
       pub at-no-other : m .done (m .says (final (m .next) began xs) x) ≡ true → LastMissing (s .count) i es
       at-no-other d =
-          on (eqb (come (s .count) S) (s .count)) (λ e. not-so (Refused 17) (rw e) (m .done-refused 17))
-          (λ e.
-          on (has S i) (λ a. not-so (Repeat (tally S)) (rw (e, a)) (m .done-repeat (tally S)))
-          (λ a.
-          on (eqb (come (s .count) S + 1) (s .count))
-          (λ o.
-          let t : come (s .count) (mark S i) ≡ s .count = come-mark (s .count) S i l room a ∙ eqb-true (come (s .count) S + 1) (s .count) o in (
-            sym (set-has s f es (under r) i) ∙ a,
-            λ j k n. sym (set-has s f es (under r) j) ∙ sym (getD-set-other S i j true false n) ∙ come-full (s .count) (mark S i) t j k,
-          ))
-          (λ o. not-so (Taken (tally S + 1)) (rw (e, a, o)) (m .done-taken (tally S + 1)))))
+          let e = complete (full (s .count) S) (has S i) (full (s .count) (mark S i)) (tally (mark S i)) (ap (m .done) (sym (here .1)) ∙ d) in (
+            sym (has-came r i) ∙ e .0,
+            λ j k n. rw (with-came j, ne-eqb j i n) at (full-has (s .count) (mark S i) (e .1) j k),
+          )
         where
-          not-so : (a : Arrival) → answerAt s S i ≡ a → m .done (m .answer a) ≡ false → LastMissing (s .count) i es
-          not-so a e n = absurd (true≢false (sym d ∙ ap (m .done) (says-here ∙ ap (m .answer) e) ∙ n))
+          -- of the answers Complete alone hands a report out
+          complete : (a b c : Bool) (n : ℕ)
+              → m .done (m .answer (cond a (Refused 17) (cond b (Repeat n) (cond c (Complete (length (s .report)) (s .count)) (Taken n))))) ≡ true
+              → (b ≡ false) × (c ≡ true)
+          complete true b c n e = absurd (true≢false (sym e ∙ m .done-refused 17))
+          complete false true c n e = absurd (true≢false (sym e ∙ m .done-repeat n))
+          complete false false false n e = absurd (true≢false (sym e ∙ m .done-taken n))
+          complete false false true n e = (refl, refl)
 
       -- "later copies get 17"
       pub late-copy : ((j : ℕ) → j < s .count → came j es ≡ true) → m .says (final (m .next) began xs) x ≡ m .answer (Refused 17)
-      late-copy d =
-          let t : come (s .count) S ≡ s .count =
-          full-come (s .count) S (omega (arith, w .long, f .cut .most)) (λ j k. set-has s f es (under r) j ∙ d j k) in
-          says-here ∙ ap (m .answer) (rw (eq-eqb (come (s .count) S) (s .count) t))
+      late-copy d = here .1 ∙ ap (m .answer) (rw (has-full (s .count) S (λ j k. has-came r j ∙ d j k)))

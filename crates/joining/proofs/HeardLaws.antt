@@ -3,33 +3,34 @@
 use Prim.Native.Nat.{ℕ, zero, suc, _+_, _≤_, _<_, zero-le}
 use mathlib.Core.Path.{_≡_, refl, sym, ap, _∙_}
 use mathlib.Core.List.{List, [], _∷_}
-use mathlib.Core.Bool.{Bool, true, false}
+use mathlib.Core.Bool.{Bool, true, false, _||_, true≢false}
 use native.Mathlib.Omega.{arith}
 use mir.Val.{boolByte}
+use lib.Dec.{eqb}
 use lib.ListN.{length, set}
-use lib.Seq.{set-getD}
+use lib.Seq.{set-getD, getD-set-same, getD-set-other, take-nil}
+use borrow.Author.Tests.{eqb-true, eqb-false, eq-eqb, ne-eqb}
+use Rattle.laws.proofs.Bools.{or-true, or-none}
+use Rattle.laws.proofs.Cases.{on}
 use Rattle.joining.specs.Heard.{bit, tally, come, has, mark, none}
-
-pub bit-le : (b : Bool) → bit b ≤ 1
-bit-le true = omega arith
-bit-le false = omega arith
 
 -- A bool read as a number.
 pub bit-byte : (b : Bool) → (boolByte b ≡ bit b) × (bit b ≤ 1)
 bit-byte true = (refl, omega arith)
 bit-byte false = (refl, omega arith)
 
+pub bit-le : (b : Bool) → bit b ≤ 1
+bit-le b = bit-byte b .1
+
 -- One index more, in order.
 pub come-suc : (h : List Bool) (i : ℕ) → come (suc i) h ≡ come i h + bit (has h i)
-come-suc [] zero = refl
-come-suc [] (suc i) = refl
+come-suc [] i = simp take-nil
 come-suc (b ∷ bs) zero = omega arith
 come-suc (b ∷ bs) (suc i) = omega (arith, come-suc bs i)
 
 pub come-le : (n : ℕ) (h : List Bool) → come n h ≤ n
 come-le zero h = zero-le
-come-le (suc n) [] = zero-le
-come-le (suc n) (b ∷ bs) = omega (arith, bit-le b, come-le n bs)
+come-le (suc n) h = omega (arith, come-suc h n, bit-le (has h n), come-le n h)
 
 -- Those under n are some of all.
 pub come-tally : (n : ℕ) (h : List Bool) → come n h ≤ tally h
@@ -37,49 +38,56 @@ come-tally zero h = zero-le
 come-tally (suc n) [] = zero-le
 come-tally (suc n) (b ∷ bs) = omega (arith, come-tally n bs)
 
+-- What is heard is counted.
+pub tally-some : (h : List Bool) (i : ℕ) → has h i ≡ true → 0 < tally h
+tally-some h i e = let b : bit (has h i) ≡ 1 = ap bit e in omega (arith, come-suc h i, come-tally (suc i) h)
+
+-- Nothing stands in a set after its first n indexes: they are all that is counted.
+pub tally-come : (n : ℕ) (h : List Bool) → ((i : ℕ) → n ≤ i → has h i ≡ false) → tally h ≡ come n h
+tally-come n [] f = simp take-nil
+tally-come zero (b ∷ bs) f =
+    let z : bit b ≡ 0 = ap bit (f 0 (omega arith)) in
+    omega (arith, tally-come zero bs (λ i l. f (suc i) (omega arith)))
+tally-come (suc n) (b ∷ bs) f = omega (arith, tally-come n bs (λ i l. f (suc i) (omega arith)))
+
 -- To mark what is heard changes nothing.
 pub mark-known : (h : List Bool) (i : ℕ) → has h i ≡ true → mark h i ≡ h
 mark-known h i e = ap (λ (b : Bool). set h i b) (sym e) ∙ set-getD h i false
 
--- A new index adds one.
-pub tally-mark : (h : List Bool) (i : ℕ) → i < length h → has h i ≡ false → tally (mark h i) ≡ tally h + 1
-tally-mark [] i l e = absurd (omega arith)
-tally-mark (b ∷ bs) zero l e = rw e (omega arith)
-tally-mark (b ∷ bs) (suc i) l e = omega (arith, tally-mark bs i (omega arith) e)
+pub mark-has : (h : List Bool) (i j : ℕ) → i < length h → has (mark h i) j ≡ (has h j || eqb j i)
+mark-has h i j l =
+    on (eqb j i) (λ e. rw (e, eqb-true j i e, or-true (has h i)) (getD-set-same h i true false l))
+    (λ e. rw (e, or-none (has h j)) (getD-set-other h i j true false (eqb-false j i e)))
 
-pub come-mark : (n : ℕ) (h : List Bool) (i : ℕ) → i < n → i < length h → has h i ≡ false → come n (mark h i) ≡ come n h + 1
-come-mark zero h i m l e = absurd (omega arith)
-come-mark (suc n) [] i m l e = absurd (omega arith)
-come-mark (suc n) (b ∷ bs) zero m l e = rw e (omega arith)
-come-mark (suc n) (b ∷ bs) (suc i) m l e = omega (arith, come-mark n bs i (omega arith) (omega arith) e)
-
-pub tally-none : (n : ℕ) → tally (none n) ≡ 0
-tally-none zero = refl
-tally-none (suc n) = omega (arith, tally-none n)
-
-pub come-none : (n N : ℕ) → come n (none N) ≡ 0
-come-none zero N = refl
-come-none (suc n) zero = refl
-come-none (suc n) (suc N) = omega (arith, come-none n N)
-
-pub has-none : (N j : ℕ) → has (none N) j ≡ false
-has-none zero j = refl
+pub has-none : (N i : ℕ) → has (none N) i ≡ false
+has-none zero i = refl
 has-none (suc N) zero = refl
-has-none (suc N) (suc j) = has-none N j
+has-none (suc N) (suc i) = has-none N i
 
-is-set : (b : Bool) → 1 ≤ bit b → b ≡ true
-is-set true p = refl
-is-set false p = absurd (omega arith)
+pub tally-none : (N : ℕ) → tally (none N) ≡ 0
+tally-none N = tally-come 0 (none N) (λ i l. has-none N i)
 
--- All n have come: each index below n is heard.
-pub come-full : (n : ℕ) (h : List Bool) → come n h ≡ n → (i : ℕ) → i < n → has h i ≡ true
-come-full zero h e i l = absurd (omega arith)
-come-full (suc n) [] e i l = absurd (omega arith)
-come-full (suc n) (b ∷ bs) e zero l = is-set b (omega (arith, come-le n bs))
-come-full (suc n) (b ∷ bs) e (suc i) l = come-full n bs (omega (arith, bit-le b, come-le n bs)) i (omega arith)
+-- All indexes below n are heard: the test, and what it says.
+abbrev pub full : ℕ → List Bool → Bool
+full n h = eqb (come n h) n
 
--- Each index below n is heard: all n have come.
-pub full-come : (n : ℕ) (h : List Bool) → n ≤ length h → ((i : ℕ) → i < n → has h i ≡ true) → come n h ≡ n
-full-come zero h l f = refl
-full-come (suc n) [] l f = absurd (omega arith)
-full-come (suc n) (b ∷ bs) l f = rw (f 0 (omega arith)) (omega (arith, full-come n bs (omega arith) (λ i p. f (suc i) (omega arith))))
+come-few : (n : ℕ) (h : List Bool) (i : ℕ) → i < n → has h i ≡ false → come n h < n
+come-few zero h i l e = absurd (omega arith)
+come-few (suc n) [] i l e = omega arith
+come-few (suc n) (b ∷ bs) zero l e = let z : bit b ≡ 0 = ap bit e in omega (arith, come-le n bs)
+come-few (suc n) (b ∷ bs) (suc i) l e = omega (arith, bit-le b, come-few n bs i (omega arith) e)
+
+pub not-full : (n : ℕ) (h : List Bool) (i : ℕ) → i < n → has h i ≡ false → full n h ≡ false
+not-full n h i l e = ne-eqb (come n h) n (λ z. omega (arith, come-few n h i l e))
+
+pub full-has : (n : ℕ) (h : List Bool) → full n h ≡ true → (i : ℕ) → i < n → has h i ≡ true
+full-has n h e i l = on (has h i) (λ t. t) (λ z. absurd (true≢false (sym e ∙ not-full n h i l z)))
+
+has-come : (n : ℕ) (h : List Bool) → ((i : ℕ) → i < n → has h i ≡ true) → come n h ≡ n
+has-come zero h f = refl
+has-come (suc n) h f =
+    let b : bit (has h n) ≡ 1 = ap bit (f n (omega arith)) in
+    omega (arith, come-suc h n, has-come n h (λ i l. f i (omega arith)))
+
+pub has-full : (n : ℕ) (h : List Bool) → ((i : ℕ) → i < n → has h i ≡ true) → full n h ≡ true
+has-full n h f = eq-eqb (come n h) n (has-come n h f)

@@ -1,6 +1,5 @@
 -- SPDX-License-Identifier: MPL-2.0
 pub mod HeardLaws
-pub mod MarkLoop
 pub mod Places
 pub mod Cuts
 pub mod Refusals

@@ -14,15 +14,12 @@ use Rattle.joining.specs.Heard.{most, tally, has}
 use Rattle.joining.specs.Cut.{badSize}
 use Rattle.joining.specs.Join.{badIndex, unlike, isLast, misfit, conflict, joinRefusal, expecting}
 use Rattle.joining.proofs.Cuts.{not-over, filled, remainder, not-empty}
-use Rattle.joining.proofs.Snapshot.{Start, Startable, Lawful, pieceOf, pieceBytes, partHeld, bufferAt}
+use Rattle.joining.proofs.Snapshot.{Start, Startable, pieceOf, pieceBytes, partHeld, bufferAt}
 use Rattle.joining.proofs.SnapshotBuffer.{room, there}
 
-module _ (s : Start) (f : Startable s) (S : List Bool) (w : Lawful s S) (i : ℕ) (l : i < s .count) where
+module _ (s : Start) (f : Startable s) (S : List Bool) (w : length S ≡ most) (i : ℕ) (l : i < s .count) where
   abbrev bytes : List ℕ
   bytes = pieceBytes s i
-
-  abbrev at : ℕ
-  at = s .size * i
 
   sized : badSize (s .size) ≡ false
   sized = rw (ne-eqb (s .size) 0 (λ e. omega (arith, f .cut .pos)), le-ltb 16384 (s .size) (f .small))
@@ -38,48 +35,36 @@ module _ (s : Start) (f : Startable s) (S : List Bool) (w : Lawful s S) (i : ℕ
       on (eqb (tally S) 0) (λ e. simp e)
       (λ e. simp (e, eq-eqb (s .count) (s .count) refl, eq-eqb (s .channel) (s .channel) refl))
 
-  -- A piece that is not the last is F long.
-  full : eqb (i + 1) (s .count) ≡ false → length bytes ≡ s .size
-  full e = filled (s .report) (f .cut) i l (omega (arith, eqb-false (i + 1) (s .count) e))
-
   fits : misfit (s .size) (pieceOf s i) (length bytes) ≡ false
   fits =
       on (eqb (i + 1) (s .count))
       (λ e.
-      rw (e, le-ltb (s .size) (length bytes) (not-over (s .report) (f .cut) i l))
-      (on (ltb 1 (s .count))
+      let o = le-ltb (s .size) (length bytes) (not-over (s .report) (f .cut) i l) in
+      on (ltb 1 (s .count))
       (λ k.
-      let p = not-empty (s .report) (f .cut) i l (eqb-true (i + 1) (s .count) e) (ltb-true 1 (s .count) k) in
-      rw (ne-eqb (length bytes) 0 (λ z. omega arith)))
-      (λ k. rw k (and-false (eqb (length bytes) 0)))))
-      (λ e. rw (e, eq-eqb (length bytes) (s .size) (full e)))
+      let p = not-empty (s .report) (f .cut) i l (omega (arith, eqb-true)) (omega (arith, ltb-true)) in
+      rw (e, o, ne-eqb (length bytes) 0 (λ z. omega arith)))
+      (λ k. rw (e, o, k) (and-false (eqb (length bytes) 0))))
+      (λ e. rw (e, eq-eqb (length bytes) (s .size) (filled (s .report) (f .cut) i l (omega (arith, eqb-false)))))
 
-  -- The length that was taken: the remainder for the last piece, else F.
-  due : has S i ≡ true → eqb (length bytes) (cond (isLast (pieceOf s i)) (partHeld s S .last) (s .size)) ≡ true
-  due h =
+  -- The length that was taken, where the piece is in a set T: the remainder for the last piece, else F.
+  pub due : (T : List Bool) → has T i ≡ true → length bytes ≡ cond (isLast (pieceOf s i)) (partHeld s T .last) (s .size)
+  due T h =
       on (eqb (i + 1) (s .count))
       (λ e.
-      let m : i + 1 ≡ s .count = eqb-true (i + 1) (s .count) e in
-      let p : s .count - 1 ≡ i = omega arith in
-      rw (e, p, h) (eq-eqb (length bytes) (length (s .report) - s .size * i) (remainder (s .report) (f .cut) i l m)))
-      (λ e. rw e (eq-eqb (length bytes) (s .size) (full e)))
+      let p : s .count - 1 ≡ i = omega (arith, eqb-true) in
+      rw (e, p, h) (remainder (s .report) (f .cut) i l (omega (arith, eqb-true))))
+      (λ e. rw e (filled (s .report) (f .cut) i l (omega (arith, eqb-false))))
 
   agreed : conflict (s .size) (partHeld s S) (pieceOf s i) bytes (bufferAt s S) ≡ false
-  agreed = on (has S i) (λ e. rw (e, due e, there s f S w i l e, same-refl bytes)) (λ e. rw e)
+  agreed = on (has S i) (λ e. rw (e, eq-eqb _ _ (due S e), there s f S w i l e, same-refl bytes)) (λ e. rw e)
 
   pub unrefused : joinRefusal (s .size) (partHeld s S) (pieceOf s i) bytes (bufferAt s S) ≡ 0
   unfolding joinRefusal
   unrefused =
-      rw (
-        sized,
-        placed,
-        numbered,
-        le-ltb (s .held .expected) (s .held .expected) (omega arith),
-        like,
-        fits,
-        le-ltb (length (bufferAt s S)) (at + length bytes) (room s f S w i l),
-        agreed,
-      )
+      let here = le-ltb (s .held .expected) (s .held .expected) (omega arith) in
+      let inside = le-ltb (length (bufferAt s S)) (s .size * i + length bytes) (room s f S w i l) in
+      rw (sized, placed, numbered, here, like, fits, inside, agreed)
 
   -- After Complete the row of 17 applies.
   pub late : joinRefusal (s .size) (expecting (s .held .expected + 1)) (pieceOf s i) bytes (bufferAt s S) ≡ 17

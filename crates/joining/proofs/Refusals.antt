@@ -15,34 +15,27 @@ use Rattle.wire.specs.Refusals.{wrongPiece, pastSequence, futureSequence, lastS
 use Rattle.joining.specs.declared.Progress.{Progress}
 use Rattle.joining.specs.declared.Piece.{Piece}
 use Rattle.joining.specs.Heard.{most}
-use Rattle.joining.specs.Join.{isLast, misfit, turnRows, placeRows, repeatRows, joinRefusal, Fitting}
+use Rattle.joining.specs.Join.{isLast, misfit, sequenceRows, placeRows, repeatRows, joinRefusal, Fitting}
 use Rattle.joining.proofs.Cuts.{good-size}
 
 -- The piece is one of the expected message.
-pub record InTurn (F expected : ℕ) (p : Piece) : Type 0 where
-  pub pos : 0 < F
+pub record Expected (F expected : ℕ) (p : Piece) : Type 0 where
   pub small : F ≤ 16384
   pub under : p .index < p .count
   pub few : p .count ≤ most
-  pub sequence : p .sequence ≡ expected
   pub more : expected ≡ 4294967295 → ⊥
 
-pub in-turn : (F expected : ℕ) (p : Piece) → first (turnRows F expected p) ≡ 0 → InTurn F expected p
-in-turn F expected p e =
-    let rows = turnRows F expected p in
-    let at : (n : ℕ) → testOf n rows ≡ false = λ n. row-false n rows refl e in
-    let s = good-size F (at wrongFragmentSize) in
+pub is-expected : (F expected : ℕ) (p : Piece) → first (sequenceRows F expected p) ≡ 0 → Expected F expected p
+is-expected F expected p e =
+    let at : (n : ℕ) → testOf n (sequenceRows F expected p) ≡ false = λ n. row-false n (sequenceRows F expected p) refl e in
     let n = or-false (ltb most (p .count)) (leb (p .count) (p .index)) (at wrongPiece) in
     let past = ltb-false (p .sequence) expected (at pastSequence) in
     let future = ltb-false expected (p .sequence) (at futureSequence) in
-    let q : p .sequence ≡ expected = omega arith in
     record {
-      pos = s .0;
-      small = s .1;
+      small = good-size F (at wrongFragmentSize) .1;
       under = leb-false (p .count) (p .index) (n .1);
       few = ltb-false most (p .count) (n .0);
-      sequence = q;
-      more = λ z. eqb-false (p .sequence) 4294967295 (at lastSequence) (q ∙ z);
+      more = λ z. eqb-false (p .sequence) 4294967295 (at lastSequence) (omega arith);
     }
 
 fit : (F : ℕ) (p : Piece) (size : ℕ) (t : Bool) → isLast p ≡ t → misfit F p size ≡ false → size ≤ F
@@ -53,10 +46,10 @@ pub fitting : (F : ℕ) (h : Progress) (p : Piece) (bytes report : List ℕ) →
     → Fitting F h p (length bytes) × (F * p .index + length bytes ≤ length report)
 unfolding joinRefusal
 fitting F h p bytes report e =
-    let turns = turnRows F (h .expected) p in
+    let sequences = sequenceRows F (h .expected) p in
     let rest = placeRows F h p (length bytes) (length report) ++ repeatRows F h p bytes report in
-    let z = neither (first turns) (first rest) (sym (first-append turns rest refl) ∙ e) in
-    let t = in-turn F (h .expected) p (z .0) in
+    let z = neither (first sequences) (first rest) (sym (first-append sequences rest refl) ∙ e) in
+    let t = is-expected F (h .expected) p (z .0) in
     let at : (n : ℕ) → testOf n rest ≡ false = λ n. row-false n rest refl (z .1) in (
       record {
         small = t .small;

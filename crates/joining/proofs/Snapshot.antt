@@ -2,21 +2,21 @@
 -- What is remembered, and what the report buffer holds, once a set of the pieces of one report has come: they depend on the set and on how
 -- they began, and on nothing else.
 use Prim.Native.Nat.{ℕ, zero, suc, _+_, _-_, _*_, _/_, _≤_, _<_}
-use mathlib.Core.Path.{_≡_, refl, ap, _∙_}
+use mathlib.Core.Path.{_≡_, refl, sym, ap, _∙_}
 use mathlib.Core.List.{List, [], _∷_}
 use mathlib.Core.Bool.{Bool, true, false, cond}
 use native.Mathlib.Omega.{arith}
 use native.Mathlib.Nat.{div-lt-iff-lt-mul}
-use lib.Dec.{eqb, ltb}
-use lib.ListN.{length, getD, take, length-take, length-replicate}
-use lib.Seq.{getD-take, ext-getD}
-use borrow.Author.Tests.{ne-eqb, lt-ltb}
+use lib.Dec.{eqb}
+use lib.ListN.{length, getD, take}
+use lib.Seq.{ext-getD}
+use Rattle.laws.specs.Parts.{part}
+use Rattle.laws.proofs.Lists.{getD-any}
 use Rattle.joining.specs.declared.Progress.{Progress}
 use Rattle.joining.specs.declared.Piece.{Piece}
-use Rattle.joining.specs.Heard.{most, tally, come, has, none}
-use Rattle.joining.specs.Report.{part}
+use Rattle.joining.specs.Heard.{most, tally, has, none}
 use Rattle.joining.specs.Join.{expecting}
-use Rattle.joining.proofs.HeardLaws.{tally-none, come-none, has-none, come-full}
+use Rattle.joining.proofs.HeardLaws.{full, tally-none, has-none, not-full, full-has}
 use Rattle.joining.proofs.Cuts.{Cut}
 
 -- A report, how it was cut, and how what is remembered and the report buffer began.
@@ -43,11 +43,6 @@ pieceOf s i = record { sequence = s .held .expected; channel = s .channel; count
 abbrev pub pieceBytes : Start → ℕ → List ℕ
 pieceBytes s i = part (s .report) (s .size * i) (s .size)
 
--- A set of pieces of this report.
-pub record Lawful (s : Start) (S : List Bool) : Type 0 where
-  pub long : length S ≡ most
-  pub below : (j : ℕ) → s .count ≤ j → has S j ≡ false
-
 abbrev pub lastSize : Start → ℕ
 lastSize s = length (s .report) - s .size * (s .count - 1)
 
@@ -64,12 +59,11 @@ partHeld s S =
 
 -- What is remembered once the pieces of S have come.
 abbrev pub heldAt : Start → List Bool → Progress
-heldAt s S = cond (eqb (come (s .count) S) (s .count)) (expecting (s .held .expected + 1)) (partHeld s S)
+heldAt s S = cond (full (s .count) S) (expecting (s .held .expected + 1)) (partHeld s S)
 
--- The byte at place k: the report's where its piece has come, else what was there.
+-- The byte at place k: the report's where its piece has come, else and past the report what was there.
 abbrev pub byteAt : Start → List Bool → ℕ → ℕ
-byteAt s S k =
-    cond (ltb k (length (s .report))) (cond (has S (k / s .size)) (getD (s .report) k 0) (getD (s .buffer) k 0)) (getD (s .buffer) k 0)
+byteAt s S k = cond (has S (k / s .size)) (getD (s .report) k (getD (s .buffer) k 0)) (getD (s .buffer) k 0)
 
 -- A list by a rule for each place.
 abbrev pub listed : ℕ → (ℕ → ℕ) → List ℕ
@@ -89,40 +83,31 @@ listed-at zero f k l = absurd (omega arith)
 listed-at (suc n) f zero l = refl
 listed-at (suc n) f (suc k) l = listed-at n (λ k. f (suc k)) k (omega arith)
 
-cond-same : (b : Bool) (x : ℕ) → cond b x x ≡ x
-cond-same true x = refl
-cond-same false x = refl
+pub listed-take : (n N : ℕ) (f : ℕ → ℕ) → n ≤ N → take n (listed N f) ≡ listed n f
+listed-take zero N f l = refl
+listed-take (suc n) zero f l = absurd (omega arith)
+listed-take (suc n) (suc N) f l = ap (λ (b : List ℕ). f zero ∷ b) (listed-take n N (λ k. f (suc k)) (omega arith))
 
-held-from : (s : Start) (N : ℕ) → 0 < s .count → s .held .heard ≡ none N → heldAt s (none N) ≡ s .held
-held-from s N p e =
-    rw (come-none (s .count) N, ne-eqb 0 (s .count) (λ z. omega arith), tally-none N, has-none N (s .count - 1), ← e)
+-- A list whose bytes follow the rule.
+pub listed-is : (b : List ℕ) (n : ℕ) (f : ℕ → ℕ) → length b ≡ n → ((k : ℕ) → k < n → getD b k 0 ≡ f k) → b ≡ listed n f
+listed-is b n f e g =
+    ext-getD 0 b (listed n f) (e ∙ sym (listed-length n f)) (λ k l. g k (omega arith) ∙ sym (listed-at n f k (omega arith)))
 
 module _ (s : Start) (f : Startable s) where
-  pub none-lawful : Lawful s (none most)
-  none-lawful = record { long = length-replicate most false; below = λ j h. has-none most j }
-
   -- The empty set: all is as it began.
   pub held-none : heldAt s (none most) ≡ s .held
-  held-none = held-from s most (f .cut .some) (f .fresh)
+  held-none =
+      rw (not-full (s .count) (none most) 0 (f .cut .some) (has-none most 0), tally-none most, has-none most (s .count - 1), ← f .fresh)
 
   pub buffer-none : bufferAt s (none most) ≡ s .buffer
-  buffer-none =
-      let n = listed-length (length (s .buffer)) (byteAt s (none most)) in
-      ext-getD 0 (bufferAt s (none most)) (s .buffer) n
-      (λ k h.
-      listed-at (length (s .buffer)) (byteAt s (none most)) k (rw n at h)
-      ∙ rw (has-none most (k / s .size)) (cond-same (ltb k (length (s .report))) (getD (s .buffer) k 0)))
+  buffer-none = sym (listed-is (s .buffer) (length (s .buffer)) (byteAt s (none most)) refl (λ k l. rw (has-none most (k / s .size))))
 
   -- The full set: the buffer begins with the report.
-  pub whole : (S : List Bool) → come (s .count) S ≡ s .count → take (length (s .report)) (bufferAt s S) ≡ s .report
+  pub whole : (S : List Bool) → full (s .count) S ≡ true → take (length (s .report)) (bufferAt s S) ≡ s .report
   whole S e =
-      let n : length (take (length (s .report)) (bufferAt s S)) ≡ length (s .report) =
-      simp (length-take, listed-length) (omega (arith, f .room)) in
-      ext-getD 0 (take (length (s .report)) (bufferAt s S)) (s .report) n
-      (λ k h.
-      let m : k < length (s .report) = omega arith in
-      let d : k / s .size < s .count =
-      div-lt-iff-lt-mul {k = s .size} {x = k} {y = s .count} (f .cut .pos) .1 (omega (arith, f .cut .enough)) in
-      getD-take (length (s .report)) (bufferAt s S) k 0 m
-      ∙ listed-at (length (s .buffer)) (byteAt s S) k (omega (arith, f .room))
-      ∙ rw (lt-ltb k (length (s .report)) m, come-full (s .count) S e (k / s .size) d))
+      listed-take (length (s .report)) (length (s .buffer)) (byteAt s S) (f .room)
+      ∙ sym
+      (listed-is (s .report) (length (s .report)) (byteAt s S) refl
+      (λ k l.
+      let d = div-lt-iff-lt-mul {k = s .size} {x = k} {y = s .count} (f .cut .pos) .1 (omega (arith, f .cut .enough)) in
+      rw (full-has (s .count) S e (k / s .size) d) (getD-any (s .report) k 0 (getD (s .buffer) k 0) l)))

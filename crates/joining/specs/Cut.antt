@@ -7,9 +7,9 @@ use mathlib.Core.Bool.{Bool, cond, _||_}
 use lib.Dec.{eqb, ltb, leb}
 use lib.ListN.{length}
 use Rattle.laws.specs.Rows.{first}
+use Rattle.laws.specs.Parts.{part}
 use Rattle.wire.specs.Refusals.{wrongFragmentSize, wrongPiece}
 use Rattle.joining.specs.Heard.{most}
-use Rattle.joining.specs.Report.{part}
 
 -- 24: "F outside 1 to 16,384".
 abbrev pub badSize : ℕ → Bool

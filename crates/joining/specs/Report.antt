@@ -1,12 +1,8 @@
 -- SPDX-License-Identifier: MPL-2.0
--- The report buffer: a part of it, and a piece written into it.
+-- The report buffer: a piece written into it.
 use Prim.Native.Nat.{ℕ, _+_}
 use mathlib.Core.List.{List, _++_}
 use lib.ListN.{length, take, drop}
-
--- The n bytes from a place on.
-abbrev pub part : List ℕ → ℕ → ℕ → List ℕ
-part report at n = take n (drop at report)
 
 -- "written into the report buffer from place … on; no other byte changes".
 abbrev pub put : List ℕ → ℕ → List ℕ → List ℕ

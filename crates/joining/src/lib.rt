@@ -10,7 +10,7 @@ ghost use Prim.Native.Nat.{_<_, _≤_, _+_, _*_, _^_};
 ghost use lib.ListN.{length};
 ghost use Rattle.laws.specs.Rows.{first};
 ghost use Rattle.joining.specs.Heard.{come, mark, most, tally};
-ghost use Rattle.joining.specs.Join.{badIndex, unlike, misfit, conflict, turnRows, placeRows, joinRefusal, Fitting};
+ghost use Rattle.joining.specs.Join.{badIndex, unlike, misfit, conflict, sequenceRows, placeRows, joinRefusal, Fitting};
 ghost use Rattle.joining.specs.Join.{join, reportAfter, expecting, taken, isLast};
 ghost use Rattle.joining.specs.Report.{put};
 use heard::PIECES;
@@ -132,8 +132,8 @@ fn conflict(
 }
 
 // The first refusal of a piece that is not one of the expected message, 0 where none applies.
-fn turn(size: usize, expected: u32, piece: Piece) -> u8
-    ensures { λ r. ⌜ r ≡ first (turnRows size expected piece) ⌝ }
+fn sequence_refusal(size: usize, expected: u32, piece: Piece) -> u8
+    ensures { λ r. ⌜ r ≡ first (sequenceRows size expected piece) ⌝ }
 {
     let n = next(0, WRONG_FRAGMENT_SIZE, cut::bad_size(size));
     let n = next(n, WRONG_PIECE, bad_index(piece.count, piece.index));
@@ -174,7 +174,7 @@ fn refusal(
     requires { ⌜ (now heard ≡ held .heard) × (length (now heard) ≡ most) ⌝ }
     ensures { λ r. ⌜ r ≡ joinRefusal size held piece (now (payload .entry)) (now (report .entry)) ⌝ }
 {
-    let n = turn(size, held.expected, piece);
+    let n = sequence_refusal(size, held.expected, piece);
     if n != 0 {
         return n;
     }

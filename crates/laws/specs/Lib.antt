@@ -4,3 +4,4 @@ pub mod Bytes
 pub mod Same
 pub mod Courses
 pub mod Runs
+pub mod Parts

@@ -16,7 +16,7 @@ use Rattle.laws.proofs.ByteLists.{take-bytes, drop-bytes}
 use Rattle.message.specs.Writing.{lengthOf, writeRefusal, messageBytes, writeAnswer, writtenInto}
 use Rattle.message.proofs.WrittenLengths.{length-messageBytes}
 use Rattle.joining.specs.Heard.{most, bit}
-use Rattle.joining.specs.Report.{part}
+use Rattle.laws.specs.Parts.{part}
 use Rattle.joining.specs.Cut.{cutCount}
 use Rattle.joining.proofs.Cuts.{Cuttable, cuttable, not-over}
 use Rattle.promises.specs.Refusals.{AreBytes}

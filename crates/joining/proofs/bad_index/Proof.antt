@@ -5,9 +5,6 @@ use Rattle.wire.specs.Fields.{mostPieces}
 use Rattle.joining.proofs.bad_index.Statement.{statement}
 use Rattle.joining.proofs.bad_index.Tie as tie
 
-returns : tie.Need-returns
-unfolding mostPieces
-returns c = refl
-
 pub bad-index-spec : {M : Type 1} → statement M
-bad-index-spec = tie.close (tie.spec returns)
+unfolding mostPieces
+bad-index-spec = tie.close (tie.spec (λ c. refl))

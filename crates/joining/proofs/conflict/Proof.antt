@@ -1,8 +1,6 @@
 -- SPDX-License-Identifier: MPL-2.0
 -- A piece that was heard must be as long as the one taken and have its bytes.
-use mathlib.Core.Path.{_≡_, sym, ap}
 use mathlib.Core.Bool.{Bool}
-use mathlib.Core.List.{List}
 use native.Mathlib.Nat.{add-sub-cancel-left}
 use borrow.Author.Tests.{eq-eqb, ne-eqb, not-true, not-false}
 use borrow.Author.Needs.{needs}
@@ -11,35 +9,33 @@ use Rattle.wire.specs.Fields.{mostPieces}
 use Rattle.joining.proofs.conflict.Statement.{statement}
 use Rattle.joining.proofs.conflict.Tie as tie
 
--- The index is heard, in what was lent and in what is remembered.
-abbrev heard : tie.Start → Bool
-heard c = has (c .args .heard .now) (c .args .piece .index)
+abbrev entry : tie.After-if12 → tie.Start
+entry c = c .before .before .before
 
-known : (c : tie.Start) → has (c .args .held .heard) (c .args .piece .index) ≡ heard c
-known c = ap (λ (l : List Bool). has l (c .args .piece .index)) (sym (c .pre .0))
-
-element-copy-out-if1 : tie.Need-element-copy-out-if1
-unfolding mostPieces
-element-copy-out-if1 c = search needs
+-- The index is heard, in what was lent: that is what is remembered.
+abbrev heard : tie.After-if12 → Bool
+heard c = let a = entry c .args in has (a .heard .now) (a .piece .index)
 
 returns : tie.Need-returns
-returns c = let s = c .before .before .before .before in rw (known s, not-true (heard s) (c .if1 .taken))
+returns c = let t = c .before in rw (← (entry t .pre .0), not-true (heard t) (c .if1 .taken))
 
 returns-2 : tie.Need-returns-2
 returns-2 c =
-    let i = c .before .before in
-    let s = i .before .before .before .before in
-    rw (known s, not-false (heard s) (i .if1 .left), ← (c .before .due .ensures), ne-eqb _ _ (c .if2 .taken))
+    let d = c .before in
+    let t = d .before .before in
+    rw (← (entry t .pre .0), not-false (heard t) (d .before .if1 .left), ← (d .due .ensures), ne-eqb _ _ (c .if2 .taken))
 
 returns-3 : tie.Need-returns-3
 returns-3 c =
     let l = c .before .before in
-    let i = l .before .before in
-    let s = i .before .before .before .before in
-    rw (known s, not-false (heard s) (i .if1 .left), ← (l .before .due .ensures), eq-eqb _ _ (l .if2 .left), c .alike .ensures, add-sub-cancel-left)
+    let d = l .before in
+    let t = d .before .before in
+    rw (← (entry t .pre .0), not-false (heard t) (d .before .if1 .left), ← (d .due .ensures), eq-eqb _ _ (l .if2 .left))
+    (rw (c .alike .ensures, add-sub-cancel-left))
 
 pub conflict-spec : {M : Type 1} → statement M
+unfolding mostPieces
 conflict-spec =
     tie.close (tie.spec
-    element-copy-out-if1 returns (λ c κs. search needs) returns-2 (λ c. search needs) (λ c. search needs)
+    (λ c. search needs) returns (λ c κs. search needs) returns-2 (λ c. search needs) (λ c. search needs)
     (λ c. search needs) (λ c. search needs) (λ c. search needs) _ returns-3)

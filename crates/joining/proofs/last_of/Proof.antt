@@ -5,11 +5,5 @@ use Rattle.laws.proofs.Tests.{tests}
 use Rattle.joining.proofs.last_of.Statement.{statement}
 use Rattle.joining.proofs.last_of.Tie as tie
 
-returns : tie.Need-returns
-returns c = search tests
-
-returns-2 : tie.Need-returns-2
-returns-2 c = search tests
-
 pub last-of-spec : {M : Type 1} → statement M
-last-of-spec = tie.close (tie.spec (λ c. search needs) (λ c. search needs) returns returns-2)
+last-of-spec = tie.close (tie.spec (λ c. search needs) (λ c. search needs) (λ c. search tests) (λ c. search tests))

@@ -5,11 +5,5 @@ use Rattle.laws.proofs.Tests.{tests}
 use Rattle.joining.proofs.misfit.Statement.{statement}
 use Rattle.joining.proofs.misfit.Tie as tie
 
-returns : tie.Need-returns
-returns c = search tests
-
-returns-2 : tie.Need-returns-2
-returns-2 c = search tests
-
 pub misfit-spec : {M : Type 1} → statement M
-misfit-spec = tie.close (tie.spec (λ c. search needs) returns returns-2)
+misfit-spec = tie.close (tie.spec (λ c. search needs) (λ c. search tests) (λ c. search tests))

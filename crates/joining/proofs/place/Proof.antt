@@ -15,16 +15,9 @@ use Rattle.joining.proofs.place.Tie as tie
 bound : (s : tie.Start) → s .args .size * s .args .piece .index ≤ 16384 * most
 bound s = let p = s .pre .1 in place-bound (s .args .size) (s .args .piece .index) most (p .0) (omega arith)
 
-mul-end : tie.Need-mul-end
-unfolding mostPieces
-mul-end c = omega (arith, bound (c .before))
-
-add-end : tie.Need-add-end
-unfolding mostPieces
-add-end c = omega (arith, bound (c .before))
-
-returns : tie.Need-returns
-returns c = rw (← down-first 0 (placeRows _ _ _ _ _) refl) (cc)
-
 pub place-spec : {M : Type 1} → statement M
-place-spec = tie.close (tie.spec mul-end add-end (λ c κs. search needs) _ (λ c κs. search needs) _ _ returns)
+unfolding mostPieces
+place-spec =
+    tie.close (tie.spec
+    (λ c. omega (arith, bound (c .before))) (λ c. omega (arith, bound (c .before))) (λ c κs. search needs) _ (λ c κs. search needs) _ _
+    (λ c. rw (← down-first 0 (placeRows _ _ _ _ _) refl) (cc)))

@@ -5,9 +5,6 @@ use Rattle.wire.specs.Fields.{mostPieces}
 use Rattle.joining.proofs.Progress.expecting.Statement.{statement}
 use Rattle.joining.proofs.Progress.expecting.Tie as tie
 
-returns : tie.Need-returns
-unfolding mostPieces
-returns c = refl
-
 pub expecting-spec : {M : Type 1} → statement M
-expecting-spec = tie.close (tie.spec returns)
+unfolding mostPieces
+expecting-spec = tie.close (tie.spec (λ c. refl))

@@ -5,71 +5,59 @@ use mathlib.Core.Path.{refl, sym, ap, _∙_}
 use native.Mathlib.Omega.{arith}
 use lib.ListN.{length}
 use borrow.Author.Needs.{needs}
+use borrow.Author.Tests.{eq-eqb, ne-eqb}
 use Rattle.joining.specs.Heard.{tally}
-use Rattle.joining.specs.Join.{Fitting}
+use Rattle.joining.specs.Join.{Fitting, join, reportAfter}
 use Rattle.wire.specs.Fields.{mostPieces}
+use Rattle.joining.proofs.HeardLaws.{mark-known}
 use Rattle.joining.proofs.Refusals.{fitting}
-use Rattle.joining.proofs.JoinWays.{way-refused, way-repeat, way-new}
 use Rattle.joining.proofs.Progress.join.Statement.{statement}
 use Rattle.joining.proofs.Progress.join.Tie as tie
 
-abbrev entry : tie.Else1 → tie.Start
-entry c = c .before .before .before .before .before .before .before
+abbrev entry : tie.After-refusal → tie.Start
+entry c = c .before .before .before .before .before .before
+
+-- Where the index is looked up: the piece was not refused.
+abbrev unrefused : tie.After-struct-known → tie.Else1
+unrefused c = c .before .before .before
 
 -- What no row refuses fits.
-known : (c : tie.Else1) → let s = entry c .args in
-    Fitting (s .size) (s .self) (s .piece) (length (s .payload .now)) ×
-    (s .size * s .piece .index + length (s .payload .now) ≤ length (s .report .now))
-known c =
-    let s = entry c .args in
-    fitting (s .size) (s .self) (s .piece) (s .payload .now) (s .report .now) (sym (c .before .refusal .ensures) ∙ c .if1 .left)
-
-refusal-requires : tie.Need-refusal-requires
-unfolding mostPieces
-refusal-requires c κs = (refl, search needs)
+known : (c : tie.Else1) → let a = entry (c .before) .args in
+    Fitting (a .size) (a .self) (a .piece) (length (a .payload .now)) ×
+    (a .size * a .piece .index + length (a .payload .now) ≤ length (a .report .now))
+known c = fitting _ _ _ _ _ (sym (c .before .refusal .ensures) ∙ c .if1 .left)
 
 returns : tie.Need-returns
-returns c =
-    let s = c .before .before .before .before .before .before .before .args in
-    way-refused (s .size) (s .self) (s .piece) (s .payload .now) (s .report .now) _ (c .before .refusal .ensures) (c .if1 .taken)
-
-mark-requires : tie.Need-mark-requires
-mark-requires c κs = let k = known c .0 in omega (arith, k .under, k .few)
-
-array-read-if2 : tie.Need-array-read-if2
-unfolding mostPieces
-array-read-if2 c = let k = known (c .before .before .before) in let u = k .0 .under in let f = k .0 .few in search needs
+unfolding join reportAfter
+returns c = rw (← (c .before .refusal .ensures), ne-eqb _ _ (c .if1 .taken)) (refl, refl)
 
 returns-2 : tie.Need-returns-2
+unfolding join reportAfter
 returns-2 c =
-    let m = c .before .before .before in
-    let r = m .before in
-    let s = entry r .args in
-    way-repeat (s .size) (s .self) (s .piece) (s .payload .now) (s .report .now) _ (r .before .refusal .ensures) (r .if1 .left)
-    (c .if2 .taken) _ (m .mark .ensures .1)
-
-mul-store : tie.Need-mul-store
-mul-store c = let k = known (c .before .before .before .before .before) in omega (arith, k .1)
-
-store-requires : tie.Need-store-requires
-store-requires c κs = known (c .before .before .before .before .before) .1
+    let r = unrefused (c .before) in
+    let a = entry (r .before) .args in
+    let same = mark-known (a .self .heard) (a .piece .index) (c .if2 .taken) in
+    rw (← (r .before .refusal .ensures), eq-eqb _ _ (r .if1 .left), c .if2 .taken, c .before .before .before .mark .ensures .1, same) (refl, refl)
 
 advance-requires : tie.Need-advance-requires
 advance-requires c κs =
-    let m = c .before .before .before .before .before .before .before in
-    let e = m .mark .ensures in
-    (e .0, e .1 ∙ ap tally (sym (e .0)), known (m .before) .0)
+    let n = c .before .before .before .before .before in
+    let e = n .before .before .mark .ensures in
+    (e .0, e .1 ∙ ap tally (sym (e .0)), known (unrefused n) .0)
 
 returns-3 : tie.Need-returns-3
+unfolding join reportAfter
 returns-3 c =
-    let t = c .before .before .before .before .before in
-    let r = t .before .before .before .before in
-    let s = entry r .args in
-    way-new (s .size) (s .self) (s .piece) (s .payload .now) (s .report .now) _ (r .before .refusal .ensures) (r .if1 .left)
-    (t .if2 .left) _ (c .advance .ensures) _ (c .before .before .before .store .ensures)
+    let s = c .before .before .before in
+    let t = s .before .before in
+    let r = unrefused (t .before) in
+    rw (← (r .before .refusal .ensures), eq-eqb _ _ (r .if1 .left), t .if2 .left) (c .advance .ensures, s .store .ensures)
 
 pub join-spec : {M : Type 1} → statement M
+unfolding mostPieces
 join-spec =
     tie.close (tie.spec
-    refusal-requires (λ c. search needs) returns mark-requires (λ c. search needs) array-read-if2 (λ c. search needs)
-    returns-2 mul-store store-requires advance-requires (λ c. search needs) returns-3)
+    (λ c κs. (refl, search needs)) (λ c. search needs) returns (λ c κs. omega (arith, known c .0)) (λ c. search needs)
+    (λ c. omega (arith, known (unrefused c) .0)) (λ c. search needs) returns-2
+    (λ c. omega (arith, known (unrefused (c .before .before)) .1)) (λ c κs. known (unrefused (c .before .before)) .1)
+    advance-requires (λ c. search needs) returns-3)

@@ -9,13 +9,11 @@ use Rattle.joining.proofs.cut.cut.Tie as tie
 returns : tie.Need-returns
 returns c = (c .before .cut-refusal .ensures, rw (← (c .before .cut-refusal .ensures), ne-eqb _ _ (c .if1 .taken)))
 
-piece-count-requires : tie.Need-piece-count-requires
-piece-count-requires c κs = cuttable _ _ _ (sym (c .before .cut-refusal .ensures) ∙ c .if1 .left) .cut .pos
-
 returns-2 : tie.Need-returns-2
 returns-2 c =
     let r = c .before .before .cut-refusal .ensures in
     (r, rw (← r, eq-eqb _ _ (c .before .if1 .left)) (c .piece-count .ensures))
 
 pub cut-spec : {M : Type 1} → statement M
-cut-spec = tie.close (tie.spec _ returns piece-count-requires returns-2)
+cut-spec =
+    tie.close (tie.spec _ returns (λ c κs. cuttable _ _ _ (sym (c .before .cut-refusal .ensures) ∙ c .if1 .left) .cut .pos) returns-2)

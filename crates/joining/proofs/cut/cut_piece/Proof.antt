@@ -19,18 +19,6 @@ known c = cuttable _ _ _ (sym (c .before .cut-refusal .ensures) ∙ c .if1 .left
 returns : tie.Need-returns
 returns c = rw (← (c .before .before .cut-refusal .ensures), ne-eqb _ _ (c .before .if1 .taken))
 
-mul-start : tie.Need-mul-start
-mul-start c = omega (arith, known c .within)
-
-sub-lesser : tie.Need-sub-lesser
-sub-lesser c = omega (arith, known c .within)
-
-add-end : tie.Need-add-end
-add-end c = omega (arith, known (c .before) .within)
-
-part-result-end-2 : tie.Need-part-result-end-2
-part-result-end-2 c = omega (arith, known (c .before) .within)
-
 returns-2 : tie.Need-returns-2
 returns-2 c =
     let k = c .before .before in
@@ -41,5 +29,6 @@ returns-2 c =
 pub cut-piece-spec : {M : Type 1} → statement M
 cut-piece-spec =
     tie.close (tie.spec
-    _ (λ c. search needs) (λ c. search needs) (λ c. search needs) returns mul-start sub-lesser _ add-end
-    (λ c. search needs) (λ c. search needs) part-result-end-2 returns-2)
+    _ (λ c. search needs) (λ c. search needs) (λ c. search needs) returns (λ c. omega (arith, known c .within)) (λ c. omega (arith, known c .within))
+    _ (λ c. omega (arith, known (c .before) .within)) (λ c. search needs) (λ c. search needs)
+    (λ c. omega (arith, known (c .before) .within)) returns-2)

@@ -15,34 +15,28 @@ use Rattle.joining.proofs.Cuts.{good-size}
 use Rattle.joining.proofs.cut.cut_refusal.Statement.{statement}
 use Rattle.joining.proofs.cut.cut_refusal.Tie as tie
 
-abbrev pieces : tie.Start → List (ℕ × Bool)
-pieces s = pieceRows (s .args .size) (s .args .bytes) (s .args .i)
+abbrev size : tie.After-next → ℕ
+size c = c .before .before .args .size
+
+abbrev pieces : tie.After-next → List (ℕ × Bool)
+pieces c = let a = c .before .before .args in pieceRows (a .size) (a .bytes) (a .i)
 
 -- What the first row answers, and what it leaves.
-sized : (c : tie.After-next) → c .next .result ≡ first (sizeRows (c .before .before .args .size))
-sized c = rw (← down-first 0 (sizeRows (c .before .before .args .size)) refl) (cc)
+sized : (c : tie.After-next) → c .next .result ≡ first (sizeRows (size c))
+sized c = rw (← down-first 0 (sizeRows (size c)) refl) (cc)
 
-good : (c : tie.Else1) → let F = c .before .before .before .args .size in (0 < F) × (F ≤ 16384)
+good : (c : tie.Else1) → (0 < size (c .before)) × (size (c .before) ≤ 16384)
 good c =
-    let F = c .before .before .before .args .size in
+    let F = size (c .before) in
     good-size F (row-false wrongFragmentSize (sizeRows F) refl (sym (sized (c .before)) ∙ c .if1 .left))
 
 returns : tie.Need-returns
 unfolding cutRefusal
-returns c = let s = c .before .before .before in above (sizeRows (s .args .size)) (pieces s) refl (sized (c .before)) (c .if1 .taken)
-
-piece-count-requires : tie.Need-piece-count-requires
-piece-count-requires c κs = good c .0
-
-mul-next : tie.Need-mul-next
-mul-next c = omega (arith, good (c .before) .1)
+returns c = let n = c .before in above (sizeRows (size n)) (pieces n) refl (sized n) (c .if1 .taken)
 
 returns-2 : tie.Need-returns-2
 unfolding cutRefusal mostPieces
-returns-2 c =
-    let at-if1 = c .before .before in
-    let s = at-if1 .before .before .before in
-    below (sizeRows (s .args .size)) (pieces s) refl (sized (at-if1 .before)) refl (cc)
+returns-2 c = let n = c .before .before .before in below (sizeRows (size n)) (pieces n) refl (sized n) refl (cc)
 
 pub cut-refusal-spec : {M : Type 1} → statement M
-cut-refusal-spec = tie.close (tie.spec _ _ returns piece-count-requires mul-next _ returns-2)
+cut-refusal-spec = tie.close (tie.spec _ _ returns (λ c κs. good c .0) (λ c. omega (arith, good (c .before) .1)) _ returns-2)

@@ -8,14 +8,8 @@ use Rattle.laws.proofs.Tests.{tests}
 use Rattle.joining.proofs.cut.piece_count.Statement.{statement}
 use Rattle.joining.proofs.cut.piece_count.Tie as tie
 
-returns : tie.Need-returns
-returns c = search tests
-
 add-result : tie.Need-add-result
 add-result c = omega (arith, div-le-self (c .before .args .bytes - 1) (c .before .args .size))
 
-returns-2 : tie.Need-returns-2
-returns-2 c = search tests
-
 pub piece-count-spec : {M : Type 1} → statement M
-piece-count-spec = tie.close (tie.spec returns (λ c. search needs) (λ c. search needs) add-result returns-2)
+piece-count-spec = tie.close (tie.spec (λ c. search tests) (λ c. search needs) (λ c. search needs) add-result (λ c. search tests))

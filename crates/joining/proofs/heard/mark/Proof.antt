@@ -1,99 +1,80 @@
 -- SPDX-License-Identifier: MPL-2.0
--- Each place is written as it stands with the index marked, and counted.
-use Prim.Native.Nat.{ℕ, _+_, _≤_, _<_, _-_}
-use mathlib.Core.Bool.{Bool, true, _||_}
+-- Up to the index the set is as it was, after it the index is marked; the places passed are counted.
+use Prim.Native.Nat.{ℕ, suc, _+_, _≤_, _<_, _-_}
+use mathlib.Core.Bool.{Bool, false, _||_}
 use mathlib.Core.List.{List}
-use mathlib.Core.Path.{_≡_, refl, sym, ap, _∙_}
+use mathlib.Core.Logic.{⊎-elim}
+use mathlib.Core.Path.{_≡_, refl, ap, _∙_}
 use native.Mathlib.Omega.{arith}
 use native.Mathlib.Numerals.{add-one}
-use mir.Val.{boolByte}
 use lib.Dec.{eqb}
 use lib.ListN.{length, set, length-set}
-use lib.Seq.{take-all}
+use lib.Seq.{getD-set-same, set-getD, take-all, take-set-le}
 use borrow.Author.Needs.{needs}
-use Rattle.joining.specs.Heard.{most, has, mark, come, tally}
+use borrow.Author.Tests.{eq-eqb, ne-eqb}
+use Rattle.laws.proofs.Bools.{or-true, or-none}
+use Rattle.laws.proofs.Order.{lt-or-ge}
+use Rattle.joining.specs.Heard.{most, bit, has, mark, come, tally}
 use Rattle.wire.specs.Fields.{mostPieces}
 use Rattle.joining.proofs.HeardLaws.{come-suc, come-le, bit-byte}
-use Rattle.joining.proofs.MarkLoop.{marking, marking-none, marking-all, marking-at, marking-next}
 use Rattle.joining.proofs.heard.mark.Statement.{statement}
 use Rattle.joining.proofs.heard.mark.Tie as tie
 
+-- Place i is written: at the index x, where t is n, it is marked, else it is as it was.
+module _ (l : List Bool) (x n i t : ℕ) (e : t + x ≡ n + i) where
+  at-other : (i ≡ x → ⊥) → set l i (has l i || eqb t n) ≡ l
+  at-other d = rw (ne-eqb t n (λ z. d (omega arith)), or-none (has l i)) (set-getD l i false)
+
+  at-index : i ≡ x → set l i (has l i || eqb t n) ≡ mark l x
+  at-index d = rw (d, eq-eqb t n (omega arith), or-true (has l x))
+
+-- What is written is counted.
+come-set : (l : List Bool) (i : ℕ) (b : Bool) → i < length l → come (suc i) (set l i b) ≡ come i l + bit b
+come-set l i b h = rw (come-suc (set l i b) i, take-set-le i l i b (omega arith), getD-set-same l i b false h)
+
 abbrev Inv-loop : tie.InvT-loop
 Inv-loop index next₀ turn₀ all₀ i₀ next turn all i =
-    (next ≡ marking next₀ index i) × (all ≡ come i (mark next₀ index)) × (turn + index ≡ most + i) × (i ≤ most)
+    (i ≤ index → next ≡ next₀) × (index < i → next ≡ mark next₀ index) × (all ≡ come i next) × (turn + index ≡ most + i) × (i ≤ most)
+    × (length next ≡ most)
 
 abbrev μ-loop : tie.MeasureT-loop
 μ-loop index next₀ turn₀ all₀ i₀ next turn all i = most - i
 
-sub-turn : tie.Need-sub-turn Inv-loop μ-loop
-unfolding mostPieces
-sub-turn c = search needs
-
-cast-turn : tie.Need-cast-turn Inv-loop μ-loop
-unfolding mostPieces
-cast-turn c = search needs
-
-loop-holds : tie.Need-loop-holds Inv-loop μ-loop
-unfolding mostPieces
-loop-holds c = (sym (marking-none (c .args .heard) (c .args .index)), refl, omega arith, omega arith)
-
-array-read-is-heard : tie.Need-array-read-is-heard Inv-loop μ-loop
-unfolding mostPieces
-array-read-is-heard c = search needs
-
-array-write-next : tie.Need-array-write-next Inv-loop μ-loop
-unfolding mostPieces
-array-write-next c = search needs
-
 add-all : tie.Need-add-all Inv-loop μ-loop
 unfolding mostPieces
 add-all c =
-    let s = c .before in
-    let a = s .before .args in
-    omega (arith, bit-byte (has (s .loop .next) (s .loop .i) || eqb (s .loop .turn) most), come-le (s .loop .i) (mark (a .heard) (a .index)))
-
-add-turn : tie.Need-add-turn Inv-loop μ-loop
-unfolding mostPieces
-add-turn c = omega arith
-
-add-i : tie.Need-add-i Inv-loop μ-loop
-unfolding mostPieces
-add-i c = omega arith
-
-loop-less : tie.Need-loop-less Inv-loop μ-loop
-unfolding mostPieces
-loop-less c = omega arith
+    let s = c .before .loop in
+    omega (arith, bit-byte (has (s .next) (s .i) || eqb (s .turn) most), come-le (s .i) (s .next))
 
 loop-again : tie.Need-loop-again Inv-loop μ-loop
 unfolding mostPieces
 loop-again c =
-    let s = c .before in
-    let h = s .before .args .heard in
-    let x = s .before .args .index in
-    let i = s .loop .i in
-    let l : x < length h = omega arith in
-    let e : (has (s .loop .next) i || eqb (s .loop .turn) most) ≡ has (mark h x) i =
-    ap (λ (n : List Bool). has n i || eqb (s .loop .turn) most) (s .loop .inv .0) ∙ marking-at h x l most i (s .loop .turn) (s .loop .inv .2) in (
-      ap (λ (b : Bool). set (s .loop .next) i b) e ∙ ap (λ (n : List Bool). set n i (has (mark h x) i)) (s .loop .inv .0) ∙ marking-next h x l i,
-      ap (λ (b : Bool). s .loop .all + boolByte b) e
-          ∙ rw (add-one i) (omega (arith, come-suc (mark h x) i, bit-byte (has (mark h x) i))),
+    let s = c .before .loop in
+    let x = c .before .before .args .index in
+    let b = has (s .next) (s .i) || eqb (s .turn) most in
+    let other = at-other (s .next) x most (s .i) (s .turn) (omega arith) in (
+      λ h. other (λ e. omega arith) ∙ s .inv .0 (omega arith),
+      λ h.
+          ⊎-elim (λ g. other (λ e. omega arith) ∙ s .inv .1 g)
+          (λ g. at-index (s .next) x most (s .i) (s .turn) (omega arith) (omega arith) ∙ ap (λ (l : List Bool). mark l x) (s .inv .0 g))
+          (lt-or-ge x (s .i)),
+      rw (add-one (s .i)) (omega (arith, come-set (s .next) (s .i) b (omega arith), bit-byte b)),
       omega arith,
       omega arith,
+      omega (arith, length-set (s .next) (s .i) b),
     )
 
 returns : tie.Need-returns Inv-loop μ-loop
 unfolding mostPieces
 returns c =
-    let s = c .before in
-    let h = s .before .args .heard in
-    let x = s .before .args .index in
-    let e : s .loop .i ≡ most = omega arith in (
-      s .loop .inv .0 ∙ ap (λ (k : ℕ). marking h x k) e ∙ marking-all h x most (omega arith),
-      s .loop .inv .1 ∙ ap (λ (k : ℕ). come k (mark h x)) e ∙ ap tally (take-all most (mark h x) (omega (arith, length-set h x true))),
-    )
+    let s = c .before .loop in
+    let e : s .next ≡ mark (c .before .before .args .heard) (c .before .before .args .index) = s .inv .1 (omega arith) in
+    (e, s .inv .2 ∙ ap tally (take-all (s .i) (s .next) (omega arith) ∙ e))
 
 pub mark-spec : {M : Type 1} → statement M
+unfolding mostPieces
 mark-spec =
     tie.close (tie.spec
-    Inv-loop μ-loop sub-turn cast-turn loop-holds array-read-is-heard (λ c. search needs) array-write-next
-    (λ c. search needs) add-all add-turn add-i loop-less loop-again returns)
+    Inv-loop μ-loop (λ c. search needs) (λ c. search needs) (λ c. (λ h. refl, λ h. absurd (omega arith), refl, omega arith, omega arith, omega arith))
+    (λ c. search needs) (λ c. search needs) (λ c. search needs) (λ c. search needs) add-all (λ c. omega arith) (λ c. omega arith) (λ c. omega arith)
+    loop-again returns)
