@@ -21,7 +21,7 @@ use Rattle.aes.proofs.Chain.{cbcEncrypt-length}
 use Rattle.seal.specs.Keys.{encryptionKey, tagKey, vectorBlock, vector, tagOf}
 use Rattle.seal.specs.Padding.{sealedSize, plainText}
 use Rattle.seal.specs.Sealed.{sealedBody, sealedMessage, sealRows, sealRefusal, sealedInto}
-use Rattle.seal.proofs.Padded.{sealedSize-blocks, length-plainText}
+use Rattle.seal.proofs.Padded.{sizes, plainText-blocks, length-plainText}
 
 -- The vector looks at the header alone.
 pub vector-front : (keys m : List ℕ) (n : ℕ) → 40 ≤ n → vector keys (take n m) ≡ vector keys m
@@ -37,7 +37,7 @@ vector-front keys m n h =
 pub length-sealed : (keys : List (List ℕ)) (v payload : List ℕ) → length (cbcEncrypt keys v (plainText payload)) ≡ sealedSize (length payload)
 length-sealed keys v payload =
     let l = length-plainText payload in
-    cbcEncrypt-length keys v (plainText payload) (rw l (sealedSize-blocks (length payload) .0)) ∙ l
+    cbcEncrypt-length keys v (plainText payload) (plainText-blocks payload) ∙ l
 
 -- The plain text in its room, encrypted where it stands.
 pub encrypted : (keys first payload room after key : List ℕ) {plain : List ℕ} {ks : List (List ℕ)} → length room ≡ sealedSize (length payload)
@@ -45,7 +45,7 @@ pub encrypted : (keys first payload room after key : List ℕ) {plain : List ℕ
     → after ≡ cond (eqb (length plain % 16) 0) (cbcEncrypt ks first plain) plain
     → after ≡ cbcEncrypt (expandKey (encryptionKey keys)) first (plainText payload)
 encrypted keys first payload room after key fits p k x e =
-    let l : length (plainText payload) % 16 ≡ 0 = rw length-plainText (sealedSize-blocks (length payload) .0) in
+    let l : length (plainText payload) % 16 ≡ 0 = plainText-blocks payload in
     e ∙ rw (p, eq-eqb (length (plainText payload) % 16) 0 l, x, k)
 
 -- A tag has 32 bytes.

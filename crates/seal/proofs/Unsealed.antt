@@ -20,7 +20,7 @@ use Rattle.seal.specs.Padding.{padding, sealedSize, paddingBytes, plainT
 use Rattle.seal.specs.Opening.{bodyOf, tagIn, sealedPart, plainOf, noPart, partRefusal, openRefusal}
 use Rattle.seal.specs.Sealed.{sealedBody, sealedMessage}
 use Rattle.laws.proofs.ByteLists.{AllBytes, append-bytes, take-bytes, drop-bytes, replicate-bytes, bytesAt-bytes, bytes32-bytes}
-use Rattle.seal.proofs.Padded.{padding-le, sealedSize-blocks, length-plainText, plainText-accepted}
+use Rattle.seal.proofs.Padded.{padding-le, sizes, length-plainText, plainText-accepted}
 use Rattle.seal.proofs.Seals.{vector-front, length-sealed, length-tag}
 
 -- The parts of a sealed message, each found again where it was put.
@@ -97,7 +97,7 @@ plain-bytes payload small w =
 
 plain-blocks : (payload : List ℕ) → length payload < 4294967296 → AllBytes payload → Blocks (sealedSize (length payload) / 16) (plainText payload)
 plain-blocks payload small w =
-    let b = sealedSize-blocks (length payload) in
+    let b = sizes (length payload) in
     record { len = rw length-plainText (omega arith); bytes = λ i k. plain-bytes payload small w .at i }
 
 module _ (keys before payload : List ℕ) (whole : length keys ≡ 64) (long : 42 ≤ length before)
@@ -123,7 +123,7 @@ module _ (keys before payload : List ℕ) (whole : length keys ≡ 64) (long : 4
   opens-back room fits =
       let m = sealedMessage keys before payload in
       let n = length-sealedMessage keys before payload in
-      let b = sealedSize-blocks (length payload) in
+      let b = sizes (length payload) in
       let s : length (sealedPart m (length before)) ≡ sealedSize (length payload) =
       ap length (part-back keys before payload) ∙ length-sealed (expandKey (encryptionKey keys)) (vector keys before) payload in
       let blocks : (length m - 32 - length before) % 16 ≡ 0 = omega arith in
