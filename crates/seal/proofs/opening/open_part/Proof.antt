@@ -1,7 +1,7 @@
 -- SPDX-License-Identifier: MPL-2.0
 -- Keys and vector are the definition's, so what is judged and written is the opened sealed part.
 use mathlib.Core.Path.{_≡_, refl, sym, _∙_}
-use borrow.Author.Tests.{lt-ltb, le-ltb, le-leb, eq-eqb}
+use borrow.Author.Tests.{lt-ltb, le-ltb, le-leb}
 use Rattle.aes.specs.Cbc.{cbcDecrypt}
 use Rattle.aes.proofs.Chain.{cbcDecrypt-length}
 use Rattle.seal.specs.Opening.{plainOf, partRefusal, partInto, intoUnless}
@@ -45,7 +45,7 @@ returns-3 c =
     let rule = sym (judged .bad-part .ensures) ∙ at-if2 .if2 .left in (
       rw (le-ltb _ _ room, plain judged, rule),
       at-decrypt .cbc-decrypt .ensures .1
-          ∙ rw (le-ltb _ _ room, plain judged, rule, eq-eqb _ 0 blocks, le-leb _ _ room, cbcDecrypt-length _ _ _ blocks),
+          ∙ rw (le-ltb _ _ room, plain judged, rule, blocks, le-leb _ _ room, cbcDecrypt-length _ _ _ blocks),
     )
 
 pub open-part-spec : {M : Type 1} → statement M
