@@ -6,7 +6,7 @@ use mathlib.Core.List.{List, _++_, append-assoc}
 use mathlib.Core.Bool.{false}
 use native.Mathlib.Omega.{arith}
 use borrow.Rule.Slice.PartMut.{putMid, post-is}
-use borrow.Author.Tests.{ne-eqb, ltb-false, eqb-true, not-false}
+use borrow.Author.Tests.{ne-eqb, le-ltb, ltb-false, eqb-true, not-false}
 use lib.ListN.{length, take, drop, length-append}
 use lib.Seq.{sets, length-take-le, take-at}
 use Rattle.laws.specs.Rows.{testOf}
@@ -72,6 +72,16 @@ fit keys start size room e =
       small = omega arith;
       roomy = ltb-false room (start + sealedSize size + 32) (at noRoom);
     }
+
+pub fit-allowed : (keys start size room : ℕ) → Fit keys start size room → sealRefusal keys start size room ≡ 0
+unfolding sealRefusal
+fit-allowed keys start size room f =
+    rw (
+      le-ltb start 42 (f .behind),
+      le-ltb 65503 (start + sealedSize size) (f .short),
+      f .keys64,
+      le-ltb room (start + sealedSize size + 32) (f .roomy),
+    )
 
 pub refused-into : (keys payload out : List ℕ) (start n : ℕ) → (n ≡ 0 → ⊥) → n ≡ sealRefusal (length keys) start (length payload) (length out)
     → out ≡ sealedInto keys start payload out

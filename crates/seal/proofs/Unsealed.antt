@@ -49,7 +49,7 @@ module _ (keys before payload : List ℕ) where
   unfolding sealedMessage sealedBody
   in-parts = append-assoc before sealed (tagOf keys body)
 
-  pub length-part : length sealed ≡ sealedSize (length payload)
+  pub length-part : length (cbcEncrypt (expandKey (encryptionKey keys)) (vector keys before) (plainText payload)) ≡ sealedSize (length payload)
   length-part = length-sealed (expandKey (encryptionKey keys)) (vector keys before) payload
 
   pub part-back : sealedPart (sealedMessage keys before payload) (length before) ≡ sealed
