@@ -31,16 +31,6 @@ pub sizes : (p : ℕ) → Sizes p
 unfolding sealedSize padding
 sizes p = omega arith
 
--- What the judge of two blocks computes is `badBlocks`.
-pub blocks-judged : (size told count whole : ℕ) (front end : List ℕ) (differs : Bool)
-    → told ≡ be32 front 0 → count ≡ padding told → whole ≡ sealedSize told
-    → differs ≡ not (same (drop (16 - count) end) (replicate (16 - (16 - count)) count))
-    → not (eqb size whole) || differs ≡ badBlocks size front end
-unfolding badBlocks paddingBytes
-blocks-judged size told count whole front end differs t p w d =
-    let k : 16 - (16 - padding told) ≡ padding told = omega (arith, padding-le told) in
-    rw (d, p, k, w, t)
-
 pub length-plainText : (payload : List ℕ) → length (plainText payload) ≡ sealedSize (length payload)
 unfolding plainText sealedSize paddingBytes
 length-plainText payload = simp (length-append, length-replicate) (omega arith)

@@ -83,10 +83,10 @@ fit-allowed keys start size room f =
       le-ltb room (start + sealedSize size + 32) (f .roomy),
     )
 
-pub refused-into : (keys payload out : List ℕ) (start n : ℕ) → (n ≡ 0 → ⊥) → n ≡ sealRefusal (length keys) start (length payload) (length out)
-    → out ≡ sealedInto keys start payload out
+pub refused-into : (keys payload out : List ℕ) (start : ℕ) {n : ℕ} → (n ≡ 0 → ⊥) → n ≡ sealRefusal (length keys) start (length payload) (length out)
+    → (n ≡ sealRefusal (length keys) start (length payload) (length out)) × (out ≡ sealedInto keys start payload out)
 unfolding sealedInto
-refused-into keys payload out start n h e = rw (← e, ne-eqb n 0 h)
+refused-into keys payload out start {n} h e = rw (← e, ne-eqb n 0 h) (refl, refl)
 
 -- The length of a message up to its tag.
 pub length-body : (keys before payload : List ℕ) → length (sealedBody keys before payload) ≡ length before + sealedSize (length payload)

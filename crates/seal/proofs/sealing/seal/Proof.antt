@@ -23,11 +23,6 @@ allowed c = sym (c .before .refused .ensures) ∙ c .if1 .left
 fits : (c : tie.Else1) → let a = entry c .args in Fit (length (a .keys .now)) (a .start) (length (a .payload .now)) (length (a .out .now))
 fits c = fit _ _ _ _ (allowed c)
 
-returns : tie.Need-returns
-returns c =
-    let e = c .before .refused .ensures in
-    (e, refused-into _ _ _ _ _ (c .if1 .taken) e)
-
 add-end : tie.Need-add-end
 add-end c = let f = fits (c .before) in rw (c .sealed-size .ensures) (omega arith)
 
@@ -68,6 +63,6 @@ returns-2 c =
 pub seal-spec : {M : Type 1} → statement M
 seal-spec =
     tie.close (tie.spec
-    _ returns (λ c. let f = fits c in omega arith) _ add-end (λ c κs. let f = fits (c .before .before) in omega arith)
-    (λ c. search needs) (λ c. search needs) part-encrypt-part-end
+    _ (λ c. refused-into _ _ _ _ (c .if1 .taken) (c .before .refused .ensures)) (λ c. let f = fits c in omega arith) _ add-end
+    (λ c κs. let f = fits (c .before .before) in omega arith) (λ c. search needs) (λ c. search needs) part-encrypt-part-end
     encrypt-part-requires put-tag-requires (λ c. search needs) returns-2)
