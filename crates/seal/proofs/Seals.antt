@@ -94,14 +94,11 @@ unfolding sealedBody
 length-body keys before payload = rw (length-append, length-sealed)
 
 -- The output step by step: the part is encrypted where it stands, and the tag put after it.
-module _ (keys payload out : List ℕ) (start end : ℕ) (allowed : sealRefusal (length keys) start (length payload) (length out) ≡ 0)
+module _ (keys payload out : List ℕ) (start end : ℕ) (f : Fit (length keys) start (length payload) (length out))
     (ends : end ≡ start + sealedSize (length payload)) (v part tagged : List ℕ)
     (first : v ≡ vector keys out)
     (sealed : part ≡ cbcEncrypt (expandKey (encryptionKey keys)) v (plainText payload))
     (behind : tagged ≡ sets (putMid start (end - start) out part) end (tagOf keys (take end (putMid start (end - start) out part)))) where
-  f : Fit (length keys) start (length payload) (length out)
-  f = fit (length keys) start (length payload) (length out) allowed
-
   abbrev written : List ℕ
   written = putMid start (end - start) out part
 
@@ -109,12 +106,12 @@ module _ (keys payload out : List ℕ) (start end : ℕ) (allowed : sealRefusal 
   body = sealedBody keys (take start out) payload
 
   body-long : length body ≡ end
-  body-long = rw (length-body, length-take-le start out (omega (arith, f .roomy)), ends)
+  body-long = rw (length-body, length-take-le start out (omega arith), ends)
 
   written-is : written ≡ body ++ drop end out
   unfolding sealedBody
   written-is =
-      rw (vector-front keys out start (omega (arith, f .behind)), ← first, ← sealed, post-is start end out (omega arith))
+      rw (vector-front keys out start (omega arith), ← first, ← sealed, post-is start end out (omega arith))
       (sym (append-assoc (take start out) part (drop end out)))
 
   pub sealed-into : tagged ≡ sealedInto keys start payload out
@@ -122,5 +119,5 @@ module _ (keys payload out : List ℕ) (start end : ℕ) (allowed : sealRefusal 
   sealed-into =
       let front : take end written ≡ body = rw written-is (take-at body (drop end out) end body-long) in
       let t = length-tag keys body in
-      put-after body (tagOf keys body) out end body-long (omega (arith, f .roomy)) written-is (rw front at behind)
-      ∙ rw (allowed, t, ends)
+      put-after body (tagOf keys body) out end body-long (omega arith) written-is (rw front at behind)
+      ∙ rw (fit-allowed _ _ _ _ f, t, ends)

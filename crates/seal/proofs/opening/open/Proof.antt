@@ -46,15 +46,6 @@ returns-2 c =
     let s = start (c .before .before .before) in
     refused _ _ _ _ (c .if2 .taken) (above (early s ++ tags s) (late s) refl (tagged (c .before)) (c .if2 .taken))
 
-sub-end : tie.Need-sub-end
-sub-end c = let p = known (c .before .before .before) in omega arith
-
-sub-open-part : tie.Need-sub-open-part
-sub-open-part c = let p = known (c .before .before .before) in omega arith
-
-part-open-part-start : tie.Need-part-open-part-start
-part-open-part-start c = let p = known (c .before .before .before) in omega arith
-
 open-part-requires : tie.Need-open-part-requires
 unfolding sealedPart
 open-part-requires c κs =
@@ -75,5 +66,6 @@ returns-3 c =
 pub open-spec : {M : Type 1} → statement M
 open-spec =
     tie.close (tie.spec
-    _ returns (λ c κs. let p = known c in omega arith) _ returns-2 sub-end sub-open-part part-open-part-start (λ c. search needs) open-part-requires
-    (λ c. search needs) returns-3)
+    _ returns (λ c κs. let p = known c in omega arith) _ returns-2 (λ c. let p = known (c .before .before .before) in omega arith)
+    (λ c. let p = known (c .before .before .before) in omega arith) (λ c. let p = known (c .before .before .before) in omega arith)
+    (λ c. search needs) open-part-requires (λ c. search needs) returns-3)

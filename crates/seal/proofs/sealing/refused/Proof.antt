@@ -5,7 +5,6 @@ use mathlib.Core.Bool.{Bool}
 use mathlib.Core.List.{List}
 use mathlib.Core.Path.{refl, sym, _∙_}
 use native.Mathlib.Omega.{arith}
-use borrow.Author.Needs.{needs}
 use borrow.Author.Tests.{ltb-false}
 use Rattle.laws.proofs.Firsts.{row-false}
 use Rattle.laws.proofs.Nexts.{above, below}
@@ -30,15 +29,6 @@ returns : tie.Need-returns
 unfolding sealRefusal
 returns c = let s = c .before .before in above (lengths s) (rooms s) refl (c .before .unsealable .ensures) (c .if1 .taken)
 
-cast-sealed-size : tie.Need-cast-sealed-size
-cast-sealed-size c = let s = sizes (c .before .before .args .size) in omega (arith, short c)
-
-add-end : tie.Need-add-end
-add-end c = rw (c .sealed-size .ensures) (omega (arith, short (c .before)))
-
-add-next : tie.Need-add-next
-add-next c = rw (c .sealed-size .ensures) (omega (arith, short (c .before)))
-
 returns-2 : tie.Need-returns-2
 unfolding sealRefusal
 returns-2 c =
@@ -47,4 +37,7 @@ returns-2 c =
     below (lengths s) (rooms s) refl (at-if1 .before .unsealable .ensures) refl (cc)
 
 pub refused-spec : {M : Type 1} → statement M
-refused-spec = tie.close (tie.spec _ returns cast-sealed-size _ add-end add-next _ returns-2)
+refused-spec =
+    tie.close (tie.spec
+    _ returns (λ c. let s = sizes (c .before .before .args .size) in omega (arith, short c)) _ (λ c. omega (arith, short (c .before)))
+    (λ c. omega (arith, short (c .before))) _ returns-2)

@@ -23,15 +23,6 @@ allowed c = sym (c .before .refused .ensures) ∙ c .if1 .left
 fits : (c : tie.Else1) → let a = entry c .args in Fit (length (a .keys .now)) (a .start) (length (a .payload .now)) (length (a .out .now))
 fits c = fit _ _ _ _ (allowed c)
 
-add-end : tie.Need-add-end
-add-end c = let f = fits (c .before) in rw (c .sealed-size .ensures) (omega arith)
-
-part-encrypt-part-end : tie.Need-part-encrypt-part-end
-part-encrypt-part-end c =
-    let at-sealed-size = c .before .before in
-    let f = fits (at-sealed-size .before) in
-    rw (at-sealed-size .sealed-size .ensures) (omega arith)
-
 encrypt-part-requires : tie.Need-encrypt-part-requires
 encrypt-part-requires c κs =
     let at-sealed-size = c .before .before .before in
@@ -41,13 +32,6 @@ encrypt-part-requires c κs =
     let room = mid-len (a .start) (a .start + at-sealed-size .sealed-size .result) (a .out .now) (omega arith) in
     (f .keys64, (omega arith, room ∙ omega arith))
 
-put-tag-requires : tie.Need-put-tag-requires
-put-tag-requires c κs =
-    let at-sealed-size = c .before .before .before .before .before .before .before in
-    let f = fits (at-sealed-size .before) in
-    let e = at-sealed-size .sealed-size .ensures in
-    (f .keys64, omega arith, omega arith, omega arith)
-
 returns-2 : tie.Need-returns-2
 returns-2 c =
     let at-put-tag = c .before .before in
@@ -56,13 +40,14 @@ returns-2 c =
     let at-sealed-size = at-vector .before .before in
     let at-if1 = at-sealed-size .before in (
       sym (allowed at-if1),
-      sealed-into _ _ _ _ _ (allowed at-if1) (ap (λ (n : ℕ). entry at-if1 .args .start + n) (at-sealed-size .sealed-size .ensures)) _ _ _
+      sealed-into _ _ _ _ _ (fits at-if1) (ap (λ (n : ℕ). entry at-if1 .args .start + n) (at-sealed-size .sealed-size .ensures)) _ _ _
           (at-vector .vector .ensures) (at-encrypt-part .encrypt-part .ensures) (at-put-tag .put-tag .ensures),
     )
 
 pub seal-spec : {M : Type 1} → statement M
 seal-spec =
     tie.close (tie.spec
-    _ (λ c. refused-into _ _ _ _ (c .if1 .taken) (c .before .refused .ensures)) (λ c. let f = fits c in omega arith) _ add-end
-    (λ c κs. let f = fits (c .before .before) in omega arith) (λ c. search needs) (λ c. search needs) part-encrypt-part-end
-    encrypt-part-requires put-tag-requires (λ c. search needs) returns-2)
+    _ (λ c. refused-into _ _ _ _ (c .if1 .taken) (c .before .refused .ensures)) (λ c. let f = fits c in omega arith) _
+    (λ c. let f = fits (c .before) in omega arith) (λ c κs. let f = fits (c .before .before) in omega arith)
+    (λ c. search needs) (λ c. search needs) (λ c. let f = fits (c .before .before .before) in omega arith) encrypt-part-requires
+    (λ c κs. let f = fits (c .before .before .before .before .before .before .before .before) in omega arith) (λ c. search needs) returns-2)
