@@ -64,14 +64,6 @@ module _ (p : List ℕ) where
   unfolding exchanges
   exchange-size e = on (eqb (length p) 86) (eqb-true (length p) 86) (λ t. absurd (true≢false (sym (rw t at e))))
 
-  presence-short : isPresenceRequest p ≡ true → length p ≤ 16384
-  unfolding isPresenceRequest
-  presence-short e = omega (arith, eqb-true (length p) 1 (and-true (eqb (length p) 1) _ e .0))
-
-  request-short : isConnectionRequest p ≡ true → length p ≤ 16384
-  unfolding isConnectionRequest
-  request-short e = omega (arith, exchange-size (and-true (starts 0 p && eqb (be8 p 3) 0) _ e .1))
-
   response-short : isConnectionResponse p ≡ true → length p ≤ 16384
   unfolding isConnectionResponse
   response-short e =
@@ -90,18 +82,19 @@ module _ (p : List ℕ) where
       let d = and-true (starts connect p && leb 1 c) _ (b .0) in
       omega (arith, eqb-true (length p) (7 + c + t) (a .1), leb-true t 512 (b .1), leb-true c 2048 (d .1))
 
-  done-request-short : isDoneRequest p ≡ true → length p ≤ 16384
-  unfolding isDoneRequest
-  done-request-short e = omega (arith, eqb-true (length p) 3 (and-true (starts 6 p) _ e .1))
-
-  done-response-short : isDoneResponse p ≡ true → length p ≤ 16384
-  unfolding isDoneResponse
-  done-response-short e = omega (arith, eqb-true (length p) 4 (and-true (starts 7 p && leb (be8 p 3) 4) _ e .1))
-
   -- Whatever has one of some shapes is short, if each of them is.
   abbrev Short : List (ℕ × Bool × (List ℕ → Bool)) → Type 0
   Short [] = Unit
   Short (row ∷ rows) = ((row .2) p ≡ true → length p ≤ 16384) × Short rows
+
+  each-short : Short shapes
+  unfolding isPresenceRequest isConnectionRequest isDoneRequest isDoneResponse
+  each-short =
+      (λ e. omega (arith, eqb-true (length p) 1 (and-true (eqb (length p) 1) _ e .0)),
+      (λ e. omega (arith, exchange-size (and-true (starts 0 p && eqb (be8 p 3) 0) _ e .1)),
+      (response-short, (device-short 2, (device-short 3,
+      (λ e. omega (arith, eqb-true (length p) 3 (and-true (starts 6 p) _ e .1)),
+      (λ e. omega (arith, eqb-true (length p) 4 (and-true (starts 7 p && leb (be8 p 3) 4) _ e .1)), tt)))))))
 
   shape-short : (kind : ℕ) (sealed : Bool) (rows : List (ℕ × Bool × (List ℕ → Bool))) → Short rows → hasShape kind sealed p rows ≡ true
       → length p ≤ 16384
@@ -115,10 +108,7 @@ module _ (p : List ℕ) where
   unfolding badType badPayload isShaped
   payload-short kind sealed k b e =
       on (eqb kind 1 || eqb kind 2)
-      (λ t.
-      shape-short kind sealed shapes
-      (presence-short, (request-short, (response-short, (device-short 2, (device-short 3, (done-request-short, (done-response-short, tt)))))))
-      (not-false _ (rw t at b)))
+      (λ t. shape-short kind sealed shapes each-short (not-false _ (rw t at b)))
       (λ t.
       let other = or-false (eqb kind 1) _ t in
       ltb-false 16384 (length p) (and-false-right (eqb kind 4) _ e (not-false _ (rw (other .0, other .1) at k))))

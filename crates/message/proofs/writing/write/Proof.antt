@@ -32,15 +32,6 @@ whole c =
     c .finished-length .ensures
     ∙ ap (λ (sealed : Bool). finishedLength sealed (length (s .chain .now)) (length (s .payload .now))) (c .before .is-sealed .ensures)
 
-finished-length-requires : tie.Need-finished-length-requires
-finished-length-requires c κs = let b = known (c .before) in (b .chained, b .sized)
-
-cast-put-front : tie.Need-cast-put-front
-cast-put-front c = let b = known (c .before .before) in omega (arith, whole c)
-
-put-front-requires : tie.Need-put-front-requires
-put-front-requires c κs = let b = known (c .before .before .before) in omega arith
-
 returns-2 : tie.Need-returns-2
 returns-2 c =
     let at-if = c .before .before .before .before in
@@ -64,5 +55,7 @@ returns-3 c =
 pub write-spec : {M : Type 1} → statement M
 write-spec =
     tie.close (tie.spec
-    _ (λ c. refused _ _ _ _ _ (c .if1 .taken) (c .before .refused .ensures)) _ finished-length-requires (λ c. search needs)
-    cast-put-front put-front-requires _ (λ c. search needs) returns-2 _ (λ c. search needs) returns-3)
+    _ (λ c. refused _ _ _ _ _ (c .if1 .taken) (c .before .refused .ensures)) _
+    (λ c κs. let b = known (c .before) in omega arith) (λ c. search needs)
+    (λ c. let b = known (c .before .before) in omega (arith, whole c)) (λ c κs. let b = known (c .before .before .before) in omega arith) _
+    (λ c. search needs) returns-2 _ (λ c. search needs) returns-3)
