@@ -1,16 +1,16 @@
 -- SPDX-License-Identifier: MPL-2.0
 -- A chain that the writer accepts has at most 8 × 257 + 2 bytes, and a payload at most 16,384.
 use Prim.Native.Nat.{ℕ, zero, suc, _+_, _*_, _≤_}
-use mathlib.Core.Path.{_≡_, refl, sym}
-use mathlib.Core.Logic.{_⊎_, inl, inr, ⊎-elim}
+use mathlib.Core.Path.{_≡_, sym}
 use mathlib.Core.List.{List, [], _∷_}
 use mathlib.Core.Bool.{Bool, true, false, cond, not, _&&_, _||_, true≢false}
 use native.Mathlib.Omega.{arith}
-use borrow.Author.Tests.{ltb-false, leb-true, eqb-true, eq-eqb, not-false}
+use borrow.Author.Tests.{ltb-false, leb-true, eqb-true, not-false}
 use lib.ListN.{length, drop, length-drop}
 use lib.Dec.{ltb, leb, eqb}
-use Rattle.laws.specs.Bytes.{be8, be16, be32}
-use Rattle.laws.proofs.Bools.{or-false, and-true, and-false-right}
+use Rattle.laws.specs.Bytes.{be8, be16}
+use Rattle.laws.proofs.Bools.{or-false, or-none, and-true, and-false-right}
+use Rattle.laws.proofs.Cases.{on}
 use Rattle.wire.specs.Fields.{badType}
 use Rattle.wire.specs.Chain.{entryOf, follow, chain, readChain, mostEntries, leaves, isBroken, badChain}
 use Rattle.wire.specs.Payload.{starts, exchanges, isPresenceRequest, isConnectionRequest, isConnectionResponse, isDeviceAuthentication}
@@ -19,7 +19,6 @@ use Rattle.wire.specs.declared.chain.Chain.{Chain}
 use Rattle.wire.specs.declared.chain.Entry.{Entry}
 use Rattle.wire.specs.declared.chain.Chain.the-variants.{Broken}
 use Rattle.wire.specs.declared.chain.Entry.the-variants.{End, Spans, Wrong}
-use Rattle.wire.proofs.Sound.{kinds}
 use Rattle.laws.proofs.ByteLists.{AllBytes, drop-bytes}
 
 -- An entry that spans bytes of a chain spans at most 257.
@@ -28,18 +27,16 @@ spansFew End = Unit
 spansFew (Spans n) = n ≤ 257
 spansFew Wrong = Unit
 
-few : (m : List ℕ) (a b c d e : Bool) → AllBytes m
-    → spansFew (cond a Wrong (cond b (cond c End Wrong) (cond d Wrong (cond e Wrong (Spans (2 + be8 m 1))))))
-few m true b c d e w = tt
-few m false true true d e w = tt
-few m false true false d e w = tt
-few m false false c true e w = tt
-few m false false c false true w = tt
-few m false false c false false w = omega (arith, w .at 1)
+either : (t : Bool) (x y : Entry) → spansFew x → spansFew y → spansFew (cond t x y)
+either true x y p q = p
+either false x y p q = q
 
 entry-few : (m : List ℕ) → AllBytes m → spansFew (entryOf m)
 unfolding entryOf
-entry-few m w = few m (ltb (length m) 2) (eqb (be8 m 0) 0) (eqb (be8 m 1) 0) (ltb 3 (be8 m 0)) (ltb (length m) (2 + be8 m 1)) w
+entry-few m w =
+    either (ltb (length m) 2) _ _ tt
+    (either (eqb (be8 m 0) 0) _ _ (either (eqb (be8 m 1) 0) _ _ tt tt)
+    (either (ltb 3 (be8 m 0)) _ _ tt (either (ltb (length m) (2 + be8 m 1)) _ _ tt (omega (arith, w .at 1)))))
 
 followed : (k : ℕ) (m : List ℕ) (e : Entry) (next : List ℕ → Chain) → 2 ≤ k → spansFew e
     → ((n : ℕ) → n ≤ 257 → isBroken (next (drop n m)) ≡ false → length m ≤ leaves (next (drop n m)) + k)
@@ -62,89 +59,56 @@ chain-short given w b =
     let z : leaves (readChain given) ≡ 0 = eqb-true _ 0 (not-false _ (t .1)) in
     omega (arith, chain-few 8 given w (t .0))
 
--- A test that is true shows that its first part is.
-first-true : (a b c d e : Bool) → (a && b && c && d && e) ≡ true → a ≡ true
-first-true true b c d e p = refl
-first-true false b c d e p = absurd (true≢false (sym p))
-
-either : (a b : Bool) → (a || b) ≡ true → (a ≡ true) ⊎ (b ≡ true)
-either true b e = inl refl
-either false b e = inr e
-
 module _ (p : List ℕ) where
   exchange-size : exchanges p ≡ true → length p ≡ 86
   unfolding exchanges
-  exchange-size e = eqb-true (length p) 86 (first-true (eqb (length p) 86) (eqb (be16 p 4) 32) (eqb (be32 p 14) 16384) (eqb (be16 p 18) 32)
-      (eqb (be16 p 52) 32) e)
-
-  presence-short : isPresenceRequest p ≡ true → length p ≤ 16384
-  unfolding isPresenceRequest
-  presence-short e = omega (arith, eqb-true (length p) 1 (and-true (eqb (length p) 1) (eqb (be8 p 0) 0) e .0))
-
-  request-short : isConnectionRequest p ≡ true → length p ≤ 16384
-  unfolding isConnectionRequest
-  request-short e = omega (arith, exchange-size (and-true (starts 0 p && eqb (be8 p 3) 0) (exchanges p) e .1))
+  exchange-size e = on (eqb (length p) 86) (eqb-true (length p) 86) (λ t. absurd (true≢false (sym (rw t at e))))
 
   response-short : isConnectionResponse p ≡ true → length p ≤ 16384
   unfolding isConnectionResponse
-  response-short e = by (either (eqb (be8 p 3) 1 && exchanges p) (not (eqb (be8 p 3) 1) && leb (be8 p 3) 3 && eqb (length p) 4)
-      (and-true (starts 1 p) _ e .1))
-    where
-      by : ((eqb (be8 p 3) 1 && exchanges p) ≡ true) ⊎ ((not (eqb (be8 p 3) 1) && leb (be8 p 3) 3 && eqb (length p) 4) ≡ true) → length p ≤ 16384
-      by (inl a) = omega (arith, exchange-size (and-true (eqb (be8 p 3) 1) (exchanges p) a .1))
-      by (inr a) = omega (arith, eqb-true (length p) 4 (and-true (not (eqb (be8 p 3) 1) && leb (be8 p 3) 3) (eqb (length p) 4) a .1))
+  response-short e =
+      let r = and-true (starts 1 p) _ e .1 in
+      on (eqb (be8 p 3) 1)
+      (λ t. omega (arith, exchange-size (rw (t, or-none) at r)))
+      (λ t. omega (arith, eqb-true (length p) 4 (and-true (leb (be8 p 3) 3) _ (rw t at r) .1)))
 
   device-short : (connect : ℕ) → isDeviceAuthentication connect p ≡ true → length p ≤ 16384
   unfolding isDeviceAuthentication
   device-short connect e =
       let c = be16 p 3 in
-      let t = be16 p (5 + be16 p 3) in
-      let a = and-true (starts connect p && leb 1 c && leb c 2048 && leb t 512) (eqb (length p) (7 + c + t)) e in
-      let b = and-true (starts connect p && leb 1 c && leb c 2048) (leb t 512) (a .0) in
-      let d = and-true (starts connect p && leb 1 c) (leb c 2048) (b .0) in
-      let l = eqb-true (length p) (7 + c + t) (a .1) in
-      let k = leb-true c 2048 (d .1) in
-      let j = leb-true t 512 (b .1) in
-      omega arith
-
-  done-request-short : isDoneRequest p ≡ true → length p ≤ 16384
-  unfolding isDoneRequest
-  done-request-short e = omega (arith, eqb-true (length p) 3 (and-true (starts 6 p) (eqb (length p) 3) e .1))
-
-  done-response-short : isDoneResponse p ≡ true → length p ≤ 16384
-  unfolding isDoneResponse
-  done-response-short e = omega (arith, eqb-true (length p) 4 (and-true (starts 7 p && leb (be8 p 3) 4) (eqb (length p) 4) e .1))
+      let t = be16 p (5 + c) in
+      let a = and-true (starts connect p && leb 1 c && leb c 2048 && leb t 512) _ e in
+      let b = and-true (starts connect p && leb 1 c && leb c 2048) _ (a .0) in
+      let d = and-true (starts connect p && leb 1 c) _ (b .0) in
+      omega (arith, eqb-true (length p) (7 + c + t) (a .1), leb-true t 512 (b .1), leb-true c 2048 (d .1))
 
   -- Whatever has one of some shapes is short, if each of them is.
   abbrev Short : List (ℕ × Bool × (List ℕ → Bool)) → Type 0
   Short [] = Unit
   Short (row ∷ rows) = ((row .2) p ≡ true → length p ≤ 16384) × Short rows
 
+  each-short : Short shapes
+  unfolding isPresenceRequest isConnectionRequest isDoneRequest isDoneResponse
+  each-short =
+      (λ e. omega (arith, eqb-true (length p) 1 (and-true (eqb (length p) 1) _ e .0)),
+      (λ e. omega (arith, exchange-size (and-true (starts 0 p && eqb (be8 p 3) 0) _ e .1)),
+      (response-short, (device-short 2, (device-short 3,
+      (λ e. omega (arith, eqb-true (length p) 3 (and-true (starts 6 p) _ e .1)),
+      (λ e. omega (arith, eqb-true (length p) 4 (and-true (starts 7 p && leb (be8 p 3) 4) _ e .1)), tt)))))))
+
   shape-short : (kind : ℕ) (sealed : Bool) (rows : List (ℕ × Bool × (List ℕ → Bool))) → Short rows → hasShape kind sealed p rows ≡ true
       → length p ≤ 16384
   shape-short kind sealed [] s e = absurd (true≢false (sym e))
   shape-short kind sealed (row ∷ rows) s e =
-      ⊎-elim
-      (λ a. s .0 (and-true (eqb kind (row .0) && sealedAs sealed (row .1)) ((row .2) p) a .1))
-      (λ a. shape-short kind sealed rows (s .1) a)
-      (either (eqb kind (row .0) && sealedAs sealed (row .1) && (row .2) p) (hasShape kind sealed p rows) e)
-
-  shaped-short : (kind : ℕ) (sealed : Bool) → isShaped kind sealed p ≡ true → length p ≤ 16384
-  unfolding isShaped
-  shaped-short kind sealed e =
-      shape-short kind sealed shapes
-      (presence-short, (request-short, (response-short, (device-short 2, (device-short 3, (done-request-short, (done-response-short, tt)))))))
-      e
+      on (hasShape kind sealed p rows) (shape-short kind sealed rows (s .1))
+      (λ r. s .0 (and-true (eqb kind (row .0) && sealedAs sealed (row .1)) _ (rw (r, or-none) at e) .1))
 
   pub payload-short : (kind : ℕ) (sealed : Bool) → badType kind ≡ false → badPayload kind sealed p ≡ false
       → (eqb kind 4 && ltb 16384 (length p)) ≡ false → length p ≤ 16384
-  unfolding badPayload
-  payload-short kind sealed k b e = by (kinds kind k)
-    where
-      shaped : (eqb kind 1 || eqb kind 2) ≡ true → length p ≤ 16384
-      shaped t = shaped-short kind sealed (not-false _ (and-false-right (eqb kind 1 || eqb kind 2) _ b t))
-
-      by : (kind ≡ 1) ⊎ (kind ≡ 2) ⊎ (kind ≡ 4) → length p ≤ 16384
-      by (inl z) = shaped (rw (eq-eqb kind 1 z))
-      by (inr (inl z)) = shaped (rw z)
-      by (inr (inr z)) = ltb-false 16384 (length p) (and-false-right (eqb kind 4) _ e (eq-eqb kind 4 z))
+  unfolding badType badPayload isShaped
+  payload-short kind sealed k b e =
+      on (eqb kind 1 || eqb kind 2)
+      (λ t. shape-short kind sealed shapes each-short (not-false _ (rw t at b)))
+      (λ t.
+      let other = or-false (eqb kind 1) _ t in
+      ltb-false 16384 (length p) (and-false-right (eqb kind 4) _ e (not-false _ (rw (other .0, other .1) at k))))

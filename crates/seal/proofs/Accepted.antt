@@ -1,96 +1,76 @@
 -- SPDX-License-Identifier: MPL-2.0
 -- What holds of a message whose sealed part was opened: its tag is right, its plain text is as the padding rule gives, and that plain text stands
 -- at the start of the working buffer.
-use Prim.Native.Nat.{ℕ, _+_, _-_, _%_, _≤_, _<_}
-use mathlib.Core.Path.{_≡_, refl, _∙_}
+use Prim.Native.Nat.{ℕ, _+_, _≤_}
+use mathlib.Core.Path.{_≡_, refl, sym, _∙_}
 use mathlib.Core.List.{List, _++_}
 use mathlib.Core.Bool.{true, false, not}
 use native.Mathlib.Omega.{arith}
-use lib.ListN.{length, take, drop, getD, List·getD-append, length-drop, length-append}
+use lib.ListN.{length, take, drop, length-drop, length-append}
 use lib.Seq.{drop-append-le, take-append-le}
 use lib.Dec.{eqb}
-use borrow.Author.Tests.{eq-eqb, ltb-false, eqb-true, not-false}
+use borrow.Author.Tests.{ltb-false, eqb-true, not-false}
 use Rattle.laws.specs.Bytes.{be32}
-use Rattle.laws.specs.Rows.{first, orElse, testOf}
+use Rattle.laws.specs.Rows.{testOf}
 use Rattle.laws.specs.Same.{same}
 use Rattle.laws.proofs.Bools.{or-false}
-use Rattle.laws.proofs.Firsts.{neither, row-false}
-use Rattle.wire.specs.Refusals.{wrongKeys, wrongTag, shortWorking, wrongPadding}
+use Rattle.laws.proofs.Firsts.{first-append, neither, row-false}
+use Rattle.wire.specs.Refusals.{wrongTag, shortWorking, wrongPadding}
+use Rattle.aes.specs.Key.{expandKey}
 use Rattle.aes.proofs.Chain.{cbcDecrypt-length}
-use Rattle.seal.specs.Keys.{tagOf}
+use Rattle.seal.specs.Keys.{encryptionKey, vector, tagOf}
 use Rattle.seal.specs.Padding.{sealedSize, badPlain, payloadOf}
-use Rattle.seal.specs.Opening.{bodyOf, tagIn, sealedPart, plainOf, intoUnless, openedInto}
-use Rattle.seal.specs.Opening.{noPart, keyRows, tagRows, partRows, partRefusal, openRefusal}
-use Rattle.seal.proofs.Opened.{Placed, placed, part-blocks}
+use Rattle.seal.specs.Opening.{bodyOf, tagIn, sealedPart, plainOf, intoUnless, openedInto, earlyRows, tagRows, openRefusal}
+use Rattle.seal.proofs.Padded.{sizes, told-append}
+use Rattle.seal.proofs.Opened.{Placed, placed, part-blocks, lateRows, one-table}
 
 -- Nothing of 10 to 13 applies.
 pub record Accepted (keys m : List ℕ) (start room : ℕ) : Type 0 where
-  pub place : Placed (length m) start
+  pub place : Placed (length m) start (length keys)
   pub keys64 : length keys ≡ 64
   pub tag : same (tagOf keys (bodyOf m)) (tagIn m) ≡ true
   pub roomy : length (sealedPart m start) ≤ room
   pub ruled : badPlain (plainOf keys m (sealedPart m start)) ≡ false
 
-module _ (keys m : List ℕ) (start room : ℕ) (e : openRefusal keys m start room ≡ 0) where
-  pub accepted : Accepted keys m start room
-  unfolding openRefusal partRefusal
-  accepted =
-      let part = partRows keys m (sealedPart m start) room in
-      let sealed = keyRows (length keys) ++ tagRows keys m in
-      let placing = neither (noPart (length m) start) (orElse (first sealed) (first part)) e in
-      let z = neither (first sealed) (first part) (placing .1) in
-      let at : (n : ℕ) → testOf n sealed ≡ false = λ n. row-false n sealed refl (z .0) in
-      let in-part : (n : ℕ) → testOf n part ≡ false = λ n. row-false n part refl (z .1) in
-      record {
-        place = placed (length m) start (placing .0);
-        keys64 = eqb-true (length keys) 64 (not-false _ (at wrongKeys));
-        tag = not-false _ (at wrongTag);
-        roomy = ltb-false room (length (sealedPart m start)) (in-part shortWorking);
-        ruled = in-part wrongPadding;
-      }
+pub accepted : (keys m : List ℕ) (start room : ℕ) → openRefusal keys m start room ≡ 0 → Accepted keys m start room
+accepted keys m start room e =
+    let late = tagRows keys m ++ lateRows keys m start room in
+    let z = neither _ _ (sym (first-append (earlyRows (length m) start (length keys)) late refl) ∙ one-table keys m start room ∙ e) in
+    let at : (n : ℕ) → testOf n late ≡ false = λ n. row-false n late refl (z .1) in
+    let place = placed (length m) start (length keys) (z .0) in
+    record {
+      place = place;
+      keys64 = place .keys64;
+      tag = not-false _ (at wrongTag);
+      roomy = ltb-false room (length (sealedPart m start)) (at shortWorking);
+      ruled = at wrongPadding;
+    }
 
--- The plain text of an accepted message, and where its payload lies in the working buffer.
-module _ (keys m : List ℕ) (start : ℕ) (working : List ℕ) (ok : Accepted keys m start (length working)) where
-  abbrev plain : List ℕ
-  plain = plainOf keys m (sealedPart m start)
+-- What the working buffer then holds: the plain text at its start, and in it the payload after its size.
+pub record Held (plain after : List ℕ) : Type 0 where
+  pub told : be32 after 0 ≡ be32 plain 0
+  pub fits : 4 + be32 plain 0 ≤ length after
+  pub payload : take (be32 plain 0) (drop 4 after) ≡ payloadOf plain
 
-  part-long : (16 ≤ length (sealedPart m start)) × (length (sealedPart m start) % 16 ≡ 0)
-  unfolding sealedPart
-  part-long = part-blocks m start (ok .place)
+-- That of any plain text as the padding rule gives.
+held : (plain rest : List ℕ) → 16 ≤ length plain → badPlain plain ≡ false → Held plain (plain ++ rest)
+unfolding badPlain
+held plain rest some ruled =
+    let size = or-false (not (eqb (length plain) (sealedSize (be32 plain 0)))) _ ruled .0 in
+    let l = eqb-true (length plain) (sealedSize (be32 plain 0)) (not-false _ size) in
+    let s = sizes (be32 plain 0) in
+    let room : be32 plain 0 ≤ length (drop 4 plain) = rw length-drop (omega arith) in
+    record {
+      told = told-append plain rest (omega arith);
+      fits = rw length-append (omega arith);
+      payload = rw (drop-append-le 4 plain rest (omega arith)) (take-append-le (be32 plain 0) (drop 4 plain) rest room);
+    }
 
-  plain-long : length plain ≡ length (sealedPart m start)
-  unfolding plainOf
-  plain-long = cbcDecrypt-length _ _ (sealedPart m start) (part-long .1)
-
-  -- The size that stands there fits the sealed part.
-  told-fits : 4 + be32 plain 0 ≤ length plain
-  unfolding badPlain sealedSize
-  told-fits =
-      let r = or-false (not (eqb (length plain) (sealedSize (be32 plain 0)))) _ (ok .ruled) in
-      let l = eqb-true (length plain) (sealedSize (be32 plain 0)) (not-false _ (r .0)) in
-      omega arith
-
-  module _ (after : List ℕ) (is : after ≡ openedInto keys m start working) (e : openRefusal keys m start (length working) ≡ 0) where
-    after-is : after ≡ plain ++ drop (length plain) working
-    unfolding openedInto intoUnless
-    after-is = is ∙ rw (eq-eqb _ 0 e)
-
-    at-front : (i : ℕ) → i < 4 → getD after i 0 ≡ getD plain i 0
-    at-front i h = rw after-is (List·getD-append plain (drop (length plain) working) 0 i (omega (arith, part-long .0, plain-long)))
-
-    pub told-after : be32 after 0 ≡ be32 plain 0
-    told-after = rw (at-front 0 (omega arith), at-front 1 (omega arith), at-front 2 (omega arith), at-front 3 (omega arith))
-
-    pub fits-after : 4 + be32 after 0 ≤ length after
-    fits-after =
-        let a : length after ≡ length plain + length (drop (length plain) working) = rw (after-is, length-append) in
-        rw told-after (omega (arith, told-fits))
-
-    -- The payload in the working buffer is the payload of the plain text.
-    pub payload-after : take (4 + be32 after 0 - 4) (drop 4 after) ≡ payloadOf plain
-    payload-after =
-        let n : 4 + be32 plain 0 - 4 ≡ be32 plain 0 = omega arith in
-        let four : 4 ≤ length plain = omega (arith, part-long .0, plain-long) in
-        let room : be32 plain 0 ≤ length (drop 4 plain) = rw length-drop (omega (arith, told-fits)) in
-        rw (told-after, n, after-is, drop-append-le 4 plain (drop (length plain) working) four)
-        (take-append-le (be32 plain 0) (drop 4 plain) (drop (length plain) working) room)
+pub opened-held : (keys m : List ℕ) (start : ℕ) (working : List ℕ) → openRefusal keys m start (length working) ≡ 0
+    → Held (plainOf keys m (sealedPart m start)) (openedInto keys m start working)
+unfolding openedInto intoUnless plainOf
+opened-held keys m start working e =
+    let ok = accepted keys m start (length working) e in
+    let b = part-blocks m start (length keys) (ok .place) in
+    let l = cbcDecrypt-length (expandKey (encryptionKey keys)) (vector keys m) (sealedPart m start) (b .1) in
+    rw e (held _ _ (omega arith) (ok .ruled))

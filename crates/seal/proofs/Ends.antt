@@ -1,7 +1,7 @@
 -- SPDX-License-Identifier: MPL-2.0
 -- The end of a block against a run of one byte, from the block's end down: one byte more.
 use Prim.Native.Nat.{ℕ, suc, _-_, _≤_, _<_}
-use mathlib.Core.Path.{_≡_, refl, _∙_, ap}
+use mathlib.Core.Path.{_≡_, _∙_, ap}
 use mathlib.Core.List.{List, _∷_}
 use mathlib.Core.Bool.{Bool, not, true, false, _&&_, _||_}
 use native.Mathlib.Omega.{arith}
@@ -9,12 +9,11 @@ use lib.Dec.{eqb}
 use lib.ListN.{length, getD, drop, replicate}
 use lib.Seq.{drop-cons}
 use Rattle.laws.specs.Same.{same}
+use Rattle.laws.proofs.Bools.{or-none, or-true}
 
 not-both : (a b : Bool) → not a || not b ≡ not (b && a)
-not-both true true = refl
-not-both true false = refl
-not-both false true = refl
-not-both false false = refl
+not-both a true = or-none (not a)
+not-both a false = or-true (not a)
 
 pub end-more : (n : ℕ) (block : List ℕ) (byte i : ℕ) (bad : Bool) → length block ≡ n → 0 < i → i ≤ n
     → bad ≡ not (same (drop i block) (replicate (n - i) byte))

@@ -1,54 +1,50 @@
 -- SPDX-License-Identifier: MPL-2.0
 -- One of the two, and there the part or nothing.
+use Prim.Native.Nat.{_+_, _≤_}
+use mathlib.Core.Path.{sym, _∙_}
 use native.Mathlib.Omega.{arith}
-use Rattle.message.proofs.Handing.{within, nothing, whole, of-working, of-message}
+use native.Mathlib.Nat.{add-sub-cancel-left}
+use borrow.Author.Tests.{ltb-false}
+use lib.ListN.{length}
+use Rattle.message.specs.Handed.{partOf, payload}
 use borrow.Author.Needs.{needs}
 use Rattle.message.proofs.payload.payload.Statement.{statement}
 use Rattle.message.proofs.payload.payload.Tie as tie
 
+-- The numbers fit where nothing lacks.
+in-working : (c : tie.Else2) → let a = c .before .before .before .before .before .args in a .from + a .size ≤ length (a .working .now)
+in-working c = ltb-false _ _ (sym (c .before .lacks .ensures) ∙ c .if2 .left)
+
+in-message : (c : tie.Else3) → let a = c .before .before .before .before .before .args in a .from + a .size ≤ length (a .message .now)
+in-message c = ltb-false _ _ (sym (c .before .lacks2 .ensures) ∙ c .if3 .left)
+
 returns : tie.Need-returns
-returns c = of-working _ _ _ _ _ _ (c .before .before .before .if1 .taken)
-    (nothing _ _ _ _ (c .before .before .lacks .ensures) (c .before .if2 .taken))
-
-add-end : tie.Need-add-end
-add-end c =
-    let at-lacks = c .before in
-    let start = at-lacks .before .before .before .before in
-    let w = within (start .args .working .now) _ _ _ (at-lacks .lacks .ensures) (c .if2 .left) in omega arith
-
-part-result-end-2 : tie.Need-part-result-end-2
-part-result-end-2 c =
-    let at-lacks = c .before in
-    let start = at-lacks .before .before .before .before in
-    within (start .args .working .now) _ _ _ (at-lacks .lacks .ensures) (c .if2 .left)
+unfolding payload partOf
+returns c =
+    let at-if2 = c .before in
+    rw (at-if2 .before .before .if1 .taken, sym (at-if2 .before .lacks .ensures) ∙ at-if2 .if2 .taken)
 
 returns-2 : tie.Need-returns-2
-returns-2 c = of-working _ _ _ _ _ _ (c .before .before .before .if1 .taken)
-    (whole _ _ _ _ (c .before .before .lacks .ensures) (c .before .if2 .left))
+unfolding payload partOf
+returns-2 c =
+    let at-if2 = c .before in
+    rw (at-if2 .before .before .if1 .taken, sym (at-if2 .before .lacks .ensures) ∙ at-if2 .if2 .left, add-sub-cancel-left)
 
 returns-3 : tie.Need-returns-3
-returns-3 c = of-message _ _ _ _ _ _ (c .before .before .before .if1 .left)
-    (nothing _ _ _ _ (c .before .before .lacks2 .ensures) (c .before .if3 .taken))
-
-add-end-2 : tie.Need-add-end-2
-add-end-2 c =
-    let at-lacks2 = c .before in
-    let start = at-lacks2 .before .before .before .before in
-    let w = within (start .args .message .now) _ _ _ (at-lacks2 .lacks2 .ensures) (c .if3 .left) in omega arith
-
-part-result-end-4 : tie.Need-part-result-end-4
-part-result-end-4 c =
-    let at-lacks2 = c .before in
-    let start = at-lacks2 .before .before .before .before in
-    within (start .args .message .now) _ _ _ (at-lacks2 .lacks2 .ensures) (c .if3 .left)
+unfolding payload partOf
+returns-3 c =
+    let at-if3 = c .before in
+    rw (at-if3 .before .before .if1 .left, sym (at-if3 .before .lacks2 .ensures) ∙ at-if3 .if3 .taken)
 
 returns-4 : tie.Need-returns-4
-returns-4 c = of-message _ _ _ _ _ _ (c .before .before .before .if1 .left)
-    (whole _ _ _ _ (c .before .before .lacks2 .ensures) (c .before .if3 .left))
+unfolding payload partOf
+returns-4 c =
+    let at-if3 = c .before in
+    rw (at-if3 .before .before .if1 .left, sym (at-if3 .before .lacks2 .ensures) ∙ at-if3 .if3 .left, add-sub-cancel-left)
 
 pub payload-spec : {M : Type 1} → statement M
 payload-spec =
     tie.close (tie.spec
-    _ (λ c. search needs) (λ c. search needs) (λ c. search needs) returns add-end (λ c. search needs)
-    (λ c. search needs) part-result-end-2 returns-2 _ (λ c. search needs) (λ c. search needs) (λ c. search needs)
-    returns-3 add-end-2 (λ c. search needs) (λ c. search needs) part-result-end-4 returns-4)
+    _ (λ c. search needs) (λ c. search needs) (λ c. search needs) returns (λ c. omega (arith, in-working c)) (λ c. search needs)
+    (λ c. search needs) in-working returns-2 _ (λ c. search needs) (λ c. search needs) (λ c. search needs)
+    returns-3 (λ c. omega (arith, in-message c)) (λ c. search needs) (λ c. search needs) in-message returns-4)

@@ -1,42 +1,48 @@
 -- SPDX-License-Identifier: MPL-2.0
 -- By what the header's reader answered.
-use mathlib.Core.Path.{sym, _∙_}
-use Rattle.message.proofs.Readers.{header-refused, plain-fits, read-plainly, read-sealedly}
+use mathlib.Core.Path.{refl, sym, _∙_}
+use native.Mathlib.Omega.{arith}
+use Rattle.wire.proofs.Sound.{read-sound}
+use Rattle.message.specs.Reading.{readMessage, workingAfter}
 use borrow.Author.Needs.{needs}
 use Rattle.message.proofs.reading.read.Statement.{statement}
 use Rattle.message.proofs.reading.read.Tie as tie
 
 returns : tie.Need-returns
+unfolding readMessage workingAfter
 returns c =
     let at-read-sealed = c .before .before in
     let at-if1 = at-read-sealed .before .before in
     let at-is-sealed = at-if1 .before in
     let at-header = at-is-sealed .before .before in
-    let at-read-header = at-header .before .before in
-    let e = sym (at-header .header .given .1) ∙ at-read-header .read-header .ensures in
-    read-sealedly _ _ _ _ _ _ e (sym (at-is-sealed .is-sealed .ensures) ∙ at-if1 .if1 .taken) _ _ (at-read-sealed .read-sealed .ensures .0)
-    (at-read-sealed .read-sealed .ensures .1)
+    rw (
+      sym (at-header .before .before .read-header .ensures) ∙ at-header .header .given .1,
+      sym (at-is-sealed .is-sealed .ensures) ∙ at-if1 .if1 .taken,
+    )
+    (at-read-sealed .read-sealed .ensures)
 
 read-plain-requires : tie.Need-read-plain-requires
 read-plain-requires c κs =
     let at-header = c .before .before .before in
-    let at-read-header = at-header .before .before in
-    let at-before = at-read-header .before .before .before in
-    let start = at-before .before in
-    plain-fits (start .args .message .now) (start .args .keys .now) (start .args .working .now) _ _ _
-    (sym (at-header .header .given .1) ∙ at-read-header .read-header .ensures)
+    let sound = read-sound _ _ _ _ (sym (at-header .before .before .read-header .ensures) ∙ at-header .header .given .1) in
+    omega (arith, sound .spans)
 
 returns-2 : tie.Need-returns-2
-returns-2 c = header-refused _ _ _ _ (sym (c .before .n .given .1) ∙ c .before .before .before .read-header .ensures)
+unfolding readMessage workingAfter
+returns-2 c =
+    let at-n = c .before in
+    rw (sym (at-n .before .before .read-header .ensures) ∙ at-n .n .given .1) (refl, refl)
 
 returns-3 : tie.Need-returns-3
+unfolding readMessage workingAfter
 returns-3 c =
     let at-if1 = c .before in
-    let at-is-sealed = at-if1 .before in
-    let at-header = at-is-sealed .before .before in
-    let at-read-header = at-header .before .before in
-    let e = sym (at-header .header .given .1) ∙ at-read-header .read-header .ensures in
-    read-plainly _ _ _ _ _ _ e (sym (at-is-sealed .is-sealed .ensures) ∙ at-if1 .if1 .left) _ (c .read-plain .ensures)
+    let at-header = at-if1 .before .before .before in
+    rw (
+      sym (at-header .before .before .read-header .ensures) ∙ at-header .header .given .1,
+      sym (at-if1 .before .is-sealed .ensures) ∙ at-if1 .if1 .left,
+    )
+    (c .read-plain .ensures, refl)
 
 pub read-spec : {M : Type 1} → statement M
 read-spec = tie.close (tie.spec _ (λ c. search needs) (λ c. search needs) _ _ (λ c. search needs) returns read-plain-requires returns-2 returns-3)

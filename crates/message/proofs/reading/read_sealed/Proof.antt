@@ -1,6 +1,8 @@
 -- SPDX-License-Identifier: MPL-2.0
 -- What was opened stands in the working buffer, and its payload is judged there.
-use Rattle.message.proofs.Readers.{not-opened, payload-fits, sealed-refused, sealed-accepted}
+use native.Mathlib.Omega.{arith}
+use borrow.Author.Tests.{eq-eqb, ne-eqb}
+use Rattle.message.proofs.Readers.{not-opened, is-held, judged}
 use borrow.Author.Needs.{needs}
 use Rattle.message.proofs.reading.read_sealed.Statement.{statement}
 use Rattle.message.proofs.reading.read_sealed.Tie as tie
@@ -8,38 +10,35 @@ use Rattle.message.proofs.reading.read_sealed.Tie as tie
 returns : tie.Need-returns
 returns c =
     let o = c .before .before .before .«open» .ensures in
-    (not-opened _ _ _ _ _ _ _ (o .0) (o .1) (c .if1 .taken), o .1)
+    (not-opened _ _ _ _ _ (o .0) (c .if1 .taken), o .1)
 
 part-bad-shape-end : tie.Need-part-bad-shape-end
 part-bad-shape-end c =
     let at-number32 = c .before in
     let at-if1 = at-number32 .before .before in
-    let at-open = at-if1 .before .before .before in
-    let start = at-open .before .before .before .before .before in
-    let o = at-open .«open» .ensures in
-    let f = payload-fits _ _ (start .args .header) _ _ _ _ (o .0) (o .1) (at-if1 .if1 .left) in
-    rw (at-number32 .number32 .ensures) f
+    let o = at-if1 .before .before .before .«open» .ensures in
+    let held = is-held _ _ _ _ (o .0) (o .1) (at-if1 .if1 .left) in
+    omega (arith, held .fits, held .told, at-number32 .number32 .ensures)
 
 returns-2 : tie.Need-returns-2
 returns-2 c =
     let at-bad-shape = c .before in
     let at-number32 = at-bad-shape .before .before .before in
     let at-if1 = at-number32 .before .before in
-    let at-open = at-if1 .before .before .before in
-    let o = at-open .«open» .ensures in
-    let told = at-number32 .number32 .ensures in
-    (sealed-refused _ _ _ _ _ _ _ (o .0) (o .1) (at-if1 .if1 .left) _ (rw told at (at-bad-shape .bad-shape .ensures)) (c .if2 .taken), o .1)
+    let o = at-if1 .before .before .before .«open» .ensures in (
+      judged _ _ _ _ (o .0) (o .1) (at-if1 .if1 .left) _ (at-number32 .number32 .ensures) (at-bad-shape .bad-shape .ensures)
+          (rw (ne-eqb _ 0 (c .if2 .taken))),
+      o .1,
+    )
 
 returns-3 : tie.Need-returns-3
 returns-3 c =
     let at-bad-shape = c .before in
     let at-number32 = at-bad-shape .before .before .before in
     let at-if1 = at-number32 .before .before in
-    let at-open = at-if1 .before .before .before in
-    let o = at-open .«open» .ensures in
-    let told = at-number32 .number32 .ensures in (
-      rw told (sealed-accepted _ _ _ _ _ _ _ (o .0) (o .1) (at-if1 .if1 .left) _ (rw told at (at-bad-shape .bad-shape .ensures))
-          (c .if2 .left)),
+    let o = at-if1 .before .before .before .«open» .ensures in (
+      judged _ _ _ _ (o .0) (o .1) (at-if1 .if1 .left) _ (at-number32 .number32 .ensures) (at-bad-shape .bad-shape .ensures)
+          (rw (eq-eqb _ 0 (c .if2 .left))),
       o .1,
     )
 

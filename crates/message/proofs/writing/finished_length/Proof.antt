@@ -1,20 +1,11 @@
 -- SPDX-License-Identifier: MPL-2.0
 -- The sums are short.
 use native.Mathlib.Omega.{arith}
-use Rattle.seal.specs.Padding.{sealedSize}
-use Rattle.seal.proofs.Padded.{padding-le}
+use Rattle.seal.proofs.Padded.{sizes}
 use Rattle.message.specs.Writing.{finishedLength}
 use borrow.Author.Needs.{needs}
 use Rattle.message.proofs.writing.finished_length.Statement.{statement}
 use Rattle.message.proofs.writing.finished_length.Tie as tie
-
-add-result-2 : tie.Need-add-result-2
-unfolding sealedSize
-add-result-2 c = rw (c .sealed-size .ensures) (omega (arith, padding-le (c .before .before .args .payload)))
-
-add-result-3 : tie.Need-add-result-3
-unfolding sealedSize
-add-result-3 c = rw (c .sealed-size .ensures) (omega (arith, padding-le (c .before .before .args .payload)))
 
 returns : tie.Need-returns
 unfolding finishedLength
@@ -27,5 +18,7 @@ returns-2 c = rw (c .if1 .left)
 pub finished-length-spec : {M : Type 1} → statement M
 finished-length-spec =
     tie.close (tie.spec
-    (λ c. search needs) (λ c. search needs) _ add-result-2 add-result-3 returns (λ c. search needs) (λ c. search needs)
+    (λ c. search needs) (λ c. search needs) _
+    (λ c. let s = sizes (c .before .before .args .payload) in rw (c .sealed-size .ensures) (omega arith))
+    (λ c. let s = sizes (c .before .before .args .payload) in rw (c .sealed-size .ensures) (omega arith)) returns (λ c. search needs) (λ c. search needs)
     returns-2)

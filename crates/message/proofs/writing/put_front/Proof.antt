@@ -1,16 +1,26 @@
 -- SPDX-License-Identifier: MPL-2.0
 -- The chain stands where the header ends.
-use Rattle.message.proofs.Written.{front-written}
+use mathlib.Core.Path.{_∙_}
+use native.Mathlib.Omega.{arith}
+use lib.ListN.{length}
+use borrow.Author.Tests.{le-ltb}
+use Rattle.writer.specs.Header.{headerBytes}
+use Rattle.writer.specs.Written.{output, putRefusal}
+use Rattle.seal.proofs.Seals.{put-after}
+use Rattle.message.proofs.WrittenLengths.{length-header}
 use borrow.Author.Needs.{needs}
 use Rattle.message.proofs.writing.put_front.Statement.{statement}
 use Rattle.message.proofs.writing.put_front.Tie as tie
 
 returns : tie.Need-returns
+unfolding output putRefusal
 returns c =
-    let s = c .before .before .before .before .before .before .before .before .before .before .args in
-    front-written (s .header) (s .size) (s .chain .now) (s .out .now)
-    (c .before .before .before .before .before .before .before .before .before .before .pre)
-    (c .before .before .before .before .before .before .write-header .ensures .1) (c .before .before .store-bytes .ensures)
+    let at-chain = c .before .before in
+    let at-header = at-chain .before .before .before .before in
+    let start = at-header .before .before .before .before in
+    let a = start .args in
+    put-after (headerBytes (a .header) (a .size)) (a .chain .now) (a .out .now) 40 (length-header _ _) (start .pre)
+    (at-header .write-header .ensures .1 ∙ rw (le-ltb (length (a .out .now)) 40 (omega arith))) (at-chain .store-bytes .ensures)
 
 pub put-front-spec : {M : Type 1} → statement M
 put-front-spec = tie.close (tie.spec _ _ (λ c. search needs) returns)

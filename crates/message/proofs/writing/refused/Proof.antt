@@ -23,11 +23,14 @@ parts s = let a = s .args in partRows (a .header) (a .chain .now) (a .payload .n
 abbrev rooms : tie.Start → List (ℕ × Bool)
 rooms s = let a = s .args in roomRows (a .header) (a .chain .now) (a .payload .now) (a .room)
 
+abbrev start : tie.Else1 → tie.Start
+start c = c .before .before .before .before
+
 -- What the first two tables answered.
-two : (c : tie.After-bad-parts) → let s = c .before .before .before .before .before in c .bad-parts .result ≡ first (fields s ++ parts s)
+two : (c : tie.After-bad-parts) → let s = start (c .before) in c .bad-parts .result ≡ first (fields s ++ parts s)
 two c =
     let at-if1 = c .before in
-    let s = at-if1 .before .before .before .before in
+    let s = start at-if1 in
     onward (fields s) (parts s) refl (at-if1 .before .bad-fields .ensures) (at-if1 .if1 .left) (c .bad-parts .ensures)
 
 returns : tie.Need-returns
@@ -39,26 +42,25 @@ returns c =
 returns-2 : tie.Need-returns-2
 unfolding writeRefusal
 returns-2 c =
-    let s = c .before .before .before .before .before .before in
+    let s = start (c .before .before) in
     above (fields s ++ parts s) (rooms s) refl (two (c .before)) (c .if2 .taken)
 
 finished-length-requires : tie.Need-finished-length-requires
 finished-length-requires c κs =
     let at-if2 = c .before in
-    let bytes = at-if2 .before .before .before .before .before in
-    let s = bytes .before in
-    let a = s .args in
+    let at-if1 = at-if2 .before .before in
+    let s = start at-if1 in
     let rows = fields s ++ parts s in
     let at : (n : ℕ) → testOf n rows ≡ false = λ n. row-false n rows refl (sym (two (at-if2 .before)) ∙ at-if2 .if2 .left) in (
-      chain-short (a .chain .now) (record { at = λ i. omega (arith, bytes .shared-slice-known .given i) }) (at wrongChain),
-      payload-short (a .payload .now) (a .header .kind) _ (at wrongType) (at wrongPayload) (at wrongPieceSize),
+      chain-short _ (record { at = λ i. omega (arith, at-if1 .before .before .before .shared-slice-known .given i) }) (at wrongChain),
+      payload-short _ (s .args .header .kind) _ (at wrongType) (at wrongPayload) (at wrongPieceSize),
     )
 
 returns-3 : tie.Need-returns-3
 unfolding writeRefusal
 returns-3 c =
     let at-if2 = c .before .before .before in
-    let s = at-if2 .before .before .before .before .before .before in
+    let s = start (at-if2 .before .before) in
     below (fields s ++ parts s) (rooms s) refl (two (at-if2 .before)) refl (cc)
 
 pub refused-spec : {M : Type 1} → statement M

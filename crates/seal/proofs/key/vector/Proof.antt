@@ -7,7 +7,10 @@ use Rattle.seal.proofs.key.vector.Tie as tie
 
 returns : tie.Need-returns
 unfolding vector
-returns c = cc
+returns c =
+    let at-block = c .before in
+    let at-keys = at-block .before .before in
+    rw (c .cbc-encrypt-one .ensures, at-block .vector-block .ensures, at-keys .expand-key .ensures, at-keys .before .block-at .ensures)
 
 pub vector-spec : {M : Type 1} → statement M
 vector-spec = tie.close (tie.spec (λ c κs. search needs) _ (λ c κs. search needs) _ returns)

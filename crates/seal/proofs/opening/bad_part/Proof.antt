@@ -12,9 +12,9 @@ returns c =
     let at-before = at-last .before in
     let at-first = at-before .before in
     let start = at-first .before .before in
-    part-judged _ _ _ (start .pre .1) _ _ _ _ _ _ (start .pre .0)
-    (at-first .block-at .ensures) (at-before .before-last .ensures) (at-last .block-at2 .ensures)
-    (at-ends .cbc-decrypt-ends .ensures .0) (at-ends .cbc-decrypt-ends .ensures .1) (c .bad-blocks .ensures)
+    let ends = at-ends .cbc-decrypt-ends .ensures in
+    rw (c .bad-blocks .ensures, ends .0, ends .1, at-last .block-at2 .ensures, at-before .before-last .ensures, at-first .block-at .ensures)
+    (part-judged _ _ (start .args .sealed .now) (start .pre .0) (start .pre .1))
 
 pub bad-part-spec : {M : Type 1} → statement M
 bad-part-spec = tie.close (tie.spec (λ c κs. search needs) (λ c κs. search needs) (λ c. search needs) (λ c κs. search needs) _ _ returns)

@@ -10,7 +10,7 @@ use borrow.Author.Needs.{needs}
 use Rattle.laws.specs.Rows.{first}
 use Rattle.laws.proofs.Nexts.{above, below, onward}
 use Rattle.seal.specs.Opening.{earlyRows, tagRows, partRefusal, sealedPart}
-use Rattle.seal.proofs.Opened.{Placed, early-placed, part-blocks, lateRows, refused, opened}
+use Rattle.seal.proofs.Opened.{Placed, placed, part-blocks, lateRows, refused, opened}
 use Rattle.seal.proofs.opening.open.Statement.{statement}
 use Rattle.seal.proofs.opening.open.Tie as tie
 
@@ -21,13 +21,13 @@ abbrev tags : tie.Start → List (ℕ × Bool)
 tags s = let a = s .args in tagRows (a .keys .now) (a .message .now)
 
 abbrev late : tie.Start → List (ℕ × Bool)
-late s = let a = s .args in lateRows (a .keys .now) (a .message .now) (a .start) (a .working .now)
+late s = let a = s .args in lateRows (a .keys .now) (a .message .now) (a .start) (length (a .working .now))
 
 abbrev start : tie.Else1 → tie.Start
 start c = c .before .before .before .before .before
 
-known : (c : tie.Else1) → let a = start c .args in Placed (length (a .message .now)) (a .start) × (length (a .keys .now) ≡ 64)
-known c = early-placed _ _ _ (sym (c .before .unopenable .ensures) ∙ c .if1 .left)
+known : (c : tie.Else1) → let a = start c .args in Placed (length (a .message .now)) (a .start) (length (a .keys .now))
+known c = placed _ _ _ (sym (c .before .unopenable .ensures) ∙ c .if1 .left)
 
 -- What the rows up to the tag answered.
 tagged : (c : tie.After-next) → let s = start (c .before .before) in c .next .result ≡ first (early s ++ tags s)
@@ -39,35 +39,19 @@ tagged c =
 returns : tie.Need-returns
 returns c =
     let s = c .before .before .before .before .before in
-    let a = s .args in
-    refused (a .keys .now) (a .message .now) (a .start) (a .working .now) (c .if1 .taken)
-    (above (early s) (tags s ++ late s) refl (c .before .unopenable .ensures) (c .if1 .taken))
-
-wrong-tag-requires : tie.Need-wrong-tag-requires
-wrong-tag-requires c κs = let k = known c in (k .1, k .0 .long, k .0 .short)
+    refused _ _ _ _ (c .if1 .taken) (above (early s) (tags s ++ late s) refl (c .before .unopenable .ensures) (c .if1 .taken))
 
 returns-2 : tie.Need-returns-2
 returns-2 c =
     let s = start (c .before .before .before) in
-    let a = s .args in
-    refused (a .keys .now) (a .message .now) (a .start) (a .working .now) (c .if2 .taken)
-    (above (early s ++ tags s) (late s) refl (tagged (c .before)) (c .if2 .taken))
-
-sub-end : tie.Need-sub-end
-sub-end c = let p = known (c .before .before .before) .0 in omega arith
-
-sub-open-part : tie.Need-sub-open-part
-sub-open-part c = let p = known (c .before .before .before) .0 in omega arith
-
-part-open-part-start : tie.Need-part-open-part-start
-part-open-part-start c = let p = known (c .before .before .before) .0 in omega arith
+    refused _ _ _ _ (c .if2 .taken) (above (early s ++ tags s) (late s) refl (tagged (c .before)) (c .if2 .taken))
 
 open-part-requires : tie.Need-open-part-requires
+unfolding sealedPart
 open-part-requires c κs =
     let at-if1 = c .before .before .before .before .before in
-    let a = start at-if1 .args in
-    let k = known at-if1 in
-    ((k .1, k .0 .long), part-blocks (a .message .now) (a .start) (k .0))
+    let p = known at-if1 in
+    ((p .keys64, p .long), part-blocks (start at-if1 .args .message .now) _ _ p)
 
 returns-3 : tie.Need-returns-3
 unfolding sealedPart partRefusal
@@ -75,13 +59,13 @@ returns-3 c =
     let at-open-part = c .before .before in
     let at-if2 = at-open-part .before .before .before in
     let s = start (at-if2 .before .before .before) in
-    let a = s .args in
     let e = at-open-part .open-part .ensures in
-    opened (a .keys .now) (a .message .now) (a .start) (a .working .now)
+    opened _ _ _ (s .args .working .now)
     (onward (early s ++ tags s) (late s) refl (tagged (at-if2 .before)) (at-if2 .if2 .left) (e .0)) (e .0) (e .1)
 
 pub open-spec : {M : Type 1} → statement M
 open-spec =
     tie.close (tie.spec
-    _ returns wrong-tag-requires _ returns-2 sub-end sub-open-part part-open-part-start (λ c. search needs) open-part-requires
-    (λ c. search needs) returns-3)
+    _ returns (λ c κs. let p = known c in omega arith) _ returns-2 (λ c. let p = known (c .before .before .before) in omega arith)
+    (λ c. let p = known (c .before .before .before) in omega arith) (λ c. let p = known (c .before .before .before) in omega arith)
+    (λ c. search needs) open-part-requires (λ c. search needs) returns-3)

@@ -1,46 +1,51 @@
 -- SPDX-License-Identifier: MPL-2.0
 -- Keys and vector are the definition's, so what is judged and written is the opened sealed part.
-use mathlib.Core.Path.{_∙_, sym}
-use Rattle.seal.proofs.Opened.{part-12, part-13, part-opened, opens, judged, decrypted}
+use mathlib.Core.Path.{_≡_, refl, sym, _∙_}
+use borrow.Author.Tests.{lt-ltb, le-ltb, le-leb}
+use Rattle.aes.specs.Cbc.{cbcDecrypt}
+use Rattle.aes.proofs.Chain.{cbcDecrypt-length}
+use Rattle.seal.specs.Opening.{plainOf, partRefusal, partInto, intoUnless}
 use borrow.Author.Needs.{needs}
 use Rattle.seal.proofs.opening.open_part.Statement.{statement}
 use Rattle.seal.proofs.opening.open_part.Tie as tie
 
+abbrev roomy : tie.After-bad-part → tie.Else1
+roomy c = c .before .before .before .before .before
+
+abbrev entry : tie.After-bad-part → tie.Start
+entry c = roomy c .before .before .before .before .before
+
+-- What is judged and written is the definition's plain text.
+plain : (c : tie.After-bad-part) → let a = entry c .args in
+    plainOf (a .keys .now) (a .message .now) (a .sealed .now)
+    ≡ cbcDecrypt (c .before .before .before .expand-key .result) (c .before .before .vector .result) (a .sealed .now)
+unfolding plainOf
+plain c =
+    let at-vector = c .before .before in
+    rw (← at-vector .before .before .block-at .ensures, ← at-vector .before .expand-key .ensures, ← at-vector .vector .ensures)
+
 returns : tie.Need-returns
-returns c = part-12 _ _ _ _ (c .if1 .taken)
+unfolding partRefusal partInto intoUnless
+returns c = rw (lt-ltb _ _ (c .if1 .taken)) (refl, refl)
 
 returns-2 : tie.Need-returns-2
+unfolding partRefusal partInto intoUnless
 returns-2 c =
-    let at-bad-part = c .before in
-    let at-vector = at-bad-part .before .before in
-    let at-expand-key = at-vector .before in
-    let at-block-at = at-expand-key .before in
-    let at-if1 = at-block-at .before in
-    part-13 _ _ _ _ (at-if1 .if1 .left)
-    (sym (judged _ _ _ _ _ _ _ (at-block-at .block-at .ensures) (at-expand-key .expand-key .ensures) (at-vector .vector .ensures)
-    (at-bad-part .bad-part .ensures)) ∙ c .if2 .taken)
+    let judged = c .before in
+    rw (le-ltb _ _ (roomy judged .if1 .left), plain judged, sym (judged .bad-part .ensures) ∙ c .if2 .taken) (refl, refl)
 
 returns-3 : tie.Need-returns-3
+unfolding partRefusal partInto intoUnless
 returns-3 c =
-    let at-cbc-decrypt = c .before .before in
-    let at-if2 = at-cbc-decrypt .before .before .before in
-    let at-bad-part = at-if2 .before in
-    let at-vector = at-bad-part .before .before in
-    let at-expand-key = at-vector .before in
-    let at-block-at = at-expand-key .before in
-    let at-if1 = at-block-at .before in
-    let at-before = at-if1 .before .before .before .before in
-    let start = at-before .before in
-    let blocks = start .pre .1 .1 in
-    let room = at-if1 .if1 .left in
-    let is = opens _ _ (start .args .sealed .now) _ _ _ (at-block-at .block-at .ensures) (at-expand-key .expand-key .ensures)
-    (at-vector .vector .ensures) in
-    let judge = judged _ _ (start .args .sealed .now) _ _ _ _ (at-block-at .block-at .ensures) (at-expand-key .expand-key .ensures)
-    (at-vector .vector .ensures)
-    (at-bad-part .bad-part .ensures) in
-    let done = part-opened _ _ (start .args .sealed .now) (start .args .working .now) room blocks (sym judge ∙ at-if2 .if2 .left) in (
-      done .0,
-      decrypted _ _ (start .args .sealed .now) (start .args .working .now) _ blocks room (at-cbc-decrypt .cbc-decrypt .ensures .1) ∙ rw is (done .1),
+    let at-decrypt = c .before .before in
+    let at-if2 = at-decrypt .before .before .before in
+    let judged = at-if2 .before in
+    let room = roomy judged .if1 .left in
+    let blocks = entry judged .pre .1 .1 in
+    let rule = sym (judged .bad-part .ensures) ∙ at-if2 .if2 .left in (
+      rw (le-ltb _ _ room, plain judged, rule),
+      at-decrypt .cbc-decrypt .ensures .1
+          ∙ rw (le-ltb _ _ room, plain judged, rule, blocks, le-leb _ _ room, cbcDecrypt-length _ _ _ blocks),
     )
 
 pub open-part-spec : {M : Type 1} → statement M

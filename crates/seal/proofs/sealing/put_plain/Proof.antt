@@ -1,6 +1,11 @@
 -- SPDX-License-Identifier: MPL-2.0
 -- Three runs one after the other fill the room.
-use mathlib.Core.Path.{refl}
+use Prim.Native.Nat.{_+_}
+use mathlib.Core.Path.{refl, _∙_}
+use native.Mathlib.Omega.{arith}
+use lib.ListN.{length, replicate, length-append}
+use Rattle.laws.specs.Bytes.{bytes32}
+use Rattle.laws.proofs.Stores.{run, then}
 use Rattle.seal.proofs.Filling.{plain-stored}
 use borrow.Author.Needs.{needs}
 use Rattle.seal.proofs.sealing.put_plain.Statement.{statement}
@@ -13,10 +18,13 @@ returns c =
     let at-size = at-payload .before .before .before .before in
     let at-padding = at-size .before .before in
     let start = at-padding .before .before .before in
-    let pads = at-padding .padding .ensures in
-    let a = start .args in
-    plain-stored (a .payload .now) (a .room .now) (start .pre .1) _ _ _ _ _ _ refl (pads .0) (pads .1) refl
-    (at-size .store32 .ensures) (at-payload .store-bytes .ensures) (at-pad .store-bytes2 .ensures)
+    let payload = start .args .payload .now in
+    let room = start .args .room .now in
+    let one = then (bytes32 (length payload)) 0 (run 0 room) (at-size .store32 .ensures) refl in
+    let two = then payload 4 one (at-payload .store-bytes .ensures) refl in
+    let three = then (replicate 16 (at-padding .padding .result)) (4 + length payload) two (at-pad .store-bytes2 .ensures)
+    (simp length-append (omega arith)) in
+    three .is ∙ plain-stored payload room _ (start .pre .1) (at-padding .padding .ensures .0)
 
 pub put-plain-spec : {M : Type 1} → statement M
 put-plain-spec =

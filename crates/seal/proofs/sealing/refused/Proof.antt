@@ -5,12 +5,12 @@ use mathlib.Core.Bool.{Bool}
 use mathlib.Core.List.{List}
 use mathlib.Core.Path.{refl, sym, _∙_}
 use native.Mathlib.Omega.{arith}
-use borrow.Author.Needs.{needs}
 use borrow.Author.Tests.{ltb-false}
 use Rattle.laws.proofs.Firsts.{row-false}
 use Rattle.laws.proofs.Nexts.{above, below}
 use Rattle.wire.specs.Refusals.{wrongLength}
 use Rattle.seal.specs.Padding.{sealedSize}
+use Rattle.seal.proofs.Padded.{sizes}
 use Rattle.seal.specs.Sealed.{lengthRows, roomRows, sealRefusal}
 use Rattle.seal.proofs.sealing.refused.Statement.{statement}
 use Rattle.seal.proofs.sealing.refused.Tie as tie
@@ -23,23 +23,11 @@ rooms s = roomRows (s .args .start) (s .args .size) (s .args .room)
 
 short : (c : tie.Else1) → let s = c .before .before .args in s .start + sealedSize (s .size) ≤ 65503
 short c =
-    let s = c .before .before in
-    ltb-false 65503 (s .args .start + sealedSize (s .args .size))
-    (row-false wrongLength (lengths s) refl (sym (c .before .unsealable .ensures) ∙ c .if1 .left))
+    ltb-false 65503 _ (row-false wrongLength (lengths (c .before .before)) refl (sym (c .before .unsealable .ensures) ∙ c .if1 .left))
 
 returns : tie.Need-returns
 unfolding sealRefusal
 returns c = let s = c .before .before in above (lengths s) (rooms s) refl (c .before .unsealable .ensures) (c .if1 .taken)
-
-cast-sealed-size : tie.Need-cast-sealed-size
-unfolding sealedSize
-cast-sealed-size c = omega (arith, short c)
-
-add-end : tie.Need-add-end
-add-end c = rw (c .sealed-size .ensures) (omega (arith, short (c .before)))
-
-add-next : tie.Need-add-next
-add-next c = rw (c .sealed-size .ensures) (omega (arith, short (c .before)))
 
 returns-2 : tie.Need-returns-2
 unfolding sealRefusal
@@ -49,4 +37,7 @@ returns-2 c =
     below (lengths s) (rooms s) refl (at-if1 .before .unsealable .ensures) refl (cc)
 
 pub refused-spec : {M : Type 1} → statement M
-refused-spec = tie.close (tie.spec _ returns cast-sealed-size _ add-end add-next _ returns-2)
+refused-spec =
+    tie.close (tie.spec
+    _ returns (λ c. let s = sizes (c .before .before .args .size) in omega (arith, short c)) _ (λ c. omega (arith, short (c .before)))
+    (λ c. omega (arith, short (c .before))) _ returns-2)

@@ -1,70 +1,36 @@
 -- SPDX-License-Identifier: MPL-2.0
 -- The part is encrypted in its room and the tag put after it, where none of the rows applies.
-use mathlib.Core.Path.{_∙_, sym, ap, refl}
-use Prim.Native.Nat.{ℕ, _+_}
-use lib.ListN.{length}
+use Prim.Native.Nat.{ℕ, _+_, _-_}
+use mathlib.Core.Path.{_≡_, _∙_, sym, ap}
 use native.Mathlib.Omega.{arith}
+use borrow.Rule.Slice.PartMut.{mid-len}
+use lib.ListN.{length}
 use Rattle.seal.specs.Padding.{sealedSize}
-use Rattle.seal.proofs.Seals.{fit, small, part-room, refused-into, sealed-into}
+use Rattle.seal.specs.Sealed.{sealRefusal}
+use Rattle.seal.proofs.Seals.{Fit, fit, refused-into, sealed-into}
 use borrow.Author.Needs.{needs}
 use Rattle.seal.proofs.sealing.seal.Statement.{statement}
 use Rattle.seal.proofs.sealing.seal.Tie as tie
 
-returns : tie.Need-returns
-returns c =
-    let e = c .before .refused .ensures in
-    (e, refused-into _ _ _ _ _ (c .if1 .taken) e)
+abbrev entry : tie.Else1 → tie.Start
+entry c = c .before .before .before .before .before
 
-cast-sealed-size : tie.Need-cast-sealed-size
-unfolding sealedSize
-cast-sealed-size c =
-    let f = fit _ _ _ _ (sym (c .before .refused .ensures) ∙ c .if1 .left) in
-    omega (arith, f .short)
+allowed : (c : tie.Else1) → let a = entry c .args in
+    sealRefusal (length (a .keys .now)) (a .start) (length (a .payload .now)) (length (a .out .now)) ≡ 0
+allowed c = sym (c .before .refused .ensures) ∙ c .if1 .left
 
-add-end : tie.Need-add-end
-unfolding sealedSize
-add-end c =
-    let f = fit _ _ _ _ (sym (c .before .before .refused .ensures) ∙ c .before .if1 .left) in
-    rw (c .sealed-size .ensures) (omega (arith, f .short))
-
-vector-requires : tie.Need-vector-requires
-vector-requires c κs =
-    let f = fit _ _ _ _ (sym (c .before .before .before .refused .ensures) ∙ c .before .before .if1 .left) in
-    (f .keys64, omega (arith, f .behind, f .roomy))
-
-part-encrypt-part-end : tie.Need-part-encrypt-part-end
-unfolding sealedSize
-part-encrypt-part-end c =
-    let at-sealed-size = c .before .before in
-    let at-if1 = at-sealed-size .before in
-    let at-refused = at-if1 .before in
-    let f = fit _ _ _ _ (sym (at-refused .refused .ensures) ∙ at-if1 .if1 .left) in
-    rw (at-sealed-size .sealed-size .ensures) (omega (arith, f .roomy))
+-- What the rows leave, and where the sealed part ends.
+fits : (c : tie.Else1) → let a = entry c .args in Fit (length (a .keys .now)) (a .start) (length (a .payload .now)) (length (a .out .now))
+fits c = fit _ _ _ _ (allowed c)
 
 encrypt-part-requires : tie.Need-encrypt-part-requires
 encrypt-part-requires c κs =
     let at-sealed-size = c .before .before .before in
-    let at-if1 = at-sealed-size .before in
-    let at-refused = at-if1 .before in
-    let start = at-refused .before .before .before .before in
-    let s = start .args in
-    let f = fit _ _ _ _ (sym (at-refused .refused .ensures) ∙ at-if1 .if1 .left) in (
-      f .keys64,
-      (
-        small (length (s .payload .now)) (s .start) (f .short),
-        part-room (s .out .now) (s .start) _ _ _ _ f
-            (at-sealed-size .sealed-size .ensures) refl,
-      ),
-    )
-
-put-tag-requires : tie.Need-put-tag-requires
-put-tag-requires c κs =
-    let at-sealed-size = c .before .before .before .before .before .before .before in
-    let at-if1 = at-sealed-size .before in
-    let at-refused = at-if1 .before in
-    let f = fit _ _ _ _ (sym (at-refused .refused .ensures) ∙ at-if1 .if1 .left) in
+    let a = entry (at-sealed-size .before) .args in
+    let f = fits (at-sealed-size .before) in
     let e = at-sealed-size .sealed-size .ensures in
-    (f .keys64, omega (arith, f .behind), omega (arith, f .short), omega (arith, f .roomy))
+    let room = mid-len (a .start) (a .start + at-sealed-size .sealed-size .result) (a .out .now) (omega arith) in
+    (f .keys64, (omega arith, room ∙ omega arith))
 
 returns-2 : tie.Need-returns-2
 returns-2 c =
@@ -72,17 +38,16 @@ returns-2 c =
     let at-encrypt-part = at-put-tag .before .before .before .before in
     let at-vector = at-encrypt-part .before .before in
     let at-sealed-size = at-vector .before .before in
-    let at-if1 = at-sealed-size .before in
-    let at-refused = at-if1 .before in
-    let start = at-refused .before .before .before .before in
-    let allowed = sym (at-refused .refused .ensures) ∙ at-if1 .if1 .left in (
-      sym allowed,
-      sealed-into _ _ _ _ _ allowed (ap (λ (n : ℕ). start .args .start + n) (at-sealed-size .sealed-size .ensures)) _ _ _ (at-vector .vector .ensures)
-          (at-encrypt-part .encrypt-part .ensures) (at-put-tag .put-tag .ensures),
+    let at-if1 = at-sealed-size .before in (
+      sym (allowed at-if1),
+      sealed-into _ _ _ _ _ (fits at-if1) (ap (λ (n : ℕ). entry at-if1 .args .start + n) (at-sealed-size .sealed-size .ensures)) _ _ _
+          (at-vector .vector .ensures) (at-encrypt-part .encrypt-part .ensures) (at-put-tag .put-tag .ensures),
     )
 
 pub seal-spec : {M : Type 1} → statement M
 seal-spec =
     tie.close (tie.spec
-    _ returns cast-sealed-size _ add-end vector-requires (λ c. search needs) (λ c. search needs) part-encrypt-part-end
-    encrypt-part-requires put-tag-requires (λ c. search needs) returns-2)
+    _ (λ c. refused-into _ _ _ _ (c .if1 .taken) (c .before .refused .ensures)) (λ c. let f = fits c in omega arith) _
+    (λ c. let f = fits (c .before) in omega arith) (λ c κs. let f = fits (c .before .before) in omega arith)
+    (λ c. search needs) (λ c. search needs) (λ c. let f = fits (c .before .before .before) in omega arith) encrypt-part-requires
+    (λ c κs. let f = fits (c .before .before .before .before .before .before .before .before) in omega arith) (λ c. search needs) returns-2)
