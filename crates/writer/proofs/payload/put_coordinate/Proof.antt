@@ -5,10 +5,8 @@ use borrow.Author.Needs.{needs}
 use Rattle.writer.proofs.payload.put_coordinate.Statement.{statement}
 use Rattle.writer.proofs.payload.put_coordinate.Tie as tie
 
-returns : tie.Need-returns
-returns c =
-    let second = c .before .before in
-    (rw (second .store-bytes .ensures, second .before .before .before .before .before .store16 .ensures, past-two), search needs)
-
 pub put-coordinate-spec : {M : Type 1} → statement M
-put-coordinate-spec = tie.close (tie.spec _ (λ c. search needs) (λ c. search needs) _ (λ c. search needs) returns)
+put-coordinate-spec =
+    tie.close (tie.spec _ (λ c. search needs) (λ c. search needs) _ (λ c. search needs) λ c.
+    let second = c .before .before in
+    (rw (second .store-bytes .ensures, second .before .before .before .before .before .store16 .ensures, past-two), search needs))
