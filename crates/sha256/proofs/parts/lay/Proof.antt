@@ -27,7 +27,7 @@ loop-again c =
     let l = c .before .before .loop in (
       search needs,
       search needs,
-      λ front n e. laid-more front _ _ _ n (l .block) (l .i) _ (omega arith) (omega arith) (omega arith) refl (l .inv .2 front n e),
+      λ front n e. laid-more front _ _ _ n (l .block) (l .i) (omega arith) (omega arith) (omega arith) (omega arith) (l .inv .2 front n e),
     )
 
 returns : tie.Need-returns Inv-loop μ-loop

@@ -17,5 +17,6 @@ write-device-authentication-spec =
     (λ c. search needs) (λ c. search needs) (λ c. refused _ _ _ _ _ (told-bad _ _ (c .if1 .taken)) λ z. omega arith) (λ c. search needs)
     (λ c. omega (arith, small c)) (λ c. refused _ _ _ _ _ (told-short _ _ (c .before .if1 .left) (c .if2 .taken)) λ z. omega arith)
     (λ c κs. let d = small (c .before .before) in (d .certificates, d .thumbprints)) (λ c. search needs) λ c.
-    let judged = c .before .before .before .before in
-    wrote _ _ _ _ _ (told-none _ _ (judged .before .if1 .left) (judged .if2 .left)) refl (length-device _ _ _ _) (c .before .before .put-device .ensures))
+    let put = c .before .before in
+    let roomy = put .before .before in
+    wrote _ _ _ _ _ (told-none _ _ (roomy .before .if1 .left) (roomy .if2 .left)) refl (length-device _ _ _ _) (put .put-device .ensures))
