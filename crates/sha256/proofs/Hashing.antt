@@ -1,12 +1,12 @@
 -- SPDX-License-Identifier: MPL-2.0
 -- A block's words, the blocks of a message, and of a message after a block that was hashed already.
-use mathlib.Core.Path.{_≡_, _∙_, ap, ap₂, refl}
+use mathlib.Core.Path.{_≡_, _∙_, ap, refl}
 use mathlib.Core.List.{List, [], _++_}
 use Prim.Native.Nat.{ℕ, zero, suc, _+_, _*_, _/_, _<_}
 use native.Mathlib.Numerals.{add-one}
 use native.Mathlib.Omega.{arith}
-use lib.ListN.{getD, length, take, set, length-append}
-use lib.Seq.{take-suc-set, getD-append-add}
+use lib.ListN.{length, take, set, length-append}
+use lib.Seq.{take-suc-set}
 use Rattle.laws.specs.Bytes.{be32, bytesAt}
 use Rattle.laws.proofs.Parts.{part-back}
 use Rattle.compression.specs.declared.Vars.{Vars}

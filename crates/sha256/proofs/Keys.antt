@@ -1,9 +1,8 @@
 -- SPDX-License-Identifier: MPL-2.0
 -- A key filled up to a block, and masked.
-use mathlib.Core.Path.{_≡_, _∙_, sym, ap, ap₂, refl}
+use mathlib.Core.Path.{_≡_, refl}
 use mathlib.Core.List.{List, [], _∷_, _++_}
-use Prim.Native.Nat.{ℕ, zero, suc, _+_, _-_, _<_, _≤_}
-use native.Mathlib.Nat.{sub-zero, zero-sub, suc-sub-suc}
+use Prim.Native.Nat.{ℕ, _+_, _-_, _<_, _≤_}
 use native.Mathlib.Omega.{arith}
 use native.Mathlib.Numerals.{add-one}
 use lib.Bits.{bitXor}

@@ -7,7 +7,7 @@ use Prim.Native.Nat.{ℕ, zero, suc, _+_, _-_, _<_, _≤_}
 use native.Mathlib.Numerals.{add-one}
 use native.Mathlib.Omega.{arith}
 use lib.ListN.{getD, length, take, drop, set, replicate, length-append, length-take, List·getD-eq-default}
-use lib.Seq.{getD-at, getD-append-add, getD-take, set-append-left, set-at, take-at, take-take, take-suc, length-take-le, drop-append-le, take-append-le}
+use lib.Seq.{getD-at, getD-append-add, getD-take, set-append-left, set-at, take-at, take-take, take-suc, length-take-le}
 use Rattle.laws.specs.Bytes.{bytesAt}
 use Rattle.laws.proofs.Order.{lt-or-ge}
 use Rattle.laws.proofs.Parts.{length-bytesAt, bytesAt-part, bytesAt-take}

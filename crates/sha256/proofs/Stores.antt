@@ -1,11 +1,10 @@
 -- SPDX-License-Identifier: MPL-2.0
 -- A padding, made by stores.
-use mathlib.Core.Path.{_≡_, _∙_, ap, refl}
+use mathlib.Core.Path.{_≡_}
 use mathlib.Core.List.{List, _∷_, _++_}
 use Prim.Native.Nat.{ℕ, _+_, _-_, _<_, _≤_}
-use native.Mathlib.Nat.{le-of-suc-le-suc, not-suc-le-zero}
 use native.Mathlib.Omega.{arith}
-use lib.ListN.{length, take, drop, set, replicate, length-append, length-replicate}
+use lib.ListN.{length, take, set, replicate, length-append, length-replicate}
 use lib.Seq.{sets, sets-eq, take-at}
 use Rattle.sha256.proofs.Keys.{zeros-split}
 
@@ -16,6 +15,6 @@ padding-by x z r bs p e er h l =
     let q = x ∷ replicate z 0 in
     let n : length q ≡ 1 + z = omega (arith, length-replicate {A = ℕ} z 0) in
     let m : length (q ++ bs) ≡ 9 + z = rw length-append (omega arith) in
-    let s : 1 + z + length bs ≤ length (q ++ replicate (71 - z) 0) = omega (arith, length-append q (replicate (71 - z) 0), length-replicate {A = ℕ} (71 - z) 0) in
+    let s : 1 + z + length bs ≤ length (q ++ replicate (71 - z) 0) = rw length-append (omega (arith, length-replicate {A = ℕ} (71 - z) 0)) in
     rw (e, er, zeros-split z 71 (omega arith), sets-eq bs (q ++ replicate (71 - z) 0) (1 + z) s, take-at q (replicate (71 - z) 0) (1 + z) n)
     (take-at (q ++ bs) _ (9 + z) m)

@@ -1,7 +1,7 @@
 -- SPDX-License-Identifier: MPL-2.0
 -- Differences or-ed together are 0 exactly where there are none.
-use mathlib.Core.Path.{_≡_, _∙_, sym, ap, ap₂, refl}
-use mathlib.Core.Bool.{Bool, true, false, _&&_}
+use mathlib.Core.Path.{_≡_, _∙_, sym}
+use mathlib.Core.Bool.{_&&_}
 use mathlib.Core.List.{List}
 use Prim.Native.Nat.{ℕ, _+_, _<_}
 use native.Mathlib.Numerals.{add-one}
