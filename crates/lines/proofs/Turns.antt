@@ -1,21 +1,18 @@
 -- SPDX-License-Identifier: MPL-2.0
 -- Turns of a listing: each by its case, and one after the other.
 use Prim.Native.Nat.{ℕ, zero, suc, _+_, _-_, _/_, _≤_, _<_}
-use mathlib.Core.Path.{_≡_, refl, sym, ap, _∙_}
+use mathlib.Core.Path.{_≡_, refl}
 use mathlib.Core.List.{List}
-use mathlib.Core.Bool.{Bool, true, false, cond}
+use mathlib.Core.Bool.{Bool, true, false}
 use native.Mathlib.Omega.{arith}
 use native.Mathlib.Numerals.{sub-one}
-use lib.ListN.{length, take, drop, length-append, length-drop}
+use lib.ListN.{length, drop, length-append, length-drop}
 use lib.Dec.{ltb}
-use lib.Seq.{sets, length-sets}
+use lib.Seq.{sets}
 use Rattle.laws.proofs.Cases.{on}
 use Rattle.laws.proofs.Stores.{stored-twice}
 use Rattle.lines.specs.declared.listing.Listed.{Listed}
-use Rattle.lines.specs.declared.stream.Next.{Next}
-use Rattle.lines.specs.declared.stream.Next.the-variants.{Message, More, End}
-use Rattle.lines.specs.Stream.{ahead}
-use Rattle.lines.specs.Listing.{Turn, stops, turnBy, turnAt, Run, begun, behind, turn, manyTurns, list, listed, turned}
+use Rattle.lines.specs.Listing.{turnAt, Run, begun, turn, manyTurns, list, listed, turned}
 use Rattle.lines.proofs.Streams.{ahead-fits}
 
 -- A turn takes no more than there is.

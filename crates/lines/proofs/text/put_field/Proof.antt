@@ -8,21 +8,16 @@ use borrow.Author.Needs.{needs}
 use Rattle.lines.proofs.text.put_field.Statement.{statement}
 use Rattle.lines.proofs.text.put_field.Tie as tie
 
-put-digits-requires : tie.Need-put-digits-requires
-put-digits-requires c κs = omega (arith, few-digits (c .before .before .before .args .number))
-
-add-end : tie.Need-add-end
-add-end c = omega (arith, few-digits (c .before .before .before .before .before .before .args .number))
-
-add-result : tie.Need-add-result
-add-result c = omega (arith, few-digits (c .before .before .before .before .before .before .args .number))
-
-slice-write-out : tie.Need-slice-write-out
-slice-write-out c = rw (c .before .before .put-digits .ensures, length-sets)
-    (omega (arith, few-digits (c .before .before .before .before .before .before .args .number)))
-
-returns : tie.Need-returns
-returns c =
+pub put-field-spec : {M : Type 1} → statement M
+put-field-spec =
+    tie.close (tie.spec
+    _ (λ c κs. omega (arith, few-digits (c .before .before .before .args .number)))
+    (λ c. omega (arith, few-digits (c .before .before .before .before .before .before .args .number)))
+    (λ c.
+    rw (c .before .before .put-digits .ensures, length-sets)
+    (omega (arith, few-digits (c .before .before .before .before .before .before .args .number))))
+    (λ c. omega (arith, few-digits (c .before .before .before .before .before .before .args .number))) (λ c. search needs)
+    λ c.
     let put = c .before .before in
     let count = put .before .before in
     let a = count .before .before .args in (
@@ -31,7 +26,4 @@ returns c =
         omega (arith, length-field (a .number) (a .behind)),
         field-put _ _ _ _ (a .behind) _ (count .digit-count .ensures) (put .put-digits .ensures),
       ),
-    )
-
-pub put-field-spec : {M : Type 1} → statement M
-put-field-spec = tie.close (tie.spec _ put-digits-requires add-end slice-write-out add-result (λ c. search needs) returns)
+    ))
