@@ -65,7 +65,11 @@ module _ (stream : List ℕ) (ended : Bool) (out₀ : List ℕ) where
           holds = stored-twice (b .text) (s .line) out₀ 0 (length (b .text)) (r .holds) (rw (long, r .is) at q) (omega arith);
           leads = rw (← many-more stream ended (length out₀) turns b h (rw (r .is) at g)) (r .leads);
           within = omega (
-            arith, r .within, turnAt-fits (drop (b .read) stream) ended (length out₀) (length (b .text)), length-drop (b .read) stream);
+            arith,
+            r .within,
+            turnAt-fits (drop (b .read) stream) ended (length out₀) (length (b .text)),
+            length-drop (b .read) stream,
+          );
         }
 
     abbrev Whole : Type 0
