@@ -1,110 +1,88 @@
 -- SPDX-License-Identifier: MPL-2.0
--- Ch and Maj by fewer operations than the standard writes, on words of any width: bit by bit, by computing.
-use mathlib.Core.Path.{_≡_, refl}
+-- Ch and Maj by fewer operations than the standard writes, on words of any width. A term of ⊕ and ∧ is known by its half and its last bit, so
+-- two that agree on bits agree on words.
+use mathlib.Core.Path.{_≡_, refl, sym}
+use mathlib.Core.List.{List, [], _∷_, map}
 use Prim.Native.Nat.{ℕ, zero, suc, _-_, _*_, _/_, _%_, _^_, _<_}
 use native.Mathlib.Nat.{mod-lt, zero-lt-suc, pow-suc}
 use native.Mathlib.Omega.{arith}
 use lib.Bits.{bitAnd, bitXor, and-shr, xor-shr, and-mod, xor-mod}
+use lib.ListN.{getD, List·getD-map}
 
--- The operations, shut: they are known by their halves and their last bits.
-xor : ℕ → ℕ → ℕ
-xor a b = bitXor a b
+-- The terms over words, which they name by their place.
+data Term : Type 0 where
+  word : ℕ → Term
+  xor : Term → Term → Term
+  and : Term → Term → Term
 
-and : ℕ → ℕ → ℕ
-and a b = bitAnd a b
+eval : List ℕ → Term → ℕ
+eval w (word i) = getD w i 0
+eval w (xor s t) = bitXor (eval w s) (eval w t)
+eval w (and s t) = bitAnd (eval w s) (eval w t)
 
-xor-half : (a b : ℕ) → xor a b / 2 ≡ xor (a / 2) (b / 2)
-unfolding xor
-xor-half a b = xor-shr a b 1
+module _ (f : ℕ → ℕ) (none : f 0 ≡ 0) (xors : (a b : ℕ) → f (bitXor a b) ≡ bitXor (f a) (f b))
+    (ands : (a b : ℕ) → f (bitAnd a b) ≡ bitAnd (f a) (f b)) where
+  eval-map : (w : List ℕ) (t : Term) → f (eval w t) ≡ eval (map f w) t
+  unfolding eval
+  eval-map w (word i) = sym (rw none at (List·getD-map f w i 0))
+  eval-map w (xor s t) = rw (xors (eval w s) (eval w t), eval-map w s, eval-map w t)
+  eval-map w (and s t) = rw (ands (eval w s) (eval w t), eval-map w s, eval-map w t)
 
-and-half : (a b : ℕ) → and a b / 2 ≡ and (a / 2) (b / 2)
-unfolding and
-and-half a b = and-shr a b 1
+half : (w : List ℕ) (t : Term) → eval w t / 2 ≡ eval (map (λ a. a / 2) w) t
+half = eval-map (λ a. a / 2) refl (λ a b. xor-shr a b 1) (λ a b. and-shr a b 1)
 
-xor-odd : (a b : ℕ) → xor a b % 2 ≡ xor (a % 2) (b % 2)
-unfolding xor
-xor-odd a b = xor-mod a b 1
-
-and-odd : (a b : ℕ) → and a b % 2 ≡ and (a % 2) (b % 2)
-unfolding and
-and-odd a b = and-mod a b 1
+odd : (w : List ℕ) (t : Term) → eval w t % 2 ≡ eval (map (λ a. a % 2) w) t
+odd = eval-map (λ a. a % 2) refl (λ a b. xor-mod a b 1) (λ a b. and-mod a b 1)
 
 bit : (P : ℕ → Type 0) → P 0 → P 1 → (n : ℕ) → n < 2 → P n
 bit P p q zero h = p
 bit P p q (suc zero) h = q
 bit P p q (suc (suc n)) h = absurd (omega arith)
 
--- three bits, case by case
-bits : (P : ℕ → ℕ → ℕ → Type 0) → P 0 0 0 → P 0 0 1 → P 0 1 0 → P 0 1 1 → P 1 0 0 → P 1 0 1 → P 1 1 0 → P 1 1 1
-    → (x y z : ℕ) → x < 2 → y < 2 → z < 2 → P x y z
-bits P a b c d e f g h x y z hx hy hz =
-    bit (λ (x : ℕ). P x y z)
-    (bit (λ (y : ℕ). P 0 y z) (bit (λ (z : ℕ). P 0 0 z) a b z hz) (bit (λ (z : ℕ). P 0 1 z) c d z hz) y hy)
-    (bit (λ (y : ℕ). P 1 y z) (bit (λ (z : ℕ). P 1 0 z) e f z hz) (bit (λ (z : ℕ). P 1 1 z) g h z hz) y hy) x hx
-
--- Numbers with the same half and the same last bit.
-from-half : (a b : ℕ) → a / 2 ≡ b / 2 → a % 2 ≡ b % 2 → a ≡ b
-from-half a b p q = omega arith
-
 last : (a : ℕ) → a % 2 < 2
 last a = mod-lt a (zero-lt-suc 1)
 
-maj-short : ℕ → ℕ → ℕ → ℕ
-maj-short x y z = xor (and (xor x y) (xor y z)) y
+-- Two terms over a word x, its complement n, and y and z.
+module _ (s t : Term) where
+  abbrev Same : ℕ → ℕ → ℕ → ℕ → Type 0
+  Same x n y z = eval (x ∷ n ∷ y ∷ z ∷ []) s ≡ eval (x ∷ n ∷ y ∷ z ∷ []) t
 
-maj-long : ℕ → ℕ → ℕ → ℕ
-maj-long x y z = xor (xor (and x y) (and x z)) (and y z)
+  module _ (none : Same 0 0 0 0) (a : Same 0 1 0 0) (b : Same 0 1 0 1) (c : Same 0 1 1 0) (d : Same 0 1 1 1)
+      (e : Same 1 0 0 0) (f : Same 1 0 0 1) (g : Same 1 0 1 0) (h : Same 1 0 1 1) where
+    on-bits : (x y z : ℕ) → x < 2 → y < 2 → z < 2 → Same x (1 - x) y z
+    on-bits x y z hx hy hz =
+        bit (λ (x : ℕ). Same x (1 - x) y z)
+        (bit (λ (y : ℕ). Same 0 1 y z) (bit (λ (z : ℕ). Same 0 1 0 z) a b z hz) (bit (λ (z : ℕ). Same 0 1 1 z) c d z hz) y hy)
+        (bit (λ (y : ℕ). Same 1 0 y z) (bit (λ (z : ℕ). Same 1 0 0 z) e f z hz) (bit (λ (z : ℕ). Same 1 0 1 z) g h z hz) y hy) x hx
 
-maj-bit : (x y z : ℕ) → x < 2 → y < 2 → z < 2 → maj-short x y z ≡ maj-long x y z
-unfolding maj-short maj-long xor and
-maj-bit = bits (λ (x y z : ℕ). maj-short x y z ≡ maj-long x y z) refl refl refl refl refl refl refl refl
+    on-words : (k x n y z : ℕ) → x < 2 ^ k → y < 2 ^ k → z < 2 ^ k → n ≡ (2 ^ k - 1) - x → Same x n y z
+    on-words zero x n y z hx hy hz p =
+        let ex : x ≡ 0 = omega arith in
+        let en : n ≡ 0 = omega arith in
+        let ey : y ≡ 0 = omega arith in
+        let ez : z ≡ 0 = omega arith in
+        rw (ex, en, ey, ez) none
+    on-words (suc k) x n y z hx hy hz p =
+        let w = x ∷ n ∷ y ∷ z ∷ [] in
+        let q : 2 ^ suc k ≡ 2 ^ k * 2 = pow-suc 2 k in
+        let o : n % 2 ≡ 1 - x % 2 = omega arith in
+        let halves : eval w s / 2 ≡ eval w t / 2 =
+        rw (half w s, half w t) (on-words k (x / 2) (n / 2) (y / 2) (z / 2) (omega arith) (omega arith) (omega arith) (omega arith)) in
+        let bits : eval w s % 2 ≡ eval w t % 2 = rw (odd w s, odd w t, o) (on-bits (x % 2) (y % 2) (z % 2) (last x) (last y) (last z)) in
+        omega (arith, halves, bits)
 
-majs : (k x y z : ℕ) → x < 2 ^ k → y < 2 ^ k → z < 2 ^ k → maj-short x y z ≡ maj-long x y z
-unfolding maj-short maj-long
-majs zero x y z hx hy hz = maj-bit x y z (omega arith) (omega arith) (omega arith)
-majs (suc k) x y z hx hy hz =
-    let p : 2 ^ suc k ≡ 2 ^ k * 2 = pow-suc 2 k in
-    from-half (maj-short x y z) (maj-long x y z)
-    (simp (xor-half, and-half) (majs k (x / 2) (y / 2) (z / 2) (omega arith) (omega arith) (omega arith)))
-    (simp (xor-odd, and-odd) (maj-bit (x % 2) (y % 2) (z % 2) (last x) (last y) (last z)))
+module _ (k x y z : ℕ) (hx : x < 2 ^ k) (hy : y < 2 ^ k) (hz : z < 2 ^ k) where
+  -- ((x ⊕ y) ∧ (y ⊕ z)) ⊕ y = (x ∧ y) ⊕ (x ∧ z) ⊕ (y ∧ z)
+  pub maj-by : bitXor (bitAnd (bitXor x y) (bitXor y z)) y ≡ bitXor (bitXor (bitAnd x y) (bitAnd x z)) (bitAnd y z)
+  unfolding eval
+  maj-by =
+      on-words (xor (and (xor (word 0) (word 2)) (xor (word 2) (word 3))) (word 2))
+      (xor (xor (and (word 0) (word 2)) (and (word 0) (word 3))) (and (word 2) (word 3)))
+      refl refl refl refl refl refl refl refl refl k x _ y z hx hy hz refl
 
--- ((x ⊕ y) ∧ (y ⊕ z)) ⊕ y = (x ∧ y) ⊕ (x ∧ z) ⊕ (y ∧ z)
-pub maj-by : (k x y z : ℕ) → x < 2 ^ k → y < 2 ^ k → z < 2 ^ k
-    → bitXor (bitAnd (bitXor x y) (bitXor y z)) y ≡ bitXor (bitXor (bitAnd x y) (bitAnd x z)) (bitAnd y z)
-unfolding maj-short maj-long xor and
-maj-by k x y z hx hy hz = majs k x y z hx hy hz
-
-ch-short : ℕ → ℕ → ℕ → ℕ
-ch-short x y z = xor z (and x (xor y z))
-
-ch-long : ℕ → ℕ → ℕ → ℕ → ℕ
-ch-long x n y z = xor (and x y) (and n z)
-
-ch-bit : (x y z : ℕ) → x < 2 → y < 2 → z < 2 → ch-short x y z ≡ ch-long x (1 - x) y z
-unfolding ch-short ch-long xor and
-ch-bit = bits (λ (x y z : ℕ). ch-short x y z ≡ ch-long x (1 - x) y z) refl refl refl refl refl refl refl refl
-
-ch-none : ch-short 0 0 0 ≡ ch-long 0 0 0 0
-unfolding ch-short ch-long xor and
-ch-none = refl
-
-chs : (k x n y z : ℕ) → x < 2 ^ k → y < 2 ^ k → z < 2 ^ k → n ≡ (2 ^ k - 1) - x → ch-short x y z ≡ ch-long x n y z
-unfolding ch-short ch-long
-chs zero x n y z hx hy hz e =
-    let ex : x ≡ 0 = omega arith in
-    let en : n ≡ 0 = omega arith in
-    let ey : y ≡ 0 = omega arith in
-    let ez : z ≡ 0 = omega arith in
-    rw (ex, en, ey, ez) ch-none
-chs (suc k) x n y z hx hy hz e =
-    let p : 2 ^ suc k ≡ 2 ^ k * 2 = pow-suc 2 k in
-    let o : n % 2 ≡ 1 - x % 2 = omega arith in
-    from-half (ch-short x y z) (ch-long x n y z)
-    (simp (xor-half, and-half) (chs k (x / 2) (n / 2) (y / 2) (z / 2) (omega arith) (omega arith) (omega arith) (omega arith)))
-    (simp (xor-odd, and-odd) (rw o (ch-bit (x % 2) (y % 2) (z % 2) (last x) (last y) (last z))))
-
--- z ⊕ (x ∧ (y ⊕ z)) = (x ∧ y) ⊕ (¬x ∧ z)
-pub ch-by : (k x y z : ℕ) → x < 2 ^ k → y < 2 ^ k → z < 2 ^ k
-    → bitXor z (bitAnd x (bitXor y z)) ≡ bitXor (bitAnd x y) (bitAnd ((2 ^ k - 1) - x) z)
-unfolding ch-short ch-long xor and
-ch-by k x y z hx hy hz = chs k x ((2 ^ k - 1) - x) y z hx hy hz refl
+  -- z ⊕ (x ∧ (y ⊕ z)) = (x ∧ y) ⊕ (¬x ∧ z)
+  pub ch-by : bitXor z (bitAnd x (bitXor y z)) ≡ bitXor (bitAnd x y) (bitAnd ((2 ^ k - 1) - x) z)
+  unfolding eval
+  ch-by =
+      on-words (xor (word 3) (and (word 0) (xor (word 2) (word 3)))) (xor (and (word 0) (word 2)) (and (word 1) (word 3)))
+      refl refl refl refl refl refl refl refl refl k x _ y z hx hy hz refl

@@ -16,11 +16,6 @@ unfolding digits
 length-digits zero n = refl
 length-digits (suc k) n = rw length-append (omega (arith, length-digits k (n / 10)))
 
-digits-more : (k n : ℕ) → 0 < k → digits k n ≡ digits (k - 1) (n / 10) ++ ((48 + n % 10) ∷ [])
-unfolding digits
-digits-more zero n h = absurd (omega arith)
-digits-more (suc k) n h = rw sub-one
-
 -- A store after a run may as well come before it.
 sets-set : (vs l : List ℕ) (i j a : ℕ) → i + length vs ≤ j → sets (set l j a) i vs ≡ set (sets l i vs) j a
 sets-set [] l i j a h = refl
@@ -31,12 +26,12 @@ sets-set (v ∷ vs) l i j a h =
 -- One digit less is left to be put.
 pub put-last : (out : List ℕ) (at k n d : ℕ) → 0 < k → d ≡ 48 + n % 10
     → sets (set out (at + (k - 1)) d) at (digits (k - 1) (n / 10)) ≡ sets out at (digits k n)
-put-last out at k n d h e =
-    let ds = digits (k - 1) (n / 10) in
-    let long : length ds ≡ k - 1 = length-digits (k - 1) (n / 10) in
-    let fits : at + length ds ≤ at + (k - 1) = omega arith in
-    rw (sets-set ds out at (at + (k - 1)) d fits, digits-more k n h, e)
-    (sets-sets ds ((48 + n % 10) ∷ []) out at (at + (k - 1)) (omega arith))
+unfolding digits
+put-last out at zero n d h e = absurd (omega arith)
+put-last out at (suc k) n d h e =
+    let ds = digits k (n / 10) in
+    let long : length ds ≡ k = length-digits k (n / 10) in
+    rw (sub-one, sets-set ds out at (at + k) d (omega arith), e) (sets-sets ds ((48 + n % 10) ∷ []) out at (at + k) (omega arith))
 
 -- A number below 2^32 has at most ten digits.
 pub few-digits : (n : ℕ) → digitCount n ≤ 10

@@ -1,6 +1,6 @@
 -- SPDX-License-Identifier: MPL-2.0
 -- The digest of three parts, after `front`, which was hashed already.
-use mathlib.Core.Path.{_≡_, _∙_, sym, ap}
+use mathlib.Core.Path.{_≡_}
 use mathlib.Core.Bool.{Bool, true, false}
 use mathlib.Core.List.{List, _++_, append-assoc}
 use Prim.Native.Nat.{ℕ, _+_, _^_}
@@ -23,15 +23,8 @@ module _ (front first second third : List ℕ) (done : ℕ) (fits : Bool) (l : l
       → r ≡ bytesOf (hashed v ((first ++ (second ++ third)) ++ padding (done + count first second third)))
       → r ≡ digest (front ++ (first ++ (second ++ third)))
   unfolding digest
-  digest-by v r after t e =
-      rw (total, ← f, t, append-assoc front) (e ∙ ap bytesOf (sym (after _)))
+  digest-by v r after t e = rw (total, ← f, t, append-assoc front, after) e
 
   pub digest-none : fits ≡ false → replicate 32 0 ≡ digest (front ++ (first ++ (second ++ third)))
   unfolding digest
   digest-none t = rw (total, ← f, t)
-
--- the padding is a fourth part
-pub finish-by : (v h : Vars) (first second third part pad r : List ℕ) → r ≡ bytesOf h → h ≡ hashed v (first ++ (second ++ (third ++ part)))
-    → part ≡ pad
-    → r ≡ bytesOf (hashed v ((first ++ (second ++ third)) ++ pad))
-finish-by v h first second third part pad r p q e = rw (p, q, e) (simp append-assoc)

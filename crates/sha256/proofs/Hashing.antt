@@ -1,17 +1,17 @@
 -- SPDX-License-Identifier: MPL-2.0
 -- A block's words, the blocks of a message, and of a message after a block that was hashed already.
-use mathlib.Core.Path.{_≡_, _∙_, ap, ap₂, refl}
+use mathlib.Core.Path.{_≡_, _∙_, ap, refl}
 use mathlib.Core.List.{List, [], _++_}
 use Prim.Native.Nat.{ℕ, zero, suc, _+_, _*_, _/_, _<_}
 use native.Mathlib.Numerals.{add-one}
 use native.Mathlib.Omega.{arith}
-use lib.ListN.{getD, length, take, set, length-append}
-use lib.Seq.{take-suc-set, getD-append-add}
+use lib.ListN.{length, take, set, length-append}
+use lib.Seq.{take-suc-set}
 use Rattle.laws.specs.Bytes.{be32, bytesAt}
 use Rattle.laws.proofs.Parts.{part-back}
 use Rattle.compression.specs.declared.Vars.{Vars}
 use Rattle.sha256.specs.Digests.{words, afterBlock, blocks, hashed}
-use Rattle.sha256.proofs.Laying.{bytesAt-eq}
+use Rattle.sha256.proofs.Laying.{bytesAt-past}
 
 -- one word more of a block
 pub words-more : (block w : List ℕ) (n r : ℕ) → n < length w → take n w ≡ words block n → r ≡ be32 block (4 * n)
@@ -27,11 +27,7 @@ blocks-more v x r m n p q = rw add-one (cc)
 blocks-after : (v : Vars) (b m : List ℕ) → length b ≡ 64 → (n : ℕ) → blocks v (b ++ m) (suc n) ≡ blocks (afterBlock v b) m n
 unfolding blocks
 blocks-after v b m l zero = ap (afterBlock v) (part-back [] b m 0 64 refl l)
-blocks-after v b m l (suc n) =
-    ap₂ afterBlock (blocks-after v b m l n) (bytesAt-eq (b ++ m) m (64 * suc n) (64 * n) 64
-    (λ k p.
-    let e : 64 * suc n + k ≡ length b + (64 * n + k) = omega arith in
-    ap (λ (i : ℕ). getD (b ++ m) i 0) e ∙ getD-append-add b m (64 * n + k) 0))
+blocks-after v b m l (suc n) = rw (blocks-after v b m l n, bytesAt-past b m (64 * suc n) (64 * n) 64 (omega arith))
 
 -- a message after one block, from the hash value after that block
 pub hashed-after : (v : Vars) (b m : List ℕ) → length b ≡ 64 → hashed v (b ++ m) ≡ hashed (afterBlock v b) m

@@ -3,13 +3,14 @@
 use Prim.Native.Nat.{ℕ, _+_, _≤_}
 use mathlib.Core.Path.{_≡_, refl, sym, _∙_}
 use mathlib.Core.List.{List, [], _∷_, _++_, append-assoc, append-nil}
-use mathlib.Core.Bool.{Bool, true, false}
+use mathlib.Core.Bool.{true, false}
 use native.Mathlib.Omega.{arith}
 use borrow.Author.Tests.{le-leb, eq-eqb, eqb-true}
-use lib.ListN.{length, length-append}
+use lib.ListN.{length, take, length-append}
 use lib.Dec.{eqb}
 use Rattle.laws.specs.Bytes.{be16, be32, bytesAt, bytes16, bytes32}
 use Rattle.laws.proofs.Bools.{or-true}
+use Rattle.laws.proofs.Cases.{on}
 use Rattle.laws.proofs.Numbers.{be16-at, be32-at}
 use Rattle.laws.proofs.Parts.{part-back}
 use Rattle.wire.specs.Payload.{exchanges, isConnectionRequest, isConnectionResponse, isShaped, badPayload, readRequest}
@@ -46,15 +47,8 @@ pub record Whole (r : Request) : Type 0 where
   pub y : length (r .y) ≡ 32
 
 module _ (mode connect code : ℕ) (r : Request) (w : Whole r) where
-  abbrev front : List ℕ
-  front = coded mode connect code ++ bytes16 32
-
   abbrev bytes : List ℕ
   bytes = coded mode connect code ++ exchangeBytes r
-
-  length-bytes : length bytes ≡ 86
-  unfolding exchangeBytes
-  length-bytes = simp length-append (omega (arith, w .nonce, w .x, w .y))
 
   -- The lengths, and the arrays, each at its place.
   parts : (be32 bytes 14 ≡ 16384) × (be16 bytes 18 ≡ 32) × (be16 bytes 52 ≡ 32) × (bytesAt bytes 6 8 ≡ r .nonce) × (bytesAt bytes 20 32 ≡ r .x)
@@ -62,7 +56,7 @@ module _ (mode connect code : ℕ) (r : Request) (w : Whole r) where
   unfolding exchangeBytes
   parts =
       let rest = bytes32 16384 ++ (bytes16 32 ++ (r .x ++ (bytes16 32 ++ (r .y ++ [])))) in
-      let n : At bytes 6 (r .nonce ++ rest) = record { front = front; is = simp (append-assoc, append-nil); place = refl } in
+      let n : At bytes 6 (r .nonce ++ rest) = record { front = take 6 bytes; is = simp (append-assoc, append-nil); place = refl } in
       let size = past (r .nonce) n (w .nonce) in
       let x-size = past (bytes32 16384) size refl in
       let x = past (bytes16 32) x-size refl in
@@ -70,13 +64,11 @@ module _ (mode connect code : ℕ) (r : Request) (w : Whole r) where
       let y = past (bytes16 32) y-size refl in
       (at32 size, at16 x-size, at16 y-size, part (r .nonce) _ 8 n (w .nonce), part (r .x) _ 32 x (w .x), part (r .y) _ 32 y (w .y))
 
-  hmac-size : be16 bytes 4 ≡ 32
-  unfolding exchangeBytes
-  hmac-size = refl
-
   exchanges-back : exchanges bytes ≡ true
-  unfolding exchanges
-  exchanges-back = rw (eq-eqb (length bytes) 86 length-bytes, hmac-size, parts .0, parts .1, parts .2)
+  unfolding exchanges exchangeBytes
+  exchanges-back =
+      let n : length bytes ≡ 86 = simp length-append (omega (arith, w .nonce, w .x, w .y)) in
+      rw (eq-eqb (length bytes) 86 n, parts .0, parts .1, parts .2)
 
   -- Nonce, X and Y are read back.
   pub request-back : readRequest bytes ≡ r
@@ -90,8 +82,7 @@ module _ (mode : ℕ) (h : mode ≤ 2) (r : Request) (w : Whole r) where
 
   pub response-good : (result : ℕ) → result ≤ 3 → badPayload 2 false (connectionResponse mode result r) ≡ false
   unfolding badPayload isShaped isConnectionResponse connectionResponse
-  response-good result k = by (eqb result 1) refl
-    where
-      by : (b : Bool) → eqb result 1 ≡ b → badPayload 2 false (connectionResponse mode result r) ≡ false
-      by true e = rw (e, eqb-true result 1 e, starts-back mode 1 (1 ∷ exchangeBytes r) h, exchanges-back mode 1 1 r w, or-true)
-      by false e = rw (e, starts-back mode 1 (result ∷ []) h, le-leb result 3 k, or-true)
+  response-good result k =
+      on (eqb result 1)
+      (λ e. rw (e, eqb-true result 1 e, starts-back mode 1 (1 ∷ exchangeBytes r) h, exchanges-back mode 1 1 r w, or-true))
+      (λ e. rw (e, starts-back mode 1 (result ∷ []) h, le-leb result 3 k, or-true))

@@ -8,17 +8,14 @@ use native.Mathlib.Nat.{div-add-mod'}
 use borrow.Author.Tests.{le-leb, eq-eqb}
 use Rattle.laws.specs.Bytes.{bytes16}
 use Rattle.laws.proofs.Bools.{or-true}
-use Rattle.wire.specs.Payload.{starts, isPresenceRequest, isDoneRequest, isDoneResponse, isShaped, badPayload, connectType, codeOf}
+use Rattle.wire.specs.Payload.{starts, isPresenceRequest, isDoneRequest, isDoneResponse, isShaped, badPayload, codeOf}
 use Rattle.writer.specs.Payload.{coded, presenceRequest, doneRequest, doneResponse}
 
 pub starts-back : (mode connect : ℕ) (rest : List ℕ) → mode ≤ 2 → starts connect (bytes16 mode ++ (connect ∷ rest)) ≡ true
 unfolding starts
 starts-back mode connect rest h = rw (div-add-mod' mode 256, le-leb mode 2 h, eq-eqb connect connect refl)
 
--- The type, and the byte after it, are read back.
-pub type-back : (mode connect : ℕ) (rest : List ℕ) → connectType (bytes16 mode ++ (connect ∷ rest)) ≡ connect
-type-back mode connect rest = refl
-
+-- The byte after the type is read back.
 pub result-back : (mode connect code : ℕ) (rest : List ℕ) → codeOf (coded mode connect code ++ rest) ≡ code
 result-back mode connect code rest = refl
 

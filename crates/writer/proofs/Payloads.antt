@@ -1,32 +1,17 @@
 -- SPDX-License-Identifier: MPL-2.0
--- The parts of a payload as they are stored one after the other, its length, and what its tests make sure of.
+-- The length of a Device Authentication payload, and what its tests make sure of.
 use Prim.Native.Nat.{ℕ, _+_, _≤_}
 use mathlib.Core.Path.{_≡_}
-use mathlib.Core.List.{List, [], _∷_, _++_, append-assoc}
+use mathlib.Core.List.{List}
 use mathlib.Core.Bool.{Bool, false, not, _&&_, _||_}
 use native.Mathlib.Omega.{arith}
 use borrow.Author.Tests.{ltb-false, eqb-false}
 use lib.ListN.{length, length-append}
 use lib.Dec.{ltb, eqb}
-use Rattle.laws.specs.Bytes.{bytes16, bytes32}
 use Rattle.laws.proofs.Bools.{or-false, or4-false}
-use Rattle.wire.specs.declared.payload.Request.{Request}
-use Rattle.writer.specs.Payload.{badMode, exchangeBytes, badDevice, deviceAuthentication}
-
-regroup : (a b c d e f g : List ℕ) → (((a ++ b) ++ c) ++ (d ++ e)) ++ (f ++ g) ≡ a ++ b ++ c ++ d ++ e ++ f ++ g
-regroup a b c d e f g = simp append-assoc
-
-pub exchange-stored : (r : Request) → (((bytes16 32 ++ r .nonce) ++ bytes32 16384) ++ (bytes16 32 ++ r .x)) ++ (bytes16 32 ++ r .y) ≡ exchangeBytes r
-unfolding exchangeBytes
-exchange-stored r = regroup (bytes16 32) (r .nonce) (bytes32 16384) (bytes16 32) (r .x) (bytes16 32) (r .y)
+use Rattle.writer.specs.Payload.{badMode, badDevice, deviceAuthentication}
 
 module _ (connect mode : ℕ) (certificate thumbprint : List ℕ) where
-  pub device-stored : ((((bytes16 mode ++ (connect ∷ [])) ++ bytes16 (length certificate)) ++ certificate) ++ bytes16 (length thumbprint))
-      ++ thumbprint
-      ≡ deviceAuthentication connect mode certificate thumbprint
-  unfolding deviceAuthentication
-  device-stored = simp append-assoc
-
   pub length-device : length (deviceAuthentication connect mode certificate thumbprint) ≡ 7 + length certificate + length thumbprint
   unfolding deviceAuthentication
   length-device = simp length-append (omega arith)

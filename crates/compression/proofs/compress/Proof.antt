@@ -5,9 +5,6 @@ use Rattle.compression.specs.Compression.{compress}
 use Rattle.compression.proofs.compress.Statement.{statement}
 use Rattle.compression.proofs.compress.Tie as tie
 
-returns : tie.Need-returns
-unfolding compress
-returns c = rw (c .added .ensures, c .before .all-rounds .ensures)
-
 pub compress-spec : {M : Type 1} → statement M
-compress-spec = tie.close (tie.spec (λ c κs. search needs) _ returns)
+unfolding compress
+compress-spec = tie.close (tie.spec (λ c κs. search needs) _ λ c. rw (c .added .ensures, c .before .all-rounds .ensures))

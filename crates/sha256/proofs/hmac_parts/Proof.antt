@@ -5,13 +5,9 @@ use Rattle.sha256.specs.Macs.{hmac}
 use Rattle.sha256.proofs.hmac_parts.Statement.{statement}
 use Rattle.sha256.proofs.hmac_parts.Tie as tie
 
-returns : tie.Need-returns
-unfolding hmac
-returns c =
-    let i = c .before .before .before in
-    rw (c .outer-digest .ensures, i .inner-digest .ensures, i .before .before .key-block .ensures)
-
 pub hmac-parts-spec : {M : Type 1} → statement M
+unfolding hmac
 hmac-parts-spec =
-    tie.close (tie.spec
-    _ (λ c κs. search needs) (λ c. search needs) (λ c κs. search needs) returns)
+    tie.close (tie.spec _ (λ c κs. search needs) (λ c. search needs) (λ c κs. search needs) λ c.
+    let i = c .before .before .before in
+    rw (c .outer-digest .ensures, i .inner-digest .ensures, i .before .before .key-block .ensures))

@@ -4,8 +4,7 @@ use borrow.Author.Needs.{needs}
 use Rattle.sha256.proofs.inner_digest.Statement.{statement}
 use Rattle.sha256.proofs.inner_digest.Tie as tie
 
-returns : tie.Need-returns
-returns c = rw (c .digest-after .ensures, c .before .before .masked .ensures)
-
 pub inner-digest-spec : {M : Type 1} → statement M
-inner-digest-spec = tie.close (tie.spec (λ c κs. search needs) (λ c. search needs) (λ c κs. search needs) returns)
+inner-digest-spec =
+    tie.close (tie.spec (λ c κs. search needs) (λ c. search needs) (λ c κs. search needs)
+    λ c. rw (c .digest-after .ensures, c .before .before .masked .ensures))

@@ -4,11 +4,9 @@ use borrow.Author.Needs.{needs}
 use Rattle.sha256.proofs.outer_digest.Statement.{statement}
 use Rattle.sha256.proofs.outer_digest.Tie as tie
 
-returns : tie.Need-returns
-returns c = rw (c .digest-after .ensures, c .before .before .before .before .masked .ensures)
-
 pub outer-digest-spec : {M : Type 1} → statement M
 outer-digest-spec =
     tie.close (tie.spec
     (λ c κs. search needs) (λ c. search needs) (λ c. search needs) (λ c. search needs) (λ c. search needs)
-    (λ c. search needs) (λ c. search needs) (λ c. search needs) (λ c κs. search needs) returns)
+    (λ c. search needs) (λ c. search needs) (λ c. search needs) (λ c κs. search needs)
+    λ c. rw (c .digest-after .ensures, c .before .before .before .before .masked .ensures))

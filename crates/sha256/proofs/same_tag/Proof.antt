@@ -7,11 +7,7 @@ use Rattle.laws.proofs.Sames.{same-length}
 use Rattle.sha256.proofs.same_tag.Statement.{statement}
 use Rattle.sha256.proofs.same_tag.Tie as tie
 
-returns-2 : tie.Need-returns-2
-returns-2 c =
-    let a = c .before .before .args in
-    sym (same-length (a .t1) (a .theirs .now) (λ e. c .if1 .left (omega arith)))
-
 pub same-tag-spec : {M : Type 1} → statement M
 same-tag-spec =
-    tie.close (tie.spec (λ c. search needs) (λ c κs. search needs) (λ c. search needs) returns-2)
+    tie.close (tie.spec (λ c. search needs) (λ c κs. search needs) (λ c. search needs)
+    λ c. sym (same-length (c .before .before .args .t1) _ λ e. c .if1 .left (omega arith)))

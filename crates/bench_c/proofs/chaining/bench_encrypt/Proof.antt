@@ -4,14 +4,9 @@ use borrow.Author.Needs.{needs}
 use Rattle.bench_c.proofs.chaining.bench_encrypt.Statement.{statement}
 use Rattle.bench_c.proofs.chaining.bench_encrypt.Tie as tie
 
-returns : tie.Need-returns
-returns c =
-    let k = c .before .before .before .before .before in
-    rw (← (k .before .before .load-block .ensures), ← (k .before .expand-key .ensures), ← (k .load-block2 .ensures))
-    (c .before .before .cbc-encrypt .ensures)
-
 pub bench-encrypt-spec : {M : Type 1} → statement M
 bench-encrypt-spec =
-    tie.close (tie.spec
-    (λ c κs. search needs) (λ c κs. search needs) (λ c κs. search needs) (λ c κs. search needs) (λ c. search needs)
-    returns)
+    tie.close (tie.spec (λ c κs. search needs) (λ c κs. search needs) (λ c κs. search needs) (λ c κs. search needs) (λ c. search needs) λ c.
+    let k = c .before .before .before .before .before in
+    rw (← (k .before .before .load-block .ensures), ← (k .before .expand-key .ensures), ← (k .load-block2 .ensures))
+    (c .before .before .cbc-encrypt .ensures))

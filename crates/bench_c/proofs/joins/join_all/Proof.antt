@@ -1,7 +1,7 @@
 -- SPDX-License-Identifier: MPL-2.0
 -- After i turns the first i pieces have come.
-use Prim.Native.Nat.{ℕ, _-_, _≤_}
-use mathlib.Core.Path.{_≡_, refl, ap, _∙_}
+use Prim.Native.Nat.{_-_, _≤_}
+use mathlib.Core.Path.{_≡_, refl}
 use native.Mathlib.Omega.{arith}
 use lib.ListN.{length}
 use Rattle.bench_c.specs.Course.{course}
@@ -17,26 +17,17 @@ Inv-loop size count source report₀ held₀ told₀ i₀ report held told i = (
 abbrev μ-loop : tie.MeasureT-loop
 μ-loop size count source report₀ held₀ told₀ i₀ report held told i = count - i
 
-loop-holds : tie.Need-loop-holds Inv-loop μ-loop
-unfolding course
-loop-holds c = (omega arith, refl, record { holds = c .expecting .ensures; stands = refl; says = refl })
-
-loop-again : tie.Need-loop-again Inv-loop μ-loop
-loop-again c =
-    let j = c .before .before .before .before in
-    let l = j .before .before .before .loop in
-    (omega arith, search needs, came-more _ _ _ _ _ (l .inv .2) _ _ _ (j .join-next .ensures .0) (j .join-next .ensures .1) (c .length-told .ensures))
-
-returns : tie.Need-returns Inv-loop μ-loop
-returns c =
-    let a = c .before .before .before .before .before .args in
-    let l = c .before .loop in
-    let e : l .i ≡ a .count = omega arith in
-    let so = course (a .size) (a .count) (a .source .now) (a .report .now) in
-    (l .inv .2 .says ∙ ap (λ (k : ℕ). so k .told) e, l .inv .2 .stands ∙ ap (λ (k : ℕ). so k .report) e)
-
 pub join-all-spec : {M : Type 1} → statement M
+unfolding course
 join-all-spec =
     tie.close (tie.spec
-    Inv-loop μ-loop (λ c κs. search needs) loop-holds (λ c κs. search needs) (λ c κs. search needs)
-    (λ c. search needs) (λ c. search needs) loop-again (λ c. search needs) returns)
+    Inv-loop μ-loop (λ c κs. search needs) (λ c. (omega arith, refl, record { holds = c .expecting .ensures; stands = refl; says = refl }))
+    (λ c κs. search needs) (λ c κs. search needs) (λ c. search needs) (λ c. search needs)
+    (λ c.
+    let j = c .before .before .before .before in
+    let came = j .before .before .before .loop .inv .2 in
+    (omega arith, search needs, came-more _ _ _ _ _ came _ _ _ (j .join-next .ensures .0) (j .join-next .ensures .1) (c .length-told .ensures)))
+    (λ c. search needs) λ c.
+    let l = c .before .loop in
+    let e : l .i ≡ c .before .before .before .before .before .args .count = omega arith in
+    (rw e at (l .inv .2 .says), rw e at (l .inv .2 .stands)))

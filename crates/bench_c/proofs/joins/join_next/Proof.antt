@@ -6,13 +6,9 @@ use borrow.Author.Needs.{needs}
 use Rattle.bench_c.proofs.joins.join_next.Statement.{statement}
 use Rattle.bench_c.proofs.joins.join_next.Tie as tie
 
-mul-part-at : tie.Need-mul-part-at
-mul-part-at c = let a = c .before .before .args in omega (arith, place-bound (a .size) (a .i) 64 (omega arith) (omega arith))
-
-returns : tie.Need-returns
-returns c = rw (← (c .before .before .before .before .part-at .ensures)) (c .before .before .join .ensures)
-
 pub join-next-spec : {M : Type 1} → statement M
 join-next-spec =
     tie.close (tie.spec
-    mul-part-at (λ c κs. search needs) (λ c κs. search needs) (λ c. search needs) returns)
+    (λ c. let a = c .before .before .args in omega (arith, place-bound (a .size) (a .i) 64 (omega arith) (omega arith)))
+    (λ c κs. search needs) (λ c κs. search needs) (λ c. search needs)
+    λ c. rw (← (c .before .before .before .before .part-at .ensures)) (c .before .before .join .ensures))

@@ -1,32 +1,25 @@
 -- SPDX-License-Identifier: MPL-2.0
 -- There is no byte from that place on, or no more are taken than there are.
 use Prim.Native.Nat.{_≤_}
-use mathlib.Core.Path.{_≡_, sym}
-use mathlib.Core.List.{[]}
+use mathlib.Core.Path.{sym}
 use native.Mathlib.Nat.{add-sub-cancel-left}
 use native.Mathlib.Omega.{arith}
 use lib.ListN.{length, drop, length-drop, drop-of-length-le}
-use lib.Seq.{take-all}
+use lib.Seq.{take-nil}
 use Rattle.joining.proofs.Places.{take-least}
 use borrow.Author.Needs.{needs}
 use Rattle.bench_c.proofs.joins.part_at.Statement.{statement}
 use Rattle.bench_c.proofs.joins.part_at.Tie as tie
 
-returns : tie.Need-returns
-returns c =
-    let a = c .before .before .before .args in
-    let behind : length (a .source .now) ≤ a .at = omega arith in
-    let none : drop (a .at) (a .source .now) ≡ [] = drop-of-length-le (a .source .now) behind in
-    rw none (sym (take-all (a .wanted) [] (omega arith)))
-
-returns-2 : tie.Need-returns-2
-returns-2 c =
-    let a = c .before .before .before .before .args in
-    rw (add-sub-cancel-left, c .before .lesser .ensures)
-    (take-least (a .wanted) (drop (a .at) (a .source .now)) _ (sym (length-drop (a .at) (a .source .now))))
-
 pub part-at-spec : {M : Type 1} → statement M
 part-at-spec =
     tie.close (tie.spec
-    (λ c. search needs) (λ c. search needs) (λ c. search needs) returns (λ c. search needs) (λ c κs. search needs)
-    (λ c. search needs) (λ c. search needs) (λ c. search needs) (λ c. search needs) returns-2)
+    (λ c. search needs) (λ c. search needs) (λ c. search needs)
+    (λ c.
+    let a = c .before .before .before .args in
+    let behind : length (a .source .now) ≤ a .at = omega arith in
+    rw (drop-of-length-le (a .source .now) behind) (sym (take-nil (a .wanted))))
+    (λ c. search needs) (λ c κs. search needs) (λ c. search needs) (λ c. search needs) (λ c. search needs) (λ c. search needs) λ c.
+    let a = c .before .before .before .before .args in
+    rw (add-sub-cancel-left, c .before .lesser .ensures)
+    (take-least (a .wanted) (drop (a .at) (a .source .now)) _ (sym (length-drop (a .at) (a .source .now)))))

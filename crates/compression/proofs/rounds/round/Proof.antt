@@ -4,11 +4,9 @@ use Rattle.compression.specs.Compression.{round}
 use Rattle.compression.proofs.rounds.round.Statement.{statement}
 use Rattle.compression.proofs.rounds.round.Tie as tie
 
-returns : tie.Need-returns
-unfolding round
-returns c =
-    let t2 = c .before .before in
-    rw (c .add2 .ensures, c .before .add .ensures, t2 .t2 .ensures, t2 .before .t1 .ensures)
-
 pub round-spec : {M : Type 1} → statement M
-round-spec = tie.close (tie.spec _ _ _ _ returns)
+unfolding round
+round-spec =
+    tie.close (tie.spec _ _ _ _ λ c.
+    let t2 = c .before .before in
+    rw (c .add2 .ensures, c .before .add .ensures, t2 .t2 .ensures, t2 .before .t1 .ensures))

@@ -4,9 +4,6 @@ use Rattle.compression.specs.Compression.{T2}
 use Rattle.compression.proofs.rounds.t2.Statement.{statement}
 use Rattle.compression.proofs.rounds.t2.Tie as tie
 
-returns : tie.Need-returns
-unfolding T2
-returns c = rw (c .add .ensures, c .before .maj .ensures, c .before .before .big-sigma0 .ensures)
-
 pub t2-spec : {M : Type 1} → statement M
-t2-spec = tie.close (tie.spec _ _ _ returns)
+unfolding T2
+t2-spec = tie.close (tie.spec _ _ _ λ c. rw (c .add .ensures, c .before .maj .ensures, c .before .before .big-sigma0 .ensures))

@@ -4,11 +4,9 @@ use Rattle.compression.specs.Compression.{mixed}
 use Rattle.compression.proofs.schedule.mixed.Statement.{statement}
 use Rattle.compression.proofs.schedule.mixed.Tie as tie
 
-returns : tie.Need-returns
-unfolding mixed
-returns c =
-    let s0 = c .before .before in
-    rw (c .add3 .ensures, c .before .add2 .ensures, s0 .small-sigma0 .ensures, s0 .before .add .ensures, s0 .before .before .small-sigma1 .ensures)
-
 pub mixed-spec : {M : Type 1} → statement M
-mixed-spec = tie.close (tie.spec _ _ _ _ _ returns)
+unfolding mixed
+mixed-spec =
+    tie.close (tie.spec _ _ _ _ _ λ c.
+    let s0 = c .before .before in
+    rw (c .add3 .ensures, c .before .add2 .ensures, s0 .small-sigma0 .ensures, s0 .before .add .ensures, s0 .before .before .small-sigma1 .ensures))

@@ -5,13 +5,10 @@ use Rattle.compression.specs.Compression.{nextWord}
 use Rattle.compression.proofs.schedule.put_word.Statement.{statement}
 use Rattle.compression.proofs.schedule.put_word.Tie as tie
 
-returns : tie.Need-returns
-unfolding nextWord
-returns c = rw (c .mixed .ensures)
-
 pub put-word-spec : {M : Type 1} → statement M
+unfolding nextWord
 put-word-spec =
     tie.close (tie.spec
     (λ c. search needs) (λ c. search needs) (λ c. search needs) (λ c. search needs) (λ c. search needs)
     (λ c. search needs) (λ c. search needs) (λ c. search needs) (λ c. search needs) (λ c. search needs)
-    (λ c. search needs) (λ c κs. search needs) (λ c. search needs) (λ c. search needs) (λ c. search needs) returns)
+    (λ c. search needs) (λ c κs. search needs) (λ c. search needs) (λ c. search needs) (λ c. search needs) λ c. rw (c .mixed .ensures))

@@ -4,9 +4,6 @@ use Rattle.compression.specs.Words.{plus}
 use Rattle.compression.proofs.word.add.Statement.{statement}
 use Rattle.compression.proofs.word.add.Tie as tie
 
-returns : tie.Need-returns
-unfolding plus
-returns c = c .wrapping-add-u32 .ensures
-
 pub add-spec : {M : Type 1} → statement M
-add-spec = tie.close (tie.spec _ returns)
+unfolding plus
+add-spec = tie.close (tie.spec _ λ c. c .wrapping-add-u32 .ensures)

@@ -5,9 +5,8 @@ use Rattle.compression.specs.Words.{Σ0}
 use Rattle.compression.proofs.word.big_sigma0.Statement.{statement}
 use Rattle.compression.proofs.word.big_sigma0.Tie as tie
 
-returns : tie.Need-returns
-unfolding Σ0
-returns c = rw (c .rotr3 .ensures, c .before .rotr2 .ensures, c .before .before .rotr .ensures)
-
 pub big-sigma0-spec : {M : Type 1} → statement M
-big-sigma0-spec = tie.close (tie.spec (λ c κs. search needs) (λ c κs. search needs) (λ c κs. search needs) returns)
+unfolding Σ0
+big-sigma0-spec =
+    tie.close (tie.spec (λ c κs. search needs) (λ c κs. search needs) (λ c κs. search needs)
+    λ c. rw (c .rotr3 .ensures, c .before .rotr2 .ensures, c .before .before .rotr .ensures))

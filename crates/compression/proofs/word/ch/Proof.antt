@@ -6,9 +6,6 @@ use Rattle.compression.proofs.Bitwise.{ch-by}
 use Rattle.compression.proofs.word.ch.Statement.{statement}
 use Rattle.compression.proofs.word.ch.Tie as tie
 
-returns : tie.Need-returns
-unfolding Ch complement
-returns c = ch-by 32 (c .args .x) (c .args .y) (c .args .z) (omega arith) (omega arith) (omega arith)
-
 pub ch-spec : {M : Type 1} → statement M
-ch-spec = tie.close (tie.spec returns)
+unfolding Ch complement
+ch-spec = tie.close (tie.spec λ c. ch-by 32 (c .args .x) (c .args .y) (c .args .z) (omega arith) (omega arith) (omega arith))

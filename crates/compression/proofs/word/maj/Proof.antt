@@ -6,9 +6,6 @@ use Rattle.compression.proofs.Bitwise.{maj-by}
 use Rattle.compression.proofs.word.maj.Statement.{statement}
 use Rattle.compression.proofs.word.maj.Tie as tie
 
-returns : tie.Need-returns
-unfolding Maj
-returns c = maj-by 32 (c .args .x) (c .args .y) (c .args .z) (omega arith) (omega arith) (omega arith)
-
 pub maj-spec : {M : Type 1} → statement M
-maj-spec = tie.close (tie.spec returns)
+unfolding Maj
+maj-spec = tie.close (tie.spec λ c. maj-by 32 (c .args .x) (c .args .y) (c .args .z) (omega arith) (omega arith) (omega arith))

@@ -6,9 +6,6 @@ use Rattle.compression.specs.Words.{ROTR}
 use Rattle.compression.proofs.word.rotr.Statement.{statement}
 use Rattle.compression.proofs.word.rotr.Tie as tie
 
-returns : tie.Need-returns
-unfolding ROTR
-returns c = refl
-
 pub rotr-spec : {M : Type 1} → statement M
-rotr-spec = tie.close (tie.spec (λ c. search needs) (λ c. search needs) (λ c. search needs) returns)
+unfolding ROTR
+rotr-spec = tie.close (tie.spec (λ c. search needs) (λ c. search needs) (λ c. search needs) λ c. refl)

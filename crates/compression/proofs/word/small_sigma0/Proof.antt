@@ -5,9 +5,7 @@ use Rattle.compression.specs.Words.{σ0, SHR}
 use Rattle.compression.proofs.word.small_sigma0.Statement.{statement}
 use Rattle.compression.proofs.word.small_sigma0.Tie as tie
 
-returns : tie.Need-returns
-unfolding σ0 SHR
-returns c = rw (c .rotr2 .ensures, c .before .rotr .ensures)
-
 pub small-sigma0-spec : {M : Type 1} → statement M
-small-sigma0-spec = tie.close (tie.spec (λ c κs. search needs) (λ c κs. search needs) returns)
+unfolding σ0 SHR
+small-sigma0-spec =
+    tie.close (tie.spec (λ c κs. search needs) (λ c κs. search needs) λ c. rw (c .rotr2 .ensures, c .before .rotr .ensures))

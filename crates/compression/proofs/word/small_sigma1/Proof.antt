@@ -5,9 +5,7 @@ use Rattle.compression.specs.Words.{σ1, SHR}
 use Rattle.compression.proofs.word.small_sigma1.Statement.{statement}
 use Rattle.compression.proofs.word.small_sigma1.Tie as tie
 
-returns : tie.Need-returns
-unfolding σ1 SHR
-returns c = rw (c .rotr2 .ensures, c .before .rotr .ensures)
-
 pub small-sigma1-spec : {M : Type 1} → statement M
-small-sigma1-spec = tie.close (tie.spec (λ c κs. search needs) (λ c κs. search needs) returns)
+unfolding σ1 SHR
+small-sigma1-spec =
+    tie.close (tie.spec (λ c κs. search needs) (λ c κs. search needs) λ c. rw (c .rotr2 .ensures, c .before .rotr .ensures))

@@ -14,29 +14,20 @@ Inv-loop stream ended out₀ run₀ turns₀ out run turns = Reached stream ende
 abbrev μ-loop : tie.MeasureT-loop
 μ-loop stream ended out₀ run₀ turns₀ out run turns = turns
 
-loop-holds : tie.Need-loop-holds Inv-loop μ-loop
-loop-holds c = (reached-first _ _ _, refl)
-
-turn-requires : tie.Need-turn-requires Inv-loop μ-loop
-turn-requires c κs = reached-within _ _ _ (c .before .before .before .loop .inv .0)
-
 loop-again : tie.Need-loop-again Inv-loop μ-loop
 loop-again c =
-    let l = c .before .before .before .before .before .before .loop in (
-      reached-more _ _ _ (l .inv .0) _ _ (c .before .before .before .before .before .loop-test .taken)
-          (c .before .before .before .before .if1 .taken) (c .before .before .turn .ensures .0)
-          (c .before .before .turn .ensures .1),
+    let turned = c .before .before in
+    let judged = turned .before .before in
+    let l = judged .before .before .loop in (
+      reached-more _ _ _ (l .inv .0) _ _ (l .inv .1) (judged .before .loop-test .taken) (judged .if1 .taken)
+          (turned .turn .ensures .0) (turned .turn .ensures .1),
       search needs,
     )
-
-returns : tie.Need-returns Inv-loop μ-loop
-returns c = reached-stop _ _ _ (c .before .before .loop .inv .0) (c .if1 .left)
-
-returns-2 : tie.Need-returns-2 Inv-loop μ-loop
-returns-2 c = reached-last _ _ _ (c .before .loop .inv .0) (omega arith)
 
 pub list-spec : {M : Type 1} → statement M
 list-spec =
     tie.close (tie.spec
-    Inv-loop μ-loop (λ c. search needs) loop-holds turn-requires (λ c. search needs) (λ c. search needs) loop-again
-    (λ c. search needs) returns (λ c. search needs) returns-2)
+    Inv-loop μ-loop (λ c. search needs) (λ c. (reached-first _ _ _, refl)) (λ c κs. reached-within _ _ _ (c .before .before .before .loop .inv .0))
+    (λ c. search needs) (λ c. search needs) loop-again
+    (λ c. search needs) (λ c. reached-stop _ _ _ (c .before .before .loop .inv .0) (c .if1 .left))
+    (λ c. search needs) λ c. reached-last _ _ _ (c .before .loop .inv .0) (omega arith))

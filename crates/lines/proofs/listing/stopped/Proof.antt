@@ -4,8 +4,5 @@ use native.Mathlib.Nat.{add-zero}
 use Rattle.lines.proofs.listing.stopped.Statement.{statement}
 use Rattle.lines.proofs.listing.stopped.Tie as tie
 
-returns : tie.Need-returns
-returns c = simp add-zero
-
 pub stopped-spec : {M : Type 1} → statement M
-stopped-spec = tie.close (tie.spec returns)
+stopped-spec = tie.close (tie.spec λ c. simp add-zero)

@@ -18,23 +18,14 @@ Inv-loop number count out₀ at left₀ rest₀ out left rest =
 abbrev μ-loop : tie.MeasureT-loop
 μ-loop number count out₀ at left₀ rest₀ out left rest = left
 
-loop-holds : tie.Need-loop-holds Inv-loop μ-loop
-loop-holds c = (omega arith, refl, refl)
-
-loop-again : tie.Need-loop-again Inv-loop μ-loop
-loop-again c =
-    let l = c .before .before .loop in
-    (omega arith, simp length-set (l .inv .1), put-last _ _ (l .left) (l .rest) _ (omega arith) (c .digit .ensures) ∙ l .inv .2)
-
-returns : tie.Need-returns Inv-loop μ-loop
-unfolding digits
-returns c =
-    let l = c .before .loop in
-    let none : l .left ≡ 0 = omega arith in
-    rw none at (l .inv .2)
-
 pub put-digits-spec : {M : Type 1} → statement M
+unfolding digits
 put-digits-spec =
     tie.close (tie.spec
-    Inv-loop μ-loop loop-holds (λ c. search needs) _ (λ c. search needs) (λ c. search needs)
-    (λ c. search needs) loop-again (λ c. search needs) returns)
+    Inv-loop μ-loop (λ c. (omega arith, refl, refl)) (λ c. search needs) _ (λ c. search needs) (λ c. search needs) (λ c. search needs)
+    (λ c.
+    let l = c .before .before .loop in
+    (omega arith, simp length-set (l .inv .1), put-last _ _ (l .left) (l .rest) _ (omega arith) (c .digit .ensures) ∙ l .inv .2))
+    (λ c. search needs) λ c.
+    let none : c .before .loop .left ≡ 0 = omega arith in
+    rw none at (c .before .loop .inv .2))

@@ -7,17 +7,11 @@ use borrow.Author.Needs.{needs}
 use Rattle.lines.proofs.text.put_text.Statement.{statement}
 use Rattle.lines.proofs.text.put_text.Tie as tie
 
-returns : tie.Need-returns
-returns c = no-room _ _ _ _ (lacking (c .if1 .taken) _ _ (c .before .lacks .ensures))
-
-add-result : tie.Need-add-result
-add-result c = omega (arith, fitting (c .before .before .before .before .if1 .left))
-
-returns-2 : tie.Need-returns-2
-returns-2 c =
+pub put-text-spec : {M : Type 1} → statement M
+put-text-spec =
+    tie.close (tie.spec
+    _ (λ c. no-room _ _ _ _ (lacking (c .if1 .taken) _ _ (c .before .lacks .ensures))) _
+    (λ c. omega (arith, fitting (c .before .before .before .before .if1 .left))) (λ c. search needs) λ c.
     let put = c .before .before in
     let judged = put .before .before in
-    roomy _ _ _ _ (fitting (judged .if1 .left) _ _ (judged .before .lacks .ensures)) (refl, put .store-bytes .ensures)
-
-pub put-text-spec : {M : Type 1} → statement M
-put-text-spec = tie.close (tie.spec _ returns _ add-result (λ c. search needs) returns-2)
+    roomy _ _ _ _ (fitting (judged .if1 .left) _ _ (judged .before .lacks .ensures)) (refl, put .store-bytes .ensures))

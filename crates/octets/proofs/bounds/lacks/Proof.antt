@@ -14,11 +14,7 @@ late length at need h =
     on (ltb length (at + need)) (λ e. rw e (lt-ltb (length - at) need (omega (arith, ltb-true length (at + need) e))))
     (λ e. rw e (le-ltb (length - at) need (omega (arith, ltb-false length (at + need) e))))
 
-returns : tie.Need-returns
-returns c = let a = c .before .args in sym (lt-ltb (a .length) (a .at + a .need) (omega arith))
-
-returns-2 : tie.Need-returns-2
-returns-2 c = late _ _ _ (c .if1 .left)
-
 pub lacks-spec : {M : Type 1} → statement M
-lacks-spec = tie.close (tie.spec returns returns-2)
+lacks-spec =
+    tie.close (tie.spec
+    (λ c. let a = c .before .args in sym (lt-ltb (a .length) (a .at + a .need) (omega arith))) (λ c. late _ _ _ (c .if1 .left)))

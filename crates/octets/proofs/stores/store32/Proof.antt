@@ -1,7 +1,7 @@
 -- SPDX-License-Identifier: MPL-2.0
 -- Two stores, the second where the first ends.
 use borrow.Author.Needs.{needs}
-use Rattle.octets.proofs.Places.{past-two}
+use native.Mathlib.Numerals.{add-two}
 use Rattle.octets.proofs.stores.store32.Statement.{statement}
 use Rattle.octets.proofs.stores.store32.Tie as tie
 
@@ -9,4 +9,4 @@ pub store32-spec : {M : Type 1} → statement M
 store32-spec =
     tie.close (tie.spec
     (λ c. search needs) _ (λ c. search needs) (λ c. search needs) _ (λ c. search needs)
-    (λ c. rw (c .before .before .store162 .ensures, c .before .before .before .before .before .before .store16 .ensures, past-two)))
+    (λ c. rw (c .before .before .store162 .ensures, c .before .before .before .before .before .before .store16 .ensures, add-two)))

@@ -1,7 +1,7 @@
 -- SPDX-License-Identifier: MPL-2.0
 -- Two stores, the second where the first ends.
 use borrow.Author.Needs.{needs}
-use Rattle.octets.proofs.Places.{past-four}
+use native.Mathlib.Numerals.{add-four}
 use Rattle.octets.proofs.stores.store64.Statement.{statement}
 use Rattle.octets.proofs.stores.store64.Tie as tie
 
@@ -9,4 +9,4 @@ pub store64-spec : {M : Type 1} → statement M
 store64-spec =
     tie.close (tie.spec
     (λ c. search needs) _ (λ c. search needs) (λ c. search needs) _ (λ c. search needs)
-    (λ c. rw (c .before .before .store322 .ensures, c .before .before .before .before .before .before .store32 .ensures, past-four)))
+    (λ c. rw (c .before .before .store322 .ensures, c .before .before .before .before .before .before .store32 .ensures, add-four)))

@@ -6,8 +6,7 @@ use borrow.Author.Needs.{needs}
 use Rattle.octets.proofs.stores.store8.Statement.{statement}
 use Rattle.octets.proofs.stores.store8.Tie as tie
 
-returns-2 : tie.Need-returns-2
-returns-2 c = sym (set-out (c .before .args .out .now) (c .before .args .at) (c .before .args .x) (c .if1 .left))
-
 pub store8-spec : {M : Type 1} → statement M
-store8-spec = tie.close (tie.spec (λ c. search needs) (λ c. search needs) (λ c. search needs) returns-2)
+store8-spec =
+    tie.close (tie.spec (λ c. search needs) (λ c. search needs) (λ c. search needs)
+    λ c. sym (set-out (c .before .args .out .now) (c .before .args .at) (c .before .args .x) (c .if1 .left)))

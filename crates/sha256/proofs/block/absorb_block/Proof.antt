@@ -5,9 +5,6 @@ use Rattle.sha256.specs.Digests.{afterBlock}
 use Rattle.sha256.proofs.block.absorb_block.Statement.{statement}
 use Rattle.sha256.proofs.block.absorb_block.Tie as tie
 
-returns : tie.Need-returns
-unfolding afterBlock
-returns c = rw (c .compress .ensures, c .before .load .ensures)
-
 pub absorb-block-spec : {M : Type 1} → statement M
-absorb-block-spec = tie.close (tie.spec (λ c κs. search needs) _ returns)
+unfolding afterBlock
+absorb-block-spec = tie.close (tie.spec (λ c κs. search needs) _ λ c. rw (c .compress .ensures, c .before .load .ensures))

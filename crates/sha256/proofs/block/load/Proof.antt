@@ -16,21 +16,13 @@ Inv-loop block w₀ n₀ w n = (n ≤ 16) × (length w ≡ 64) × (take n w ≡ 
 abbrev μ-loop : tie.MeasureT-loop
 μ-loop block w₀ n₀ w n = 16 - n
 
-loop-holds : tie.Need-loop-holds Inv-loop μ-loop
-unfolding words
-loop-holds c = search needs
-
-loop-again : tie.Need-loop-again Inv-loop μ-loop
-loop-again c = (search needs, search needs, words-more _ _ _ _ (omega arith) (c .before .before .loop .inv .2) (c .word-at .ensures))
-
-returns : tie.Need-returns Inv-loop μ-loop
-returns c =
-    let l = c .before .loop in
-    let e : l .n ≡ 16 = omega arith in
-    rw e at (l .inv .2)
-
 pub load-spec : {M : Type 1} → statement M
+unfolding words
 load-spec =
     tie.close (tie.spec
-    Inv-loop μ-loop loop-holds (λ c. search needs) (λ c κs. search needs) (λ c. search needs) (λ c. search needs)
-    (λ c. search needs) (λ c. search needs) loop-again returns)
+    Inv-loop μ-loop (λ c. search needs) (λ c. search needs) (λ c κs. search needs) (λ c. search needs) (λ c. search needs)
+    (λ c. search needs) (λ c. search needs)
+    (λ c.
+    let l = c .before .before .loop in
+    (search needs, search needs, words-more _ (l .w) (l .n) _ (omega arith) (l .inv .2) (c .word-at .ensures)))
+    λ c. let e : c .before .loop .n ≡ 16 = omega arith in rw e at (c .before .loop .inv .2))

@@ -12,15 +12,10 @@ use Rattle.sha256.proofs.message.fits.Tie as tie
 abbrev total : tie.Start → ℕ
 total s = s .args .done + count (s .args .first .now) (s .args .second .now) (s .args .third .now)
 
-returns : tie.Need-returns
-returns c = sym (le-ltb (total (c .before)) (2 ^ 61) (omega arith))
-
-returns-2 : tie.Need-returns-2
-returns-2 c = sym (le-ltb (total (c .before .before)) (2 ^ 61) (omega arith))
-
-returns-3 : tie.Need-returns-3
-returns-3 c = sym (le-ltb (total (c .before .before .before)) (2 ^ 61) (omega arith))
-
 pub fits-spec : {M : Type 1} → statement M
 fits-spec =
-    tie.close (tie.spec returns returns-2 returns-3 (λ c. search needs) (λ c. search needs) (λ c. search needs) (λ c. search needs))
+    tie.close (tie.spec
+    (λ c. sym (le-ltb (total (c .before)) (2 ^ 61) (omega arith)))
+    (λ c. sym (le-ltb (total (c .before .before)) (2 ^ 61) (omega arith)))
+    (λ c. sym (le-ltb (total (c .before .before .before)) (2 ^ 61) (omega arith)))
+    (λ c. search needs) (λ c. search needs) (λ c. search needs) (λ c. search needs))

@@ -5,9 +5,6 @@ use Rattle.sha256.specs.Digests.{H0}
 use Rattle.sha256.proofs.message.initial.Statement.{statement}
 use Rattle.sha256.proofs.message.initial.Tie as tie
 
-returns : tie.Need-returns
-unfolding H0
-returns c = refl
-
 pub initial-spec : {M : Type 1} → statement M
-initial-spec = tie.close (tie.spec returns)
+unfolding H0
+initial-spec = tie.close (tie.spec λ c. refl)

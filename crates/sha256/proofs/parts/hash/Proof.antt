@@ -1,6 +1,6 @@
 -- SPDX-License-Identifier: MPL-2.0
 -- The invariant: n blocks of the message are hashed.
-use mathlib.Core.Path.{_≡_, ap, _∙_}
+use mathlib.Core.Path.{_≡_}
 use mathlib.Core.List.{_++_}
 use Prim.Native.Nat.{_≤_, _-_, _/_}
 use native.Mathlib.Omega.{arith}
@@ -17,24 +17,15 @@ Inv-loop first second third tail count x₀ n₀ x n = (n ≤ count) × (x ≡ b
 abbrev μ-loop : tie.MeasureT-loop
 μ-loop first second third tail count x₀ n₀ x n = count - n
 
-loop-holds : tie.Need-loop-holds Inv-loop μ-loop
-unfolding blocks
-loop-holds c = search needs
-
-loop-again : tie.Need-loop-again Inv-loop μ-loop
-loop-again c = (search needs, blocks-more _ _ _ _ _ (c .before .before .loop .inv .1) (c .absorb .ensures))
-
-returns : tie.Need-returns Inv-loop μ-loop
-unfolding hashed
-returns c =
-    let b = c .before in
-    let a = b .before .before .before .before .before .args in
-    let m = a .first .now ++ (a .second .now ++ (a .third .now ++ a .tail .now)) in
-    let e : b .loop .n ≡ length m / 64 = simp length-append (omega arith) in
-    b .loop .inv .1 ∙ ap (blocks (a .v) m) e
-
 pub hash-spec : {M : Type 1} → statement M
+unfolding blocks hashed
 hash-spec =
     tie.close (tie.spec
-    Inv-loop μ-loop (λ c. search needs) (λ c. search needs) (λ c. search needs) loop-holds (λ c. search needs)
-    (λ c κs. search needs) (λ c. search needs) (λ c. search needs) loop-again returns)
+    Inv-loop μ-loop (λ c. search needs) (λ c. search needs) (λ c. search needs) (λ c. search needs) (λ c. search needs)
+    (λ c κs. search needs) (λ c. search needs) (λ c. search needs)
+    (λ c. (search needs, blocks-more _ _ _ _ _ (c .before .before .loop .inv .1) (c .absorb .ensures)))
+    λ c.
+    let a = c .before .before .before .before .before .before .args in
+    let m = a .first .now ++ (a .second .now ++ (a .third .now ++ a .tail .now)) in
+    let e : c .before .loop .n ≡ length m / 64 = simp length-append (omega arith) in
+    rw (← e) (c .before .loop .inv .1))

@@ -6,13 +6,9 @@ use Rattle.sha256.proofs.Laying.{in-part}
 use Rattle.sha256.proofs.parts.inside.Statement.{statement}
 use Rattle.sha256.proofs.parts.inside.Tie as tie
 
-returns : tie.Need-returns
-returns c =
-    let a = c .before .before .before .args in
-    λ l before after e. in-part before (a .part .now) after (a .ahead) (a .at) e (c .before .before .if1 .taken) (c .before .if2 .taken)
-
 pub inside-spec : {M : Type 1} → statement M
 inside-spec =
     tie.close (tie.spec
-    (λ c. search needs) (λ c. search needs) (λ c. search needs) (λ c. search needs) (λ c. search needs)
-    (λ c. search needs) returns (λ c. search needs) (λ c. search needs) (λ c. search needs) (λ c l. absurd (omega arith)))
+    (λ c. search needs) (λ c. search needs) (λ c. search needs) (λ c. search needs) (λ c. search needs) (λ c. search needs)
+    (λ c l before after e. in-part before _ after _ _ e (c .before .before .if1 .taken) (c .before .if2 .taken))
+    (λ c. search needs) (λ c. search needs) (λ c. search needs) (λ c l. absurd (omega arith)))

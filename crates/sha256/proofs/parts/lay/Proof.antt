@@ -1,6 +1,6 @@
 -- SPDX-License-Identifier: MPL-2.0
 -- The invariant: the block has the bytes of the message so far, up to the place that comes next.
-use mathlib.Core.Path.{_≡_, _∙_, refl}
+use mathlib.Core.Path.{_≡_, _∙_}
 use mathlib.Core.List.{List, _++_}
 use Prim.Native.Nat.{ℕ, _≤_, _-_}
 use native.Mathlib.Omega.{arith}
@@ -19,24 +19,18 @@ Inv-loop block₀ part ahead at from to i₀ block i =
 abbrev μ-loop : tie.MeasureT-loop
 μ-loop block₀ part ahead at from to i₀ block i = to - i
 
-loop-holds : tie.Need-loop-holds Inv-loop μ-loop
-loop-holds c = (search needs, search needs, λ front l e. e ∙ laid-first front _ _ _ l _ (omega arith) (c .pre .3))
-
-loop-again : tie.Need-loop-again Inv-loop μ-loop
-loop-again c =
-    let l = c .before .before .loop in (
-      search needs,
-      search needs,
-      λ front n e. laid-more front _ _ _ n (l .block) (l .i) _ (omega arith) (omega arith) (omega arith) refl (l .inv .2 front n e),
-    )
-
-returns : tie.Need-returns Inv-loop μ-loop
-returns c =
-    let l = c .before .loop in
-    (search needs, λ front n e. l .inv .2 front n e ∙ laid-last front _ _ _ n (l .i) _ (omega arith) (c .before .before .pre .6))
-
 pub lay-spec : {M : Type 1} → statement M
 lay-spec =
     tie.close (tie.spec
-    Inv-loop μ-loop loop-holds (λ c. search needs) (λ c. search needs) (λ c. search needs) (λ c. search needs)
-    (λ c. search needs) (λ c. search needs) loop-again (λ c. search needs) returns)
+    Inv-loop μ-loop (λ c. (search needs, search needs, λ front l e. e ∙ laid-first front _ _ _ l _ (omega arith) (c .pre .3)))
+    (λ c. search needs) (λ c. search needs) (λ c. search needs) (λ c. search needs) (λ c. search needs) (λ c. search needs)
+    (λ c.
+    let l = c .before .before .loop in (
+      search needs,
+      search needs,
+      λ front n e. laid-more front _ _ _ n (l .block) (l .i) (omega arith) (omega arith) (omega arith) (omega arith) (l .inv .2 front n e),
+    ))
+    (λ c. search needs)
+    λ c.
+    let l = c .before .loop in
+    (search needs, λ front n e. l .inv .2 front n e ∙ laid-last front _ _ _ n (l .i) _ (omega arith) (c .before .before .pre .6)))

@@ -15,16 +15,8 @@ returns c =
     let c3 = c4 .before .before .before in
     let c2 = c3 .before .before .before in
     let c1 = c2 .before .before .before in
-    rw (
-      c .before .put328 .ensures,
-      c7 .put327 .ensures,
-      c6 .put326 .ensures,
-      c5 .put325 .ensures,
-      c4 .put324 .ensures,
-      c3 .put323 .ensures,
-      c2 .put322 .ensures,
-      c1 .put32 .ensures,
-    )
+    rw (c .before .put328 .ensures, c7 .put327 .ensures, c6 .put326 .ensures, c5 .put325 .ensures)
+    (rw (c4 .put324 .ensures, c3 .put323 .ensures, c2 .put322 .ensures, c1 .put32 .ensures))
 
 pub bytes-of-spec : {M : Type 1} → statement M
 bytes-of-spec =

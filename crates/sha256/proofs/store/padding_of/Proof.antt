@@ -8,11 +8,8 @@ use Rattle.sha256.proofs.Stores.{padding-by}
 use Rattle.sha256.proofs.store.padding_of.Statement.{statement}
 use Rattle.sha256.proofs.store.padding_of.Tie as tie
 
-returns : tie.Need-returns
-unfolding padding
-returns c = padding-by _ _ _ _ _ (c .before .put64 .ensures) (c .before .before .zeros-of .ensures .0) (omega arith) refl
-
 pub padding-of-spec : {M : Type 1} → statement M
+unfolding padding
 padding-of-spec =
-    tie.close (tie.spec
-    (λ c. search needs) (λ c. search needs) _ (λ c. search needs) (λ c. search needs) (λ c κs. search needs) returns)
+    tie.close (tie.spec (λ c. search needs) (λ c. search needs) _ (λ c. search needs) (λ c. search needs) (λ c κs. search needs)
+    λ c. padding-by _ _ _ _ _ (c .before .put64 .ensures) (c .before .before .zeros-of .ensures .0) (omega arith) refl)

@@ -8,15 +8,11 @@ use Rattle.laws.proofs.Lent.{lent-stores}
 use Rattle.sha256.proofs.store.put32.Statement.{statement}
 use Rattle.sha256.proofs.store.put32.Tie as tie
 
-returns : tie.Need-returns
-returns c =
-    let b = c .before .before in
-    let w = b .before .before .before .word-bytes in
-    let a = b .before .before .before .before .before .args in
-    lent-stores (a .out .now) (w .result) (a .at) (omega arith) _ (b .copy .ensures .1) ∙ ap (sets (a .out .now) (a .at)) (w .ensures)
-
 pub put32-spec : {M : Type 1} → statement M
 put32-spec =
     tie.close (tie.spec
-    _ (λ c. search needs) (λ c. search needs) (λ c. search needs) (λ c. search needs)
-    (λ c κs. search needs) (λ c. search needs) returns)
+    _ (λ c. search needs) (λ c. search needs) (λ c. search needs) (λ c. search needs) (λ c κs. search needs) (λ c. search needs) λ c.
+    let b = c .before .before in
+    let w = b .before .before .before .word-bytes in
+    let a = b .before .before .before .before .before .args in
+    lent-stores (a .out .now) (w .result) (a .at) (omega arith) _ (b .copy .ensures .1) ∙ ap (sets (a .out .now) (a .at)) (w .ensures))

@@ -1,6 +1,6 @@
 -- SPDX-License-Identifier: MPL-2.0
 -- The invariant: no bit is set exactly where the bytes passed are the same.
-use mathlib.Core.Path.{_≡_, _∙_, ap₂}
+use mathlib.Core.Path.{_≡_}
 use Prim.Native.Nat.{_≤_, _-_}
 use native.Mathlib.Omega.{arith}
 use lib.Dec.{eqb}
@@ -18,23 +18,14 @@ Inv-loop ours theirs bits₀ i₀ bits i = (i ≤ 32) × (eqb bits 0 ≡ same (t
 abbrev μ-loop : tie.MeasureT-loop
 μ-loop ours theirs bits₀ i₀ bits i = 32 - i
 
-loop-again : tie.Need-loop-again Inv-loop μ-loop
-loop-again c =
-    let b = c .before .before .before in
-    let a = b .before .args in (
-      search needs,
-      differ-more (a .ours .now) (a .theirs .now) (b .loop .bits) (b .loop .i) (omega arith) (omega arith) (b .loop .inv .1),
-    )
-
-returns : tie.Need-returns Inv-loop μ-loop
-returns c =
-    let b = c .before in
-    let a = b .before .args in
-    let e : b .loop .i ≡ 32 = omega arith in
-    rw e at (b .loop .inv .1) ∙ ap₂ same (take-all 32 (a .ours .now) (omega arith)) (take-all 32 (a .theirs .now) (omega arith))
-
 pub differences-spec : {M : Type 1} → statement M
 differences-spec =
     tie.close (tie.spec
-    Inv-loop μ-loop (λ c. search needs) (λ c. search needs) (λ c. search needs) (λ c. search needs)
-    (λ c. search needs) loop-again returns)
+    Inv-loop μ-loop (λ c. search needs) (λ c. search needs) (λ c. search needs) (λ c. search needs) (λ c. search needs)
+    (λ c.
+    let l = c .before .before .before .loop in
+    (search needs, differ-more _ _ (l .bits) (l .i) (omega arith) (omega arith) (l .inv .1)))
+    λ c.
+    let b = c .before in
+    let e : b .loop .i ≡ 32 = omega arith in
+    rw (e, take-all 32 (b .before .args .ours .now) (omega arith), take-all 32 (b .before .args .theirs .now) (omega arith)) at (b .loop .inv .1))

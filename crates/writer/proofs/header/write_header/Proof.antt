@@ -7,13 +7,9 @@ use borrow.Author.Needs.{needs}
 use Rattle.writer.proofs.header.write_header.Statement.{statement}
 use Rattle.writer.proofs.header.write_header.Tie as tie
 
-returns-2 : tie.Need-returns-2
-unfolding headerBytes
-returns-2 c =
-    let put = c .before .before in
-    let judged = put .before .before in
-    wrote _ _ _ _ _ (judged .before .put-refusal .ensures) (judged .if1 .left) refl (put .put-header .ensures)
-
 pub write-header-spec : {M : Type 1} → statement M
+unfolding headerBytes
 write-header-spec =
-    tie.close (tie.spec _ (λ c. refused _ _ _ _ _ (c .before .put-refusal .ensures) (c .if1 .taken)) _ (λ c. search needs) returns-2)
+    tie.close (tie.spec _ (λ c. refused _ _ _ _ _ (c .before .put-refusal .ensures) (c .if1 .taken)) _ (λ c. search needs) λ c.
+    let judged = c .before .before .before .before in
+    wrote _ _ _ _ _ (judged .before .put-refusal .ensures) (judged .if1 .left) refl (c .before .before .put-header .ensures))

@@ -4,11 +4,8 @@ use borrow.Author.Needs.{needs}
 use Rattle.writer.proofs.payload.put_coded.Statement.{statement}
 use Rattle.writer.proofs.payload.put_coded.Tie as tie
 
-returns : tie.Need-returns
-returns c =
-    let code = c .before .before in
-    let connect = code .before .before .before .before in
-    rw (code .store82 .ensures, connect .store8 .ensures, connect .before .before .before .before .store16 .ensures)
-
 pub put-coded-spec : {M : Type 1} → statement M
-put-coded-spec = tie.close (tie.spec _ _ _ (λ c. search needs) returns)
+put-coded-spec =
+    tie.close (tie.spec _ _ _ (λ c. search needs) λ c.
+    let connect = c .before .before .before .before .before .before in
+    rw (c .before .before .store82 .ensures, connect .store8 .ensures, connect .before .before .before .before .store16 .ensures))

@@ -1,19 +1,19 @@
 -- SPDX-License-Identifier: MPL-2.0
 -- Five runs, each where the one before it ends.
-use mathlib.Core.Path.{refl, ap, _∙_}
+use mathlib.Core.Path.{refl}
 use native.Mathlib.Omega.{arith}
 use Prim.Native.Nat.{_+_}
 use mathlib.Core.List.{[], _∷_, _++_}
 use lib.ListN.{length, length-append}
-use lib.Seq.{sets}
 use Rattle.laws.specs.Bytes.{bytes16}
 use Rattle.laws.proofs.Stores.{run, then}
-use Rattle.writer.proofs.Payloads.{device-stored}
+use Rattle.writer.specs.Payload.{deviceAuthentication}
 use borrow.Author.Needs.{needs}
 use Rattle.writer.proofs.payload.put_device.Statement.{statement}
 use Rattle.writer.proofs.payload.put_device.Tie as tie
 
 returns : tie.Need-returns
+unfolding deviceAuthentication
 returns c =
     let second = c .before .before in
     let second-size = second .before .before .before .before in
@@ -21,15 +21,12 @@ returns c =
     let first-size = first .before .before .before .before in
     let start = first-size .before .before .before .before in
     let s = start .before .before .before .before .before .args in
-    let certificate = s .certificate .now in
-    let thumbprint = s .thumbprint .now in
-    let n = length certificate in
+    let n = length (s .certificate .now) in
     let r0 = then (bytes16 (s .mode) ++ (s .connect ∷ [])) 0 (run 0 (s .out .now)) (start .put-start .ensures) refl in
     let r1 = then (bytes16 n) 3 r0 (first-size .store16 .ensures) refl in
-    let r2 = then certificate 5 r1 (first .store-bytes .ensures) refl in
-    let r3 = then (bytes16 (length thumbprint)) (5 + n) r2 (second-size .store162 .ensures) (omega arith) in
-    let r4 = then thumbprint (7 + n) r3 (second .store-bytes2 .ensures) (simp length-append (omega arith)) in
-    r4 .is ∙ ap (sets (s .out .now) 0) (device-stored (s .connect) (s .mode) certificate thumbprint)
+    let r2 = then (s .certificate .now) 5 r1 (first .store-bytes .ensures) refl in
+    let r3 = then (bytes16 (length (s .thumbprint .now))) (5 + n) r2 (second-size .store162 .ensures) (omega arith) in
+    then (s .thumbprint .now) (7 + n) r3 (second .store-bytes2 .ensures) (simp length-append (omega arith)) .is
 
 pub put-device-spec : {M : Type 1} → statement M
 put-device-spec =

@@ -1,11 +1,8 @@
 -- SPDX-License-Identifier: MPL-2.0
 -- Five runs, each where the one before it ends.
-use mathlib.Core.Path.{refl, ap, _∙_}
+use mathlib.Core.Path.{refl}
 use native.Mathlib.Omega.{arith}
-use mathlib.Core.List.{_++_}
-use Rattle.writer.proofs.Payloads.{exchange-stored}
 use lib.ListN.{length-append}
-use lib.Seq.{sets}
 use Rattle.laws.specs.Bytes.{bytes16, bytes32}
 use Rattle.laws.proofs.Stores.{run, then}
 use Rattle.writer.specs.Payload.{exchangeBytes}
@@ -22,15 +19,17 @@ returns c =
     let nonce = size .before .before .before .before in
     let hmac = nonce .before .before .before .before in
     let s = hmac .before .before .before .before .before .before .args in
+    let q = s .request in
     let n = nonce .put-nonce .ensures in
     let a = x .put-coordinate .ensures in
     let b = y .put-coordinate2 .ensures in
     let r0 = then (bytes16 32) 4 (run 4 (s .out .now)) (hmac .store16 .ensures) refl in
-    let r1 = then (s .request .nonce) 6 r0 (n .0) refl in
+    let r1 = then (q .nonce) 6 r0 (n .0) refl in
     let r2 = then (bytes32 16384) 14 r1 (size .store32 .ensures) (simp length-append (omega arith)) in
-    let r3 = then (bytes16 32 ++ s .request .x) 18 r2 (a .0) (simp length-append (omega arith)) in
-    let r4 = then (bytes16 32 ++ s .request .y) 52 r3 (b .0) (simp length-append (omega arith)) in
-    (r4 .is ∙ ap (sets (s .out .now) 4) (exchange-stored (s .request)), simp length-append (omega arith))
+    let r3 = then (bytes16 32) 18 r2 refl (simp length-append (omega arith)) in
+    let r4 = then (q .x) 20 r3 (a .0) (simp length-append (omega arith)) in
+    let r5 = then (bytes16 32) 52 r4 refl (simp length-append (omega arith)) in
+    (then (q .y) 54 r5 (b .0) (simp length-append (omega arith)) .is, simp length-append (omega arith))
 
 pub put-exchange-spec : {M : Type 1} → statement M
 put-exchange-spec = tie.close (tie.spec _ _ _ _ _ (λ c. search needs) returns)

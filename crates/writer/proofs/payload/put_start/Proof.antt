@@ -4,10 +4,7 @@ use borrow.Author.Needs.{needs}
 use Rattle.writer.proofs.payload.put_start.Statement.{statement}
 use Rattle.writer.proofs.payload.put_start.Tie as tie
 
-returns : tie.Need-returns
-returns c =
-    let connect = c .before .before in
-    rw (connect .store8 .ensures, connect .before .before .before .before .store16 .ensures)
-
 pub put-start-spec : {M : Type 1} → statement M
-put-start-spec = tie.close (tie.spec _ _ (λ c. search needs) returns)
+put-start-spec =
+    tie.close (tie.spec _ _ (λ c. search needs) λ c.
+    rw (c .before .before .store8 .ensures, c .before .before .before .before .before .before .store16 .ensures))

@@ -7,13 +7,9 @@ use borrow.Author.Needs.{needs}
 use Rattle.writer.proofs.payload.write_connection_response.Statement.{statement}
 use Rattle.writer.proofs.payload.write_connection_response.Tie as tie
 
-returns : tie.Need-returns
-unfolding responseSize connectionResponse
-returns c = rw (c .before .before .before .before .if1 .taken, or-none) (c .before .before .write-exchange .ensures)
-
-returns-2 : tie.Need-returns-2
-unfolding responseSize connectionResponse
-returns-2 c = rw (ne-eqb _ _ (c .before .before .before .before .if1 .left)) (c .before .before .write-coded .ensures)
-
 pub write-connection-response-spec : {M : Type 1} → statement M
-write-connection-response-spec = tie.close (tie.spec _ (λ c. search needs) returns _ (λ c. search needs) returns-2)
+unfolding responseSize connectionResponse
+write-connection-response-spec =
+    tie.close (tie.spec
+    _ (λ c. search needs) (λ c. rw (c .before .before .before .before .if1 .taken, or-none) (c .before .before .write-exchange .ensures))
+    _ (λ c. search needs) (λ c. rw (ne-eqb _ _ (c .before .before .before .before .if1 .left)) (c .before .before .write-coded .ensures)))

@@ -6,12 +6,8 @@ use borrow.Author.Needs.{needs}
 use Rattle.writer.proofs.payload.write_done_request.Statement.{statement}
 use Rattle.writer.proofs.payload.write_done_request.Tie as tie
 
-returns-2 : tie.Need-returns-2
-returns-2 c =
-    let put = c .before .before in
-    let judged = put .before .before in
-    wrote _ _ _ _ _ (judged .before .put-refusal .ensures) (judged .if1 .left) refl (put .put-start .ensures)
-
 pub write-done-request-spec : {M : Type 1} → statement M
 write-done-request-spec =
-    tie.close (tie.spec _ (λ c. refused _ _ _ _ _ (c .before .put-refusal .ensures) (c .if1 .taken)) _ (λ c. search needs) returns-2)
+    tie.close (tie.spec _ (λ c. refused _ _ _ _ _ (c .before .put-refusal .ensures) (c .if1 .taken)) _ (λ c. search needs) λ c.
+    let judged = c .before .before .before .before in
+    wrote _ _ _ _ _ (judged .before .put-refusal .ensures) (judged .if1 .left) refl (c .before .before .put-start .ensures))
