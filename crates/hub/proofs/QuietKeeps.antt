@@ -13,10 +13,10 @@ use Rattle.joining.proofs.JoinWays.{join-cases}
 use Rattle.hub.specs.declared.Connection.{Connection}
 use Rattle.hub.specs.declared.Stepped.{Stepped}
 use Rattle.hub.specs.Answers.{isQuiet}
-use Rattle.hub.specs.Hear.{pieceIn, joined, heard, reportHeard}
+use Rattle.hub.specs.Hear.{pieceIn, joined, hear, reportHeard}
 use Rattle.hub.specs.Step.{step, reportStepped}
 use Rattle.hub.proofs.HostWays.{refuses, repeats, requests, passes, fails, finishes}
-use Rattle.hub.proofs.StepCases.{Connects, connect-way, heard-cases, step-cases}
+use Rattle.hub.proofs.StepCases.{Connects, connect-way, hear-cases, step-cases}
 
 -- Where the answer is quiet, the connection is the one given and the report buffer the one lent.
 abbrev pub Still : Connection → List ℕ → Stepped → List ℕ → Type 0
@@ -39,13 +39,13 @@ module _ (c : Connection) (b : List ℕ) where
         (λ z k d e. absurd (false≢true e))
         (λ z k d e. absurd (false≢true e))
 
-    heard-still : Still c b (heard c h p b v) (reportHeard c h p b)
-    heard-still =
-        heard-cases c h p b v (Still c b) (λ f e. (refl, refl))
+    hear-still : Still c b (hear c h p b v) (reportHeard c h p b)
+    hear-still =
+        hear-cases c h p b v (Still c b) (λ f e. (refl, refl))
         (λ f k. connect-still (h .session) p v (connect-way c (h .session) p v)) (λ f j. joined-still)
         (λ f k j e. (refl, refl))
 
   pub step-still : (m k w : List ℕ) (v : ℕ) → Still c b (step c m k w b v) (reportStepped c m k w b v)
   step-still m k w v =
       step-cases c m k w b v (Still c b) (λ n e. (refl, refl))
-      (λ h s from size e. heard-still h (payload m (workingAfter m k w) s from size) v)
+      (λ h s from size e. hear-still h (payload m (workingAfter m k w) s from size) v)

@@ -21,7 +21,7 @@ use Rattle.joining.specs.Join.{join, reportAfter}
 use Rattle.hub.specs.declared.Connection.{Connection}
 use Rattle.hub.specs.declared.Stepped.{Stepped}
 use Rattle.hub.specs.Host.{refuse}
-use Rattle.hub.specs.Hear.{certificate, connect, pieceIn, joined, isForeign, joins, heard, reportHeard}
+use Rattle.hub.specs.Hear.{certificate, connect, pieceIn, joined, isForeign, joins, hear, reportHeard}
 use Rattle.hub.specs.Step.{afterRead, reportRead, step, reportStepped}
 use Rattle.hub.proofs.HostWays.{Hosts, host-way}
 
@@ -39,14 +39,14 @@ connect-way c session p v = host-way c (connectType p) session (readRequest p) (
 
 -- A message that was read: 16 applies; it is Connect; it is joined; 15 applies.
 module _ (c : Connection) (h : Header) (p b : List ℕ) (v : ℕ) (G : Stepped → List ℕ → Type 0) where
-  pub heard-cases : (isForeign c h ≡ true → G (refuse c 16) b)
+  pub hear-cases : (isForeign c h ≡ true → G (refuse c 16) b)
       → (isForeign c h ≡ false → eqb (h .kind) 2 ≡ true → G (connect c (h .session) p v) b)
       → (isForeign c h ≡ false → joins c h ≡ true
       → G (joined c (join (c .size) (c .progress) (pieceIn h) p b)) (reportAfter (c .size) (c .progress) (pieceIn h) p b))
       → (isForeign c h ≡ false → eqb (h .kind) 2 ≡ false → joins c h ≡ false → G (refuse c 15) b)
-      → G (heard c h p b v) (reportHeard c h p b)
-  unfolding heard reportHeard
-  heard-cases foreign connects session other =
+      → G (hear c h p b v) (reportHeard c h p b)
+  unfolding hear reportHeard
+  hear-cases foreign connects session other =
       on (isForeign c h) (λ f. rw f (foreign f))
       (λ f.
       on (eqb (h .kind) 2) (λ k. rw (f, k, connect-apart c h k) (connects f k))
@@ -65,7 +65,7 @@ module _ (c : Connection) (m k w b : List ℕ) (v : ℕ) (G : Stepped → List �
   -- It is enough that refusals have it and what is heard.
   pub step-cases : ((n : ℕ) → G (refuse c n) b)
       → ((h : Header) (s : Bool) (from size : ℕ) → readMessage m k (length w) ≡ Read h s from size
-      → G (heard c h (payload m (workingAfter m k w) s from size) b v) (reportHeard c h (payload m (workingAfter m k w) s from size) b))
+      → G (hear c h (payload m (workingAfter m k w) s from size) b v) (reportHeard c h (payload m (workingAfter m k w) s from size) b))
       → G (step c m k w b v) (reportStepped c m k w b v)
   step-cases refused read = step-tests (λ t. refused 25) (λ t z. refused 24) (λ t z. by (readMessage m k (length w)) refl)
     where
@@ -81,6 +81,6 @@ module _ (c : Connection) (m k w b : List ℕ) (v : ℕ) (G : Stepped → Type 0
       step-cases c m k w b v (λ (s : Stepped) (b′ : List ℕ). G s) refused
       (λ h s from size e.
       let p = payload m (workingAfter m k w) s from size in
-      heard-cases c h p b v (λ (s : Stepped) (b′ : List ℕ). G s) (λ f. refused 16)
+      hear-cases c h p b v (λ (s : Stepped) (b′ : List ℕ). G s) (λ f. refused 16)
       (λ f t. connects (h .session) p (connect c (h .session) p v) (connect-way c (h .session) p v))
       (λ f j. joining (join (c .size) (c .progress) (pieceIn h) p b)) (λ f t j. refused 15))

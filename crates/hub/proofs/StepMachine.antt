@@ -20,7 +20,7 @@ use Rattle.hub.specs.declared.Connection.{Connection}
 use Rattle.hub.specs.declared.Stepped.{Stepped}
 use Rattle.hub.specs.declared.Answer.{Answer}
 use Rattle.hub.specs.Answers.{answerOf, isQuiet, isComplete}
-use Rattle.hub.specs.Hear.{pieceIn, withProgress, joined, joins, heard, reportHeard}
+use Rattle.hub.specs.Hear.{pieceIn, withProgress, joined, joins, hear, reportHeard}
 use Rattle.hub.specs.Step.{step, reportStepped}
 use Rattle.hub.specs.Calls.{Call, Standing, after, answer}
 use Rattle.hub.proofs.QuietKeeps.{step-still}
@@ -44,7 +44,7 @@ module _ (c : Connection) (ready : c .state ≡ 3) (sized : badSize (c .size) �
     (i : Brings c p bytes x) where
   pub step-joins : (step (withProgress c h) (x .message) (x .keys) (x .working) b (x .verdict) ≡ joined c (join (c .size) h p bytes b))
       × (reportStepped (withProgress c h) (x .message) (x .keys) (x .working) b (x .verdict) ≡ reportAfter (c .size) h p bytes b)
-  unfolding step reportStepped heard reportHeard
+  unfolding step reportStepped hear reportHeard
   step-joins =
       let t : ltb 1 (x .verdict) ≡ false = le-ltb 1 (x .verdict) (i .verdict) in
       let q : eqb (i .header .session) (c .session) ≡ true = eq-eqb (i .header .session) (c .session) (i .session) in (

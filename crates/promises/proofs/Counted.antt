@@ -14,10 +14,10 @@ use Rattle.joining.proofs.JoinWays.{join-cases}
 use Rattle.joining.proofs.AcceptedCount.{Holds, nothing-holds, tally-now, tally-known, tally-complete, extended-holds}
 use Rattle.hub.specs.declared.Connection.{Connection}
 use Rattle.hub.specs.declared.Stepped.{Stepped}
-use Rattle.hub.specs.Hear.{pieceIn, joined, heard}
+use Rattle.hub.specs.Hear.{pieceIn, joined, hear}
 use Rattle.hub.specs.Step.{step}
 use Rattle.hub.proofs.HostWays.{refuses, repeats, requests, passes, fails, finishes}
-use Rattle.hub.proofs.StepCases.{Connects, connect-way, heard-cases, step-cases}
+use Rattle.hub.proofs.StepCases.{Connects, connect-way, hear-cases, step-cases}
 use Rattle.promises.specs.Counted.{indexIn, accepted, acceptedAll, Counts, HeardCount}
 use Rattle.promises.proofs.ReadAgain.{read-header}
 use Rattle.joining.specs.Events.{Event}
@@ -47,9 +47,9 @@ module _ (c : Connection) (es : List Event) (w : Holds (c .progress) es) where
         (same ∙ k, tally-now (c .size) (c .progress) q p report es w z),
       ))
 
-  heard-counts : (h : Header) (p report : List ℕ) (v : ℕ) → Counted (h .index) (heard c h p report v)
-  heard-counts h p report v =
-      heard-cases c h p report v (λ (s : Stepped) (b : List ℕ). Counted (h .index) s) (λ f. (w, tt))
+  hear-counts : (h : Header) (p report : List ℕ) (v : ℕ) → Counted (h .index) (hear c h p report v)
+  hear-counts h p report v =
+      hear-cases c h p report v (λ (s : Stepped) (b : List ℕ). Counted (h .index) s) (λ f. (w, tt))
       (λ f k. connected (h .index) (h .session) p v _ (connect-way c (h .session) p v))
       (λ f j. join-counts (pieceIn h) p report)
       (λ f k j. (w, tt))
@@ -59,7 +59,7 @@ module _ (c : Connection) (es : List Event) (w : Holds (c .progress) es) where
       step-cases c m keys working report v (λ (s : Stepped) (b : List ℕ). Counted (be16 m 20) s) (λ n. (w, tt))
       (λ h s from size e.
       rw (ap (λ (h : Header). h .index) (read-header m keys working h s from size e))
-      (heard-counts h (payload m (workingAfter m keys working) s from size) report v))
+      (hear-counts h (payload m (workingAfter m keys working) s from size) report v))
 
 since : (p : Standing) (es : List Event) → Holds (p .connection .progress) es → (xs : List Call)
     → Holds (afterAll p xs .connection .progress) (acceptedAll p xs es)

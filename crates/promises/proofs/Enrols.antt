@@ -19,7 +19,7 @@ use Rattle.hub.specs.declared.Stepped.{Stepped}
 use Rattle.hub.specs.declared.Answer.the-variants.{Reply}
 use Rattle.hub.specs.Opening.{blank}
 use Rattle.hub.specs.Host.{host, stepped, requested, withDigestAndState}
-use Rattle.hub.specs.Hear.{certificate, connect, isForeign, heard, reportHeard}
+use Rattle.hub.specs.Hear.{certificate, connect, isForeign, hear, reportHeard}
 use Rattle.promises.specs.Refusals.{AreBytes}
 use Rattle.promises.specs.Written.{Wrote}
 use Rattle.promises.specs.Met.{Enrolled, CanEnrol}
@@ -76,7 +76,7 @@ module _ (keys report : List ℕ) (of-keys : AreBytes keys) (whole : length keys
   -- What is heard is what the step does.
   enrols : (c d : Connection) (flags : ℕ) (bytes : List ℕ) (t : ℕ) → badSize (c .size) ≡ false
       → Wrote (header flags) end bytes keys (messageBytes (header flags) end bytes keys) → sealedSize (length bytes) ≤ 96
-      → heard c (header flags) bytes report 1 ≡ stepped d (Reply t)
+      → hear c (header flags) bytes report 1 ≡ stepped d (Reply t)
       → (answer (at c) (callWith flags bytes) ≡ Reply t) × (after (at c) (callWith flags bytes) ≡ at d)
   enrols c d flags bytes t z w l e =
       let s = steps-by-state c (header flags) end bytes keys (messageBytes (header flags) end bytes keys) w (replicate 96 0) report 1
@@ -116,16 +116,16 @@ module _ (keys report : List ℕ) (of-keys : AreBytes keys) (whole : length keys
     abbrev ready : Connection
     ready = withDigestAndState passed (passed .digest) 3
 
-    requests : heard (blank F) (header 0) requestBytes report 1 ≡ stepped waiting (Reply 1)
-    unfolding heard connect host
+    requests : hear (blank F) (header 0) requestBytes report 1 ≡ stepped waiting (Reply 1)
+    unfolding hear connect host
     requests = refl
 
-    authenticates : heard waiting (header 6) deviceBytes report 1 ≡ stepped passed (Reply 3)
-    unfolding heard connect host
+    authenticates : hear waiting (header 6) deviceBytes report 1 ≡ stepped passed (Reply 3)
+    unfolding hear connect host
     authenticates = refl
 
-    finishes : heard passed (header 6) finishBytes report 1 ≡ stepped ready (Reply 7)
-    unfolding heard connect host
+    finishes : hear passed (header 6) finishBytes report 1 ≡ stepped ready (Reply 7)
+    unfolding hear connect host
     finishes = refl
 
     fits : (sealedSize 86 ≤ 96) × (sealedSize 8 ≤ 96) × (sealedSize 3 ≤ 96)

@@ -19,7 +19,7 @@ use Rattle.message.proofs.WrittenBack.{read-plain, read-sealed}
 use Rattle.message.proofs.HandedBack.{handed-plain, handed-sealed}
 use Rattle.joining.specs.Cut.{badSize}
 use Rattle.hub.specs.declared.Connection.{Connection}
-use Rattle.hub.specs.Hear.{heard, reportHeard}
+use Rattle.hub.specs.Hear.{hear, reportHeard}
 use Rattle.hub.specs.Step.{step, reportStepped}
 use Rattle.promises.specs.Refusals.{AreBytes}
 use Rattle.promises.specs.Written.{Wrote, ReadAs, LongEnough, ReadsBack, StepsByState}
@@ -75,7 +75,7 @@ reads-back h chain payload keys message w working room = read-written h chain pa
 -- A step whose message is read hears it.
 pub step-hears : (c : Connection) (h : Header) (bytes m keys working report : List ℕ) (v : ℕ) → badSize (c .size) ≡ false → v ≤ 1
     → ReadAs h bytes m keys working
-    → (step c m keys working report v ≡ heard c h bytes report v) × (reportStepped c m keys working report v ≡ reportHeard c h bytes report)
+    → (step c m keys working report v ≡ hear c h bytes report v) × (reportStepped c m keys working report v ≡ reportHeard c h bytes report)
 unfolding step reportStepped
 step-hears c h bytes m keys working report v z l r =
     (rw (le-ltb 1 v l, z, r .reads, r .handed), rw (le-ltb 1 v l, z, r .reads, r .handed))

@@ -20,9 +20,9 @@ use Rattle.hub.specs.declared.Stepped.{Stepped}
 use Rattle.hub.specs.declared.Answer.the-variants.{Reply, Again}
 use Rattle.hub.specs.Answers.{answerOf}
 use Rattle.hub.specs.Host.{host, stepped, requested, withDigestAndState, knows}
-use Rattle.hub.specs.Hear.{certificate, connect, pieceIn, isForeign, heard}
+use Rattle.hub.specs.Hear.{certificate, connect, pieceIn, isForeign, hear}
 use Rattle.hub.proofs.HostWays.{refuses, repeats, requests, passes, fails, finishes}
-use Rattle.hub.proofs.StepCases.{Connects, connect-way, heard-cases}
+use Rattle.hub.proofs.StepCases.{Connects, connect-way, hear-cases}
 use Rattle.promises.proofs.StateKept.{Keeps}
 
 -- An answer that is no reply and no Failure.
@@ -76,8 +76,8 @@ module _ (c : Connection) (h : Header) (p report : List ℕ) (v : ℕ) where
       rw (e, ne-eqb (c .state) 1 (λ z. omega arith), le-leb 2 (c .state) k, le-leb (c .state) 3 u, w)
   connect-again _ l u (finish e s) = rw (e, s)
 
-  pub again : (t : ℕ) → Known c h p t → heard c h p report v ≡ stepped c (Again t)
-  unfolding heard
+  pub again : (t : ℕ) → Known c h p t → hear c h p report v ≡ stepped c (Again t)
+  unfolding hear
   again t w = rw (near t w, w .kind) (connect-again t (w .low) (w .high) (w .compared))
 
 -- A message that was answered with a reply is known.
@@ -112,9 +112,9 @@ module _ (c : Connection) (sized : badSize (c .size) ≡ false) (h : Header) (p 
     connect-replied _ (finishes k s) t e =
         as-told (withDigestAndState c (c .digest) 3) 7 (known _ 7 refl (ours (omega arith)) (omega arith) (omega arith) (finish k refl)) t e
 
-  pub heard-replied : Replied (heard c h p report v)
-  heard-replied =
-      heard-cases c h p report v (λ (s : Stepped) (b : List ℕ). Replied s) (λ f t e. absurd (other-reply (arrival.Refused 16) t e))
+  pub hear-replied : Replied (hear c h p report v)
+  hear-replied =
+      hear-cases c h p report v (λ (s : Stepped) (b : List ℕ). Replied s) (λ f t e. absurd (other-reply (arrival.Refused 16) t e))
       (λ f k. connect-replied f (eqb-true (h .kind) 2 k) _ (connect-way c (h .session) p v))
       (λ f j t e. absurd (other-reply (join (c .size) (c .progress) (pieceIn h) p report .answer) t e))
       (λ f k j t e. absurd (other-reply (arrival.Refused 15) t e))

@@ -27,7 +27,7 @@ use Rattle.promises.specs.Enrolment.{NoFailure, RepeatedStep}
 use Rattle.promises.proofs.ReadBack.{step-hears}
 use Rattle.promises.proofs.ReadAgain.{read-again}
 use Rattle.promises.proofs.StateKept.{step-kept}
-use Rattle.promises.proofs.RepeatKnown.{Known, still-known, again, heard-replied}
+use Rattle.promises.proofs.RepeatKnown.{Known, still-known, again, hear-replied}
 use Rattle.hub.specs.Calls.{Call, Standing, after, answer, afterAll}
 
 -- A step that answered with a reply had a fragment size, a verdict and a message that was read.
@@ -77,7 +77,7 @@ repeated-step p x t e xs n y o =
     let h = d .header in
     let bytes = d .bytes in
     let s = step-hears (p .connection) h bytes (x .message) (x .keys) (x .working) (p .report) (x .verdict) (d .sized) (d .verdict) (d .reads) .0 in
-    let f = heard-replied (p .connection) (d .sized) h bytes (p .report) (x .verdict) t (sym (ap (λ (s : Stepped). s .answer) s) ∙ e) in
+    let f = hear-replied (p .connection) (d .sized) h bytes (p .report) (x .verdict) t (sym (ap (λ (s : Stepped). s .answer) s) ∙ e) in
     let k : Known (after p x .connection) h bytes t = rw s f in
     let q = afterAll (after p x) xs in
     let w = known-since h bytes t (after p x) k xs n in

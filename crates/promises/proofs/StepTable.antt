@@ -28,9 +28,9 @@ use Rattle.hub.specs.declared.Answer.{Answer}
 use Rattle.hub.specs.declared.Answer.the-variants.{Refused, Reply, Again, Failure, Taken, Repeat, Complete}
 use Rattle.hub.specs.Answers.{valuesOf, isQuiet}
 use Rattle.hub.specs.Host.{hostRows, firstRow, host, refuse}
-use Rattle.hub.specs.Hear.{certificate, connect, pieceIn, joined, heard}
+use Rattle.hub.specs.Hear.{certificate, connect, pieceIn, joined, hear}
 use Rattle.hub.specs.Step.{afterRead, step}
-use Rattle.hub.proofs.StepCases.{connect-apart, heard-cases, step-tests}
+use Rattle.hub.proofs.StepCases.{connect-apart, hear-cases, step-tests}
 use Rattle.hub.proofs.QuietKeeps.{step-still}
 use Rattle.promises.specs.Refusals.{AreBytes, readerTable, anyOf, hostTable, handed, stepTable, StepExact, LeavesAlone}
 use Rattle.promises.proofs.RefusalTables.{reader-first, read-by-table}
@@ -70,10 +70,10 @@ module _ (c : Connection) (h : Header) (p b : List ℕ) (v : ℕ) (sized : badSi
       (λ z k d. sym z)
       (λ z k d. sym z)
 
-  heard-number : number (heard c h p b v) ≡ first (hostTable c h p b v)
+  hear-number : number (hear c h p b v) ≡ first (hostTable c h p b v)
   unfolding joinRefusal
-  heard-number =
-      heard-cases c h p b v (λ (s : Stepped) (b′ : List ℕ). number s ≡ first (hostTable c h p b v)) (λ f. rw f)
+  hear-number =
+      hear-cases c h p b v (λ (s : Stepped) (b′ : List ℕ). number s ≡ first (hostTable c h p b v)) (λ f. rw f)
       (λ f k. rw (f, k, connect-apart c h k) connect-number)
       (λ f j. rw (f, j) (join-number ∙ rw (sized, indexed)))
       (λ f k j. rw (f, k, j))
@@ -92,7 +92,7 @@ module _ (c : Connection) (m keys working report : List ℕ) (v : ℕ) where
         (on (eqb (first (readerTable m keys (length working))) 0)
         (λ e.
         let z = sym (reader-first m keys (length working) bytes) ∙ eqb-true (first (readerTable m keys (length working))) 0 e in
-        rw e (heard-number c (headerOf m) (handed c m keys working report v) report v sized (indexed (neither (refusalOf m) _ z .0))))
+        rw e (hear-number c (headerOf m) (handed c m keys working report v) report v sized (indexed (neither (refusalOf m) _ z .0))))
         (λ e. rw e))
 
   step-number : AreBytes m → number (step c m keys working report v) ≡ first (stepTable c m keys working report v)
