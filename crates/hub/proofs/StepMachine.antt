@@ -5,7 +5,6 @@ use mathlib.Core.Path.{_≡_, refl, ap}
 use mathlib.Core.List.{List}
 use mathlib.Core.Bool.{Bool, true, false}
 use lib.ListN.{length}
-use lib.Dec.{ltb, eqb}
 use borrow.Author.Tests.{le-ltb, eq-eqb}
 use Rattle.wire.specs.declared.header.Header.{Header}
 use Rattle.message.specs.Reading.{readMessage, workingAfter}
@@ -46,19 +45,14 @@ module _ (c : Connection) (ready : c .state ≡ 3) (sized : badSize (c .size) �
       × (reportStepped (withProgress c h) (x .message) (x .keys) (x .working) b (x .verdict) ≡ reportAfter (c .size) h p bytes b)
   unfolding step reportStepped hear reportHeard
   step-joins =
-      let t : ltb 1 (x .verdict) ≡ false = le-ltb 1 (x .verdict) (i .verdict) in
-      let q : eqb (i .header .session) (c .session) ≡ true = eq-eqb (i .header .session) (c .session) (i .session) in (
-        rw (t, sized, i .reads, i .kind, ready, q, i .piece, i .payload),
-        rw (t, sized, i .reads, i .kind, ready, q, i .piece, i .payload),
-      )
-
-pub place : {c c′ : Connection} {b b′ : List ℕ} → c ≡ c′ → b ≡ b′ → _≡_ {A = Standing} (record { connection = c; report = b })
-    (record { connection = c′; report = b′ })
-place p q = λ i. record { connection = p i; report = q i }
+      let q = eq-eqb (i .header .session) (c .session) (i .session) in
+      rw (le-ltb 1 (x .verdict) (i .verdict), sized, i .reads, i .kind, ready, q, i .piece, i .payload) (refl, refl)
 
 -- A quiet call changes nothing, on any connection.
 pub still : (s : Standing) (x : Call) → isQuiet (answer s x) ≡ true → after s x ≡ s
-still s x e = let k = step-still (s .connection) (s .report) (x .message) (x .keys) (x .working) (x .verdict) e in place (k .0) (k .1)
+still s x e =
+    let k = step-still (s .connection) (s .report) (x .message) (x .keys) (x .working) (x .verdict) e in
+    λ j. record { connection = k .0 j; report = k .1 j }
 
 -- The machine.
 module _ (c : Connection) (ready : c .state ≡ 3) (sized : badSize (c .size) ≡ false) where
@@ -75,7 +69,7 @@ module _ (c : Connection) (ready : c .state ≡ 3) (sized : badSize (c .size) �
         seat = λ h b. record { connection = withProgress c h; report = b };
         answer = answerOf;
         done = isComplete;
-        joins = λ h b p bytes x i. let k = step-joins c ready sized h b p bytes x i in place (ap (λ (s : Stepped). s .connection) (k .0)) (k .1);
+        joins = λ h b p bytes x i j. let k = step-joins c ready sized h b p bytes x i in record { connection = k .0 j .connection; report = k .1 j };
         answers = λ h b p bytes x i. ap (λ (s : Stepped). s .answer) (step-joins c ready sized h b p bytes x i .0);
         still = still;
         done-taken = λ k. refl;

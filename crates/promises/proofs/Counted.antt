@@ -8,16 +8,15 @@ use Rattle.wire.specs.declared.header.Header.{Header}
 use Rattle.message.specs.Reading.{workingAfter}
 use Rattle.message.specs.Handed.{payload}
 use Rattle.joining.specs.declared.Piece.{Piece}
-use Rattle.joining.specs.declared.Joined.{Joined}
 use Rattle.joining.specs.Join.{join}
 use Rattle.joining.proofs.JoinWays.{join-cases}
 use Rattle.joining.proofs.AcceptedCount.{Holds, nothing-holds, tally-now, tally-known, tally-complete, extended-holds}
 use Rattle.hub.specs.declared.Connection.{Connection}
 use Rattle.hub.specs.declared.Stepped.{Stepped}
-use Rattle.hub.specs.Hear.{pieceIn, joined, hear}
+use Rattle.hub.specs.Hear.{connect, pieceIn, joined}
 use Rattle.hub.specs.Step.{step}
-use Rattle.hub.proofs.HostWays.{refuses, repeats, requests, passes, fails, finishes}
-use Rattle.hub.proofs.StepCases.{Connects, connect-way, hear-cases, step-cases}
+use Rattle.hub.proofs.HostWays.{connect-cases}
+use Rattle.hub.proofs.StepCases.{hear-cases, step-cases}
 use Rattle.promises.specs.Counted.{indexIn, accepted, acceptedAll, Counts, HeardCount}
 use Rattle.promises.proofs.ReadAgain.{read-header}
 use Rattle.joining.specs.Events.{Event}
@@ -28,18 +27,14 @@ module _ (c : Connection) (es : List Event) (w : Holds (c .progress) es) where
   abbrev Counted : ℕ → Stepped → Type 0
   Counted i s = Holds (s .connection .progress) (accepted (s .answer) i es) × Counts (s .answer) i es
 
-  connected : (i session : ℕ) (p : List ℕ) (v : ℕ) (s : Stepped) → Connects c session p v s → Counted i s
-  connected i session p v _ (refuses n) = (w, tt)
-  connected i session p v _ (repeats t) = (w, tt)
-  connected i session p v _ (requests t s) = (w, tt)
-  connected i session p v _ (passes t s) = (w, tt)
-  connected i session p v _ (fails z) = (w, tt)
-  connected i session p v _ (finishes t s) = (w, tt)
+  connect-counts : (i session : ℕ) (p : List ℕ) (v : ℕ) → Counted i (connect c session p v)
+  connect-counts i session p v =
+      connect-cases c session p v (Counted i) (λ n. (w, tt)) (λ t. (w, tt)) (λ t s. (w, tt)) (λ t s. (w, tt)) (λ z. (w, tt)) (λ t s. (w, tt))
 
   join-counts : (q : Piece) (p report : List ℕ) → Counted (q .index) (joined c (join (c .size) (c .progress) q p report))
   join-counts q p report =
       let same = sym (w .alike (q .index)) in
-      join-cases (c .size) (c .progress) q p report (λ (j : Joined) (b : List ℕ). Counted (q .index) (joined c j)) (λ z. (w, tt))
+      join-cases (c .size) (c .progress) q p report (λ j b. Counted (q .index) (joined c j)) (λ z. (w, tt))
       (λ z k. (w, (same ∙ k, tally-known (c .size) (c .progress) q p report es w z k)))
       (λ z k d. (nothing-holds _ refl, (same ∙ k, tally-complete (c .size) (c .progress) q p report es w z d)))
       (λ z k d. (
@@ -47,19 +42,14 @@ module _ (c : Connection) (es : List Event) (w : Holds (c .progress) es) where
         (same ∙ k, tally-now (c .size) (c .progress) q p report es w z),
       ))
 
-  hear-counts : (h : Header) (p report : List ℕ) (v : ℕ) → Counted (h .index) (hear c h p report v)
-  hear-counts h p report v =
-      hear-cases c h p report v (λ (s : Stepped) (b : List ℕ). Counted (h .index) s) (λ f. (w, tt))
-      (λ f k. connected (h .index) (h .session) p v _ (connect-way c (h .session) p v))
-      (λ f j. join-counts (pieceIn h) p report)
-      (λ f k j. (w, tt))
-
   step-counts : (m keys working report : List ℕ) (v : ℕ) → Counted (be16 m 20) (step c m keys working report v)
   step-counts m keys working report v =
-      step-cases c m keys working report v (λ (s : Stepped) (b : List ℕ). Counted (be16 m 20) s) (λ n. (w, tt))
-      (λ h s from size e.
+      step-cases c m keys working report v (λ s b. Counted (be16 m 20) s) (λ n. (w, tt))
+      (λ z h s from size e.
+      let p = payload m (workingAfter m keys working) s from size in
       rw (ap (λ (h : Header). h .index) (read-header m keys working h s from size e))
-      (hear-counts h (payload m (workingAfter m keys working) s from size) report v))
+      (hear-cases c h p report v (λ s b. Counted (h .index) s) (λ f. (w, tt)) (λ f k. connect-counts (h .index) (h .session) p v)
+      (λ f j. join-counts (pieceIn h) p report) (λ f k j. (w, tt))))
 
 since : (p : Standing) (es : List Event) → Holds (p .connection .progress) es → (xs : List Call)
     → Holds (afterAll p xs .connection .progress) (acceptedAll p xs es)
