@@ -7,7 +7,7 @@ use mathlib.Core.Bool.{Bool, true, false, and-false}
 use native.Mathlib.Omega.{arith}
 use lib.ListN.{length, drop, replicate, length-replicate}
 use lib.Seq.{take-at}
-use borrow.Author.Tests.{eq-eqb, ne-eqb, le-ltb, lt-leb}
+use borrow.Author.Tests.{ne-eqb, le-ltb, lt-leb}
 use Rattle.wire.specs.Fields.{badType, badFlags, badPiece, isSealed, mostPieces}
 use Rattle.wire.specs.Payload.{badPayload}
 use Rattle.wire.specs.declared.header.Header.{Header}
@@ -15,7 +15,6 @@ use Rattle.laws.proofs.ByteLists.{take-bytes, drop-bytes}
 use Rattle.message.specs.Writing.{lengthOf, writeRefusal, messageBytes, writeAnswer, writtenInto}
 use Rattle.message.proofs.WrittenLengths.{length-messageBytes}
 use Rattle.joining.specs.Heard.{most, bit}
-use Rattle.joining.specs.Report.{part}
 use Rattle.joining.specs.Cut.{cutCount}
 use Rattle.joining.proofs.Cuts.{Cuttable, cuttable, not-over}
 use Rattle.promises.specs.Refusals.{AreBytes}
@@ -23,7 +22,7 @@ use Rattle.promises.specs.Written.{Wrote}
 use Rattle.promises.specs.Reports.{Sending, fragments, fragment, headerFor, Fair, Sent, done, brings}
 use Rattle.promises.specs.Met.{Typed, Choice, Good, flagsOf, callFor, CanBeSent, AnyOrder}
 use Rattle.promises.proofs.ReadBack.{all-bytes}
-use Rattle.promises.proofs.ReportsJoined.{each-cut, each-count}
+use Rattle.promises.proofs.ReportsJoined.{counted, is-part}
 use Rattle.message.specs.Widths.{InWidth}
 use Rattle.hub.specs.Calls.{after}
 
@@ -56,29 +55,22 @@ flags-free false true = (refl, omega arith)
 flags-free false false = (refl, omega arith)
 
 module _ (s : Sending) (f : Fair s) (t : Typed s) (i : ℕ) (l : i < fragments s) where
-  abbrev F : ℕ
-  F = s .connection .size
-
-  k : Cuttable F (length (s .report)) 0
-  k = cuttable F (length (s .report)) 0 (f .cut)
-
-  is-part : fragment s i ≡ part (s .report) (F * i) F
-  is-part = rw (each-cut F (length (s .report)) (f .cut) i l)
+  k : Cuttable (s .connection .size) (length (s .report)) 0
+  k = cuttable (s .connection .size) (length (s .report)) 0 (f .cut)
 
   pub not-longer : length (fragment s i) ≤ s .connection .size
-  not-longer = rw is-part (not-over (s .report) (k .cut) i l)
+  not-longer = rw (is-part s f i l) (not-over (s .report) (k .cut) i l)
 
   of-fragment : AreBytes (fragment s i)
-  of-fragment = rw is-part (take-bytes F (drop (F * i) (s .report)) (drop-bytes (F * i) (s .report) (all-bytes (t .report))) .at)
+  of-fragment =
+      let at = s .connection .size * i in
+      rw (is-part s f i l) (take-bytes (s .connection .size) (drop at (s .report)) (drop-bytes at (s .report) (all-bytes (t .report))) .at)
 
-  counted : cutCount F (length (s .report)) i ≡ fragments s
-  counted = each-count F (length (s .report)) (f .cut) i l
-
-  placed : badPiece 4 i (cutCount F (length (s .report)) i) ≡ false
+  placed : badPiece 4 i (cutCount (s .connection .size) (length (s .report)) i) ≡ false
   unfolding badPiece
   placed =
       let n = fragments s in
-      rw (counted, ne-eqb n 0 (λ z. omega arith), le-ltb mostPieces n (k .cut .most), lt-leb n i l)
+      rw (counted s f i l, ne-eqb n 0 (λ z. omega arith), le-ltb mostPieces n (k .cut .most), lt-leb n i l)
 
   module _ (d : Choice) (g : Good s d) where
     abbrev h : Header
@@ -87,21 +79,14 @@ module _ (s : Sending) (f : Fair s) (t : Typed s) (i : ℕ) (l : i < fragments s
     widths : InWidth h
     unfolding mostPieces
     widths =
-        omega (arith, counted, k .cut .most, flags-free (d .acknowledge) (d .wake) .1, f .number, g .request, t .session, t .channel)
+        omega (arith, counted s f i l, k .cut .most, flags-free (d .acknowledge) (d .wake) .1, f .number, g .request, t .session, t .channel)
 
     allowed : writeRefusal h (d .chain) (fragment s i) (length (s .keys)) (lengthOf h (d .chain) (fragment s i)) ≡ 0
     unfolding writeRefusal badType badPayload
     allowed =
         let n = lengthOf h (d .chain) (fragment s i) in
-        rw (
-          flags-free (d .acknowledge) (d .wake) .0,
-          placed,
-          g .chained,
-          eq-eqb (length (s .keys)) 64 (t .whole),
-          and-false (isSealed (flagsOf d)),
-          le-ltb 16384 (length (fragment s i)) (omega (arith, not-longer, k .small)),
-          le-ltb n n (omega arith),
-        )
+        let short = le-ltb 16384 (length (fragment s i)) (omega (arith, not-longer, k .small)) in
+        rw (flags-free (d .acknowledge) (d .wake) .0, placed, g .chained, t .whole, and-false (isSealed (flagsOf d)), short, le-ltb n n (omega arith))
 
     pub sent : Sent s i (callFor s i d)
     sent =
