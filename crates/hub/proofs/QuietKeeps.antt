@@ -3,7 +3,7 @@
 use Prim.Native.Nat.{ℕ}
 use mathlib.Core.Path.{_≡_, refl}
 use mathlib.Core.List.{List}
-use mathlib.Core.Bool.{true, false≢true}
+use mathlib.Core.Bool.{true, false, false≢true}
 use Rattle.message.specs.Reading.{workingAfter}
 use Rattle.message.specs.Handed.{payload}
 use Rattle.joining.specs.declared.Piece.{Piece}
@@ -21,20 +21,20 @@ use Rattle.hub.proofs.StepCases.{hear-cases, step-cases}
 abbrev pub Still : Connection → List ℕ → Stepped → List ℕ → Type 0
 Still c b s b′ = isQuiet (s .answer) ≡ true → (s .connection ≡ c) × (b′ ≡ b)
 
+-- No other answer is quiet.
+loud : {A : Type 0} → false ≡ true → A
+loud e = absurd (false≢true e)
+
 module _ (c : Connection) (b : List ℕ) where
   connect-still : (session : ℕ) (p : List ℕ) (v : ℕ) → Still c b (connect c session p v) b
   connect-still session p v =
-      connect-cases c session p v (λ s. Still c b s b) (λ n e. (refl, refl)) (λ t e. (refl, refl)) (λ t s e. absurd (false≢true e))
-      (λ t s e. absurd (false≢true e))
-      (λ z e. absurd (false≢true e))
-      (λ t s e. absurd (false≢true e))
+      connect-cases c session p v (λ s. Still c b s b) (λ n e. (refl, refl)) (λ t e. (refl, refl))
+      (λ t s. loud) (λ t s. loud) (λ z. loud) (λ t s. loud)
 
   joined-still : (q : Piece) (p : List ℕ) → Still c b (joined c (join (c .size) (c .progress) q p b)) (reportAfter (c .size) (c .progress) q p b)
   joined-still q p =
       join-cases (c .size) (c .progress) q p b (λ j b′. Still c b (joined c j) b′) (λ z e. (refl, refl))
-      (λ z k e. absurd (false≢true e))
-      (λ z k d e. absurd (false≢true e))
-      (λ z k d e. absurd (false≢true e))
+      (λ z k. loud) (λ z k d. loud) (λ z k d. loud)
 
   pub step-still : (m k w : List ℕ) (v : ℕ) → Still c b (step c m k w b v) (reportStepped c m k w b v)
   step-still m k w v =

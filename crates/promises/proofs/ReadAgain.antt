@@ -6,7 +6,7 @@ use mathlib.Core.List.{List, []}
 use mathlib.Core.Bool.{Bool, true, cond}
 use lib.ListN.{length}
 use lib.Dec.{eqb}
-use borrow.Author.Tests.{eqb-true, eq-eqb, le-ltb}
+use borrow.Author.Tests.{eqb-true, le-ltb}
 use Rattle.laws.proofs.Cases.{on}
 use Rattle.laws.proofs.Firsts.{neither}
 use Rattle.wire.specs.Chain.{leaves}
@@ -32,13 +32,7 @@ room-only : (keys m : List ℕ) (at room other : ℕ) → openRefusal keys m at 
 unfolding openRefusal partRefusal
 room-only keys m at room other e l =
     let ok = accepted keys m at room e in
-    rw (
-      neither (noPart (length m) at) _ e .0,
-      eq-eqb (length keys) 64 (ok .keys64),
-      ok .tag,
-      le-ltb other (length (sealedPart m at)) l,
-      ok .ruled,
-    )
+    rw (neither (noPart (length m) at) _ e .0, ok .keys64, ok .tag, le-ltb other (length (sealedPart m at)) l, ok .ruled)
 
 -- What the choosing function hands out by what the reader answered.
 abbrev handedBy : List ℕ → List ℕ → MessageRead → List ℕ

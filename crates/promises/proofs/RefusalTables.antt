@@ -1,6 +1,6 @@
 -- SPDX-License-Identifier: MPL-2.0
 -- Demand 1 for reader, cutter and writer: each call's refusal is the first number of its table, and laws' both directions do the rest.
-use Prim.Native.Nat.{ℕ, _-_}
+use Prim.Native.Nat.{ℕ, _+_, _-_, _≤_}
 use mathlib.Core.Path.{_≡_, refl, sym, ap, _∙_}
 use mathlib.Core.List.{List, _++_}
 use mathlib.Core.Bool.{Bool, true, cond}
@@ -45,17 +45,12 @@ module _ (m keys : List ℕ) (room : ℕ) (bytes : AreBytes m) where
   unfolding noPart
   part-there z s =
       let w = wire.read-sound m (headerOf m) (start m) (leaves (chainOf m)) (read-good m z) in
-      let g = w .good in
-      let b = g .blocks s in
+      let b = w .blocks s in
       let t = wire.sealed-tag (be16 m 6) s in
-      let q : length m - 32 - start m ≡ leaves (chainOf m) = omega (arith, w .spans) in
-      rw (
-        le-ltb (length m) 42 (g .long),
-        le-ltb 65535 (length m) (omega (arith, g .size, bytes 2, bytes 3)),
-        lt-leb (length m - 32) (start m) (omega (arith, w .spans)),
-        q,
-        b .0,
-      )
+      let short : length m ≤ 65535 = omega (arith, w .good .size, bytes 2, bytes 3) in
+      let spans : start m + leaves (chainOf m) + 32 ≡ length m = omega (arith, w .spans) in
+      let q : length m - 32 - start m ≡ leaves (chainOf m) = omega arith in
+      rw (le-ltb (length m) 42 (omega arith), le-ltb 65535 (length m) short, lt-leb (length m - 32) (start m) (omega arith), q, b .0)
 
   -- Rows 10 to 13 are seal's two tables in turn.
   sealed-first : refusalOf m ≡ 0 → first (sealedTable m keys room) ≡ cond (sealed m) (openRefusal keys m (start m) room) 0

@@ -55,10 +55,6 @@ still-known c d h p t k w =
 
 -- A known message gets Again.
 module _ (c : Connection) (h : Header) (p report : List ℕ) (v : ℕ) where
-  near : (t : ℕ) → Known c h p t → isForeign c h ≡ false
-  near t w =
-      rw (w .kind, ne-eqb (c .state) 0 (λ z. omega (arith, w .low)), eq-eqb (h .session) (c .session) (w .session))
-
   connect-again : (t : ℕ) → 1 ≤ c .state → c .state ≤ 3 → Compared c p t → connect c (h .session) p v ≡ stepped c (Again t)
   unfolding connect host
   connect-again _ l u (request e w) =
@@ -69,7 +65,9 @@ module _ (c : Connection) (h : Header) (p report : List ℕ) (v : ℕ) where
 
   pub again : (t : ℕ) → Known c h p t → hear c h p report v ≡ stepped c (Again t)
   unfolding hear
-  again t w = rw (near t w, w .kind) (connect-again t (w .low) (w .high) (w .compared))
+  again t w =
+      rw (w .kind, ne-eqb (c .state) 0 (λ z. omega (arith, w .low)), eq-eqb (h .session) (c .session) (w .session))
+      (connect-again t (w .low) (w .high) (w .compared))
 
 -- A message that was answered with a reply is known.
 module _ (c : Connection) (sized : badSize (c .size) ≡ false) (h : Header) (p report : List ℕ) (v : ℕ) where

@@ -18,7 +18,7 @@ use Rattle.hub.specs.declared.Answer.the-variants.{Refused, Reply, Again, Failu
 use Rattle.hub.proofs.StepMachine.{Brings, hub}
 use Rattle.promises.specs.Reports.{Sending, began, fragments, Fair, fragment, headerFor, Sent, Course, done, brings, rests}
 use Rattle.promises.specs.Reports.{Brought, DemandThree, NotBetween}
-use Rattle.promises.proofs.ReadBack.{reads-back}
+use Rattle.promises.proofs.ReadBack.{steps-by-state}
 use Rattle.joining.specs.Events.{Event, piece}
 use Rattle.hub.specs.Calls.{Call, Standing}
 
@@ -60,18 +60,14 @@ module _ (s : Sending) (f : Fair s) where
       → Brings (s .connection) (snapshot.pieceOf start i) (snapshot.pieceBytes start i) x
   sent-brings i l x o =
       let h = headerFor s i (o .request) (o .flags) in
-      let r = reads-back h (o .chain) (fragment s i) (s .keys) (x .message) (o .written) (x .working) (λ e. o .room) in
       record {
-        verdict = o .verdict;
         header = h;
-        sealed = r .sealed;
-        from = r .from;
-        size = r .size;
-        reads = rw (o .keys) (r .reads);
         kind = refl;
         session = refl;
         piece = rw (counted i l);
-        payload = rw (o .keys) (r .handed ∙ is-part i l);
+        hears = λ d b z.
+            rw (o .keys, ← (is-part i l))
+            (steps-by-state d h (o .chain) _ _ _ (o .written) (x .working) b (x .verdict) (λ e. o .room) (o .verdict) z);
       }
 
   course : {p : Standing} {xs : List Call} {es : List Event} → Course s p xs es → joining.CourseOf start machine p xs es

@@ -26,7 +26,7 @@ use Rattle.hub.specs.declared.Stepped.{Stepped}
 use Rattle.hub.specs.declared.Answer.{Answer}
 use Rattle.hub.specs.declared.Answer.the-variants.{Refused, Reply, Again, Failure, Taken, Repeat, Complete}
 use Rattle.hub.specs.Answers.{valuesOf, isQuiet}
-use Rattle.hub.specs.Host.{hostRows, firstRow, host as hosts, refuse}
+use Rattle.hub.specs.Host.{hostRows, firstRow, host, refuse}
 use Rattle.hub.specs.Hear.{certificate, connect, pieceIn, joined, hear}
 use Rattle.hub.specs.Step.{afterRead, step}
 use Rattle.hub.proofs.StepCases.{connect-apart, hear-cases, step-tests}
@@ -58,7 +58,7 @@ module _ (c : Connection) (h : Header) (p b : List ℕ) (v : ℕ) (sized : badSi
   rows = hostRows c (connectType p) (h .session) (readRequest p) (digest (certificate p)) v
 
   connect-number : number (connect c (h .session) p v) ≡ cond (not (anyOf rows)) 15 0
-  unfolding connect hosts
+  unfolding connect host
   connect-number = loud-first rows (refuse c 15) refl
 
   -- Joining's refusal is the step's.
@@ -90,11 +90,12 @@ refused-is (Repeat k) n z e = absurd (z (sym e))
 refused-is (Complete l k) n z e = absurd (z (sym e))
 
 module _ (c : Connection) (m keys working report : List ℕ) (v : ℕ) where
-  abbrev host : List (ℕ × Bool)
-  host = hostTable c (headerOf m) (handed c m keys working report v) report v
+  -- The rows after 14.
+  abbrev later : List (ℕ × Bool)
+  later = hostTable c (headerOf m) (handed c m keys working report v) report v
 
   read-number : badSize (c .size) ≡ false → number (afterRead c m (workingAfter m keys working) report v (readMessage m keys (length working)))
-      ≡ orElse (readerNumber m keys (length working)) (first host)
+      ≡ orElse (readerNumber m keys (length working)) (first later)
   read-number sized =
       let n = readerNumber m keys (length working) in
       rw (read-by-number m keys (length working))
@@ -109,8 +110,8 @@ module _ (c : Connection) (m keys working report : List ℕ) (v : ℕ) where
       step-tests c m keys working report v (λ s b. number s ≡ first (stepTable c m keys working report v)) (λ t. rw t) (λ t z. rw (t, z))
       (λ t z.
       rw (t, z)
-      (read-number z ∙ ap (λ (n : ℕ). orElse n (first host)) (sym (reader-first m keys (length working) bytes))
-      ∙ sym (first-append (readerTable m keys (length working)) host refl)))
+      (read-number z ∙ ap (λ (n : ℕ). orElse n (first later)) (sym (reader-first m keys (length working) bytes))
+      ∙ sym (first-append (readerTable m keys (length working)) later refl)))
 
   pub step-exact : StepExact c m keys working report v
   step-exact n bytes z =

@@ -27,24 +27,22 @@ use Rattle.message.specs.Widths.{InWidth}
 use Rattle.hub.specs.Calls.{after}
 
 -- A call of the writer with an output that is just long enough.
-module _ (h : Header) (chain bytes keys : List ℕ) (widths : InWidth h) (of-chain : AreBytes chain) (of-bytes : AreBytes bytes)
-    (of-keys : AreBytes keys)
-    (good : writeRefusal h chain bytes (length keys) (lengthOf h chain bytes) ≡ 0) where
-  pub wrote : Wrote h chain bytes keys (messageBytes h chain bytes keys)
-  unfolding writeAnswer writtenInto
-  wrote =
-      let n = lengthOf h chain bytes in
-      let k = length-replicate {A = ℕ} n 0 in
-      record {
-        widths = widths;
-        of-chain = of-chain;
-        of-payload = of-bytes;
-        of-keys = of-keys;
-        output = replicate n 0;
-        size = n;
-        answered = rw (k, good);
-        bytes = rw (k, good) (sym (take-at (messageBytes h chain bytes keys) (drop n (replicate n 0)) n (length-messageBytes h chain bytes keys)));
-      }
+pub wrote : (h : Header) (chain bytes keys : List ℕ) → InWidth h → AreBytes chain → AreBytes bytes → AreBytes keys
+    → writeRefusal h chain bytes (length keys) (lengthOf h chain bytes) ≡ 0 → Wrote h chain bytes keys (messageBytes h chain bytes keys)
+unfolding writeAnswer writtenInto
+wrote h chain bytes keys widths of-chain of-bytes of-keys good =
+    let n = lengthOf h chain bytes in
+    let k = length-replicate {A = ℕ} n 0 in
+    record {
+      widths = widths;
+      of-chain = of-chain;
+      of-payload = of-bytes;
+      of-keys = of-keys;
+      output = replicate n 0;
+      size = n;
+      answered = rw (k, good);
+      bytes = rw (k, good) (sym (take-at (messageBytes h chain bytes keys) (drop n (replicate n 0)) n (length-messageBytes h chain bytes keys)));
+    }
 
 -- Acknowledge and wake are free; 2 and 4 are there.
 flags-free : (a w : Bool) → (badFlags 4 (6 + bit a + 8 * bit w) ≡ false) × (6 + bit a + 8 * bit w ≤ 15)
