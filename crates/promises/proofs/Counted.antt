@@ -3,7 +3,6 @@
 use Prim.Native.Nat.{ℕ}
 use mathlib.Core.Path.{refl, sym, ap, _∙_}
 use mathlib.Core.List.{List, [], _∷_}
-use Rattle.laws.specs.Bytes.{be16}
 use Rattle.wire.specs.declared.header.Header.{Header}
 use Rattle.message.specs.Reading.{workingAfter}
 use Rattle.message.specs.Handed.{payload}
@@ -42,24 +41,22 @@ module _ (c : Connection) (es : List Event) (w : Holds (c .progress) es) where
         (same ∙ k, tally-now (c .size) (c .progress) q p report es w z),
       ))
 
-  step-counts : (m keys working report : List ℕ) (v : ℕ) → Counted (be16 m 20) (step c m keys working report v)
-  step-counts m keys working report v =
-      step-cases c m keys working report v (λ s b. Counted (be16 m 20) s) (λ n. (w, tt))
+  step-counts : (b : List ℕ) (x : Call) → Counted (indexIn x) (step c (x .message) (x .keys) (x .working) b (x .verdict))
+  step-counts b x =
+      step-cases c (x .message) (x .keys) (x .working) b (x .verdict) (λ s b′. Counted (indexIn x) s) (λ n. (w, tt))
       (λ z h s from size e.
-      let p = payload m (workingAfter m keys working) s from size in
-      rw (ap (λ (h : Header). h .index) (read-header m keys working h s from size e))
-      (hear-cases c h p report v (λ s b. Counted (h .index) s) (λ f. (w, tt)) (λ f k. connect-counts (h .index) (h .session) p v)
-      (λ f j. join-counts (pieceIn h) p report) (λ f k j. (w, tt))))
+      let p = payload (x .message) (workingAfter (x .message) (x .keys) (x .working)) s from size in
+      rw (ap (λ (h : Header). h .index) (read-header (x .message) (x .keys) (x .working) h s from size e))
+      (hear-cases c h p b (x .verdict) (λ s b′. Counted (h .index) s) (λ f. (w, tt))
+      (λ f k. connect-counts (h .index) (h .session) p (x .verdict)) (λ f j. join-counts (pieceIn h) p b) (λ f k j. (w, tt))))
 
 since : (p : Standing) (es : List Event) → Holds (p .connection .progress) es → (xs : List Call)
     → Holds (afterAll p xs .connection .progress) (acceptedAll p xs es)
 since p es w [] = w
 since p es w (x ∷ xs) =
-    since (after p x) (accepted (answer p x) (indexIn x) es)
-    (step-counts (p .connection) es w (x .message) (x .keys) (x .working) (p .report) (x .verdict) .0) xs
+    since (after p x) (accepted (answer p x) (indexIn x) es) (step-counts (p .connection) es w (p .report) x .0) xs
 
 pub heard-count : HeardCount
 heard-count p e xs x =
     let q = afterAll p xs in
-    step-counts (q .connection) (acceptedAll p xs []) (since p [] (nothing-holds (p .connection .progress) e) xs) (x .message) (x .keys) (x .working)
-    (q .report) (x .verdict) .1
+    step-counts (q .connection) (acceptedAll p xs []) (since p [] (nothing-holds (p .connection .progress) e) xs) (q .report) x .1

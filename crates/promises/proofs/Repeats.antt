@@ -10,7 +10,6 @@ use Rattle.hub.specs.declared.Connection.{Connection}
 use Rattle.hub.specs.declared.Stepped.{Stepped}
 use Rattle.hub.specs.declared.Answer.the-variants.{Reply, Again}
 use Rattle.hub.specs.Answers.{isQuiet}
-use Rattle.hub.specs.Step.{step}
 use Rattle.hub.proofs.StepCases.{step-cases}
 use Rattle.hub.proofs.StepMachine.{still}
 use Rattle.promises.specs.Written.{ReadAs}
@@ -22,24 +21,24 @@ use Rattle.promises.proofs.StateKept.{step-kept}
 use Rattle.promises.proofs.RepeatKnown.{Known, still-known, again, hear-replied}
 use Rattle.hub.specs.Calls.{Call, Standing, after, answer, afterAll}
 
--- Of a step that was answered with a reply: its message was read, and is known since.
-pub record Learnt (d : Connection) (m keys w : List ℕ) (t : ℕ) : Type 0 where
+-- Of a call that was answered with a reply: its message was read, and is known since.
+pub record Learnt (d : Connection) (x : Call) (t : ℕ) : Type 0 where
   pub header : Header
   pub bytes : List ℕ
-  pub reads : ReadAs header bytes m keys w
+  pub reads : ReadAs header bytes (x .message) (x .keys) (x .working)
   pub known : Known d header bytes t
 
-replied : (c : Connection) (m keys w report : List ℕ) (v t : ℕ) → step c m keys w report v .answer ≡ Reply t
-    → Learnt (step c m keys w report v .connection) m keys w t
-replied c m keys w report v t =
-    step-cases c m keys w report v (λ s b. s .answer ≡ Reply t → Learnt (s .connection) m keys w t) (λ n e. apart (cc))
+replied : (p : Standing) (x : Call) (t : ℕ) → answer p x ≡ Reply t → Learnt (after p x .connection) x t
+replied p x t =
+    step-cases (p .connection) (x .message) (x .keys) (x .working) (p .report) (x .verdict)
+    (λ s b. s .answer ≡ Reply t → Learnt (s .connection) x t) (λ n e. apart (cc))
     (λ z h s from size r e.
-    let p = payload m (workingAfter m keys w) s from size in
+    let bytes = payload (x .message) (workingAfter (x .message) (x .keys) (x .working)) s from size in
     record {
       header = h;
-      bytes = p;
+      bytes = bytes;
       reads = record { sealed = s; from = from; size = size; reads = r; handed = refl };
-      known = hear-replied c z h p report v t e;
+      known = hear-replied (p .connection) z h bytes (p .report) (x .verdict) t e;
     })
 
 known-since : (h : Header) (bytes : List ℕ) (t : ℕ) (p : Standing) → Known (p .connection) h bytes t → (xs : List Call) → NoFailure p xs
@@ -47,13 +46,11 @@ known-since : (h : Header) (bytes : List ℕ) (t : ℕ) (p : Standing) → Known
 known-since h bytes t p w [] n = w
 known-since h bytes t p w (x ∷ xs) n =
     known-since h bytes t (after p x)
-    (still-known (p .connection) (after p x .connection) h bytes t
-    (step-kept (p .connection) (w .low) (w .high) (x .message) (x .keys) (x .working) (p .report) (x .verdict) (n .0)) w)
-    xs (n .1)
+    (still-known (p .connection) (after p x .connection) h bytes t (step-kept (p .connection) (w .low) (w .high) (p .report) x (n .0)) w) xs (n .1)
 
 pub repeated-step : RepeatedStep
 repeated-step p x t e xs n y o =
-    let l = replied (p .connection) (x .message) (x .keys) (x .working) (p .report) (x .verdict) t e in
+    let l = replied p x t e in
     let h = l .header in
     let bytes = l .bytes in
     let q = afterAll (after p x) xs in

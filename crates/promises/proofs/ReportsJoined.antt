@@ -35,7 +35,7 @@ module _ (s : Sending) (f : Fair s) where
   is-part i l = rw (uncut-all .1 i l)
 
   -- The report as joining sees it.
-  abbrev start : snapshot.Start
+  abbrev pub start : snapshot.Start
   start =
       record {
         size = s .connection .size;
@@ -46,7 +46,7 @@ module _ (s : Sending) (f : Fair s) where
         buffer = s .buffer;
       }
 
-  start-fair : snapshot.Startable start
+  pub start-fair : snapshot.Startable start
   start-fair =
       let k = cuttable (s .connection .size) (length (s .report)) 0 (f .cut) in
       record { small = k .small; cut = k .cut; number = f .number; fresh = f .unheard; room = f .room }

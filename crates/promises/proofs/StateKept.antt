@@ -12,6 +12,7 @@ use Rattle.hub.specs.declared.Answer.the-variants.{Failure}
 use Rattle.hub.specs.Host.{withDigestAndState}
 use Rattle.hub.specs.Hear.{certificate, connect, withProgress}
 use Rattle.hub.specs.Step.{step}
+use Rattle.hub.specs.Calls.{Call}
 use Rattle.hub.proofs.HostWays.{connect-cases}
 use Rattle.hub.proofs.StepCases.{step-has}
 use Rattle.promises.specs.Enrolment.{OnlyByZero}
@@ -47,8 +48,10 @@ module _ (c : Connection) (low : 1 ≤ c .state) (high : c .state ≤ 3) where
       (λ z f. absurd (f refl))
       (λ t z f. moved (c .digest) 3 (c .progress) (omega arith) (omega arith) (λ l. refl))
 
-  pub step-kept : (m keys w report : List ℕ) (v : ℕ) → Kept (step c m keys w report v)
-  step-kept m keys w report v = step-has c m keys w report v Kept (λ n f. kept (c .progress)) (connect-kept v) (λ j f. kept (j .progress))
+  pub step-kept : (b : List ℕ) (x : Call) → Kept (step c (x .message) (x .keys) (x .working) b (x .verdict))
+  step-kept b x =
+      step-has c (x .message) (x .keys) (x .working) b (x .verdict) Kept (λ n f. kept (c .progress)) (connect-kept (x .verdict))
+      (λ j f. kept (j .progress))
 
 -- Failure is named by one row, whose verdict is 0.
 module _ (c : Connection) (v : ℕ) where

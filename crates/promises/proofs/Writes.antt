@@ -16,13 +16,13 @@ use Rattle.message.specs.Writing.{lengthOf, writeRefusal, messageBytes, writeAn
 use Rattle.message.proofs.WrittenLengths.{length-messageBytes}
 use Rattle.joining.specs.Heard.{most, bit}
 use Rattle.joining.specs.Cut.{cutCount}
-use Rattle.joining.proofs.Cuts.{Cuttable, cuttable, not-over}
+use Rattle.joining.proofs.Cuts.{not-over}
 use Rattle.promises.specs.Refusals.{AreBytes}
 use Rattle.promises.specs.Written.{Wrote}
 use Rattle.promises.specs.Reports.{Sending, fragments, fragment, headerFor, Fair, Sent, done, brings}
 use Rattle.promises.specs.Met.{Typed, Choice, Good, flagsOf, callFor, CanBeSent, AnyOrder}
 use Rattle.promises.proofs.ReadBack.{all-bytes}
-use Rattle.promises.proofs.ReportsJoined.{counted, is-part}
+use Rattle.promises.proofs.ReportsJoined.{counted, is-part, start-fair}
 use Rattle.message.specs.Widths.{InWidth}
 use Rattle.hub.specs.Calls.{after}
 
@@ -53,11 +53,8 @@ flags-free false true = (refl, omega arith)
 flags-free false false = (refl, omega arith)
 
 module _ (s : Sending) (f : Fair s) (t : Typed s) (i : ℕ) (l : i < fragments s) where
-  k : Cuttable (s .connection .size) (length (s .report)) 0
-  k = cuttable (s .connection .size) (length (s .report)) 0 (f .cut)
-
   pub not-longer : length (fragment s i) ≤ s .connection .size
-  not-longer = rw (is-part s f i l) (not-over (s .report) (k .cut) i l)
+  not-longer = rw (is-part s f i l) (not-over (s .report) (start-fair s f .cut) i l)
 
   of-fragment : AreBytes (fragment s i)
   of-fragment =
@@ -68,7 +65,7 @@ module _ (s : Sending) (f : Fair s) (t : Typed s) (i : ℕ) (l : i < fragments s
   unfolding badPiece
   placed =
       let n = fragments s in
-      rw (counted s f i l, ne-eqb n 0 (λ z. omega arith), le-ltb mostPieces n (k .cut .most), lt-leb n i l)
+      rw (counted s f i l, ne-eqb n 0 (λ z. omega arith), le-ltb mostPieces n (start-fair s f .cut .most), lt-leb n i l)
 
   module _ (d : Choice) (g : Good s d) where
     abbrev h : Header
@@ -77,13 +74,14 @@ module _ (s : Sending) (f : Fair s) (t : Typed s) (i : ℕ) (l : i < fragments s
     widths : InWidth h
     unfolding mostPieces
     widths =
-        omega (arith, counted s f i l, k .cut .most, flags-free (d .acknowledge) (d .wake) .1, f .number, g .request, t .session, t .channel)
+        let u = flags-free (d .acknowledge) (d .wake) .1 in
+        omega (arith, counted s f i l, start-fair s f .cut .most, f .number, g .request, t .session, t .channel)
 
     allowed : writeRefusal h (d .chain) (fragment s i) (length (s .keys)) (lengthOf h (d .chain) (fragment s i)) ≡ 0
     unfolding writeRefusal badType badPayload
     allowed =
         let n = lengthOf h (d .chain) (fragment s i) in
-        let short = le-ltb 16384 (length (fragment s i)) (omega (arith, not-longer, k .small)) in
+        let short = le-ltb 16384 (length (fragment s i)) (omega (arith, not-longer, start-fair s f .small)) in
         rw (flags-free (d .acknowledge) (d .wake) .0, placed, g .chained, t .whole, and-false (isSealed (flagsOf d)), short, le-ltb n n (omega arith))
 
     pub sent : Sent s i (callFor s i d)
