@@ -2,17 +2,19 @@
 -- What a Connect message does, by the row that applies: the table of "Host states" is gone through here, and nowhere else.
 use Prim.Native.Nat.{ℕ}
 use mathlib.Core.Path.{_≡_}
-use mathlib.Core.List.{List, [], _∷_, _++_}
-use mathlib.Core.Bool.{Bool, true}
+use mathlib.Core.List.{List, [], _∷_}
+use mathlib.Core.Bool.{Bool, true, _&&_}
 use lib.Dec.{eqb}
 use borrow.Author.Tests.{eqb-true}
 use Rattle.laws.proofs.Bools.{and-true}
 use Rattle.laws.proofs.Cases.{on}
-use Rattle.wire.specs.declared.payload.Request.{Request}
+use Rattle.wire.specs.Payload.{connectType, readRequest}
+use Rattle.sha256.specs.Digests.{digest}
 use Rattle.hub.specs.declared.Connection.{Connection}
 use Rattle.hub.specs.declared.Stepped.{Stepped}
 use Rattle.hub.specs.declared.Answer.the-variants.{Reply, Again, Failure}
-use Rattle.hub.specs.Host.{stepped, refuse, requested, withDigestAndState, requestRows, deviceRows, doneRows, ofType, hostRows, firstRow, host}
+use Rattle.hub.specs.Host.{stepped, refuse, requested, withDigestAndState, hostRows, firstRow, host}
+use Rattle.hub.specs.Hear.{certificate, connect}
 
 -- Cases one after the other, a line each as the rows.
 infixr 5 _also_
@@ -25,49 +27,32 @@ module _ (G : Stepped → Type 0) where
   Rows [] = Unit {0}
   Rows (row ∷ rows) = (row .0 ≡ true → G (row .1)) × Rows rows
 
-  of-type : (type own : ℕ) (rows : List (Bool × Stepped)) → (type ≡ own → Rows rows) → Rows (ofType type own rows)
-  of-type type own [] p = tt
-  of-type type own (row ∷ rows) p =
-      (λ e. let a = and-true (eqb type own) (row .0) e in p (eqb-true type own (a .0)) .0 (a .1)) also of-type type own rows (λ t. p t .1)
-
-  append : (a b : List (Bool × Stepped)) → Rows a → Rows b → Rows (a ++ b)
-  append [] b p q = q
-  append (row ∷ a) b p q = p .0 also append a b (p .1) q
-
   first-row : (rows : List (Bool × Stepped)) (other : Stepped) → Rows rows → G other → G (firstRow rows other)
   first-row [] other p q = q
   first-row (row ∷ rows) other p q = on (row .0) (λ e. rw e (p .0 e)) (λ e. rw e (first-row rows other (p .1) q))
 
-module _ (c : Connection) (type session : ℕ) (r : Request) (d : List ℕ) (v : ℕ) where
-  -- The ways, each with what its row says: 15, Again, the three steps of an enrolment, and a verdict of 0.
-  pub data Hosts : Stepped → Type 0 where
-    refuses : (n : ℕ) → Hosts (refuse c n)
-    repeats : (t : ℕ) → Hosts (stepped c (Again t))
-    requests : type ≡ 0 → c .state ≡ 0 → Hosts (stepped (requested c session r) (Reply 1))
-    passes : type ≡ 2 → c .state ≡ 1 → Hosts (stepped (withDigestAndState c d 2) (Reply 3))
-    fails : v ≡ 0 → Hosts (stepped (withDigestAndState c d 4) Failure)
-    finishes : type ≡ 6 → c .state ≡ 2 → Hosts (stepped (withDigestAndState c (c .digest) 3) (Reply 7))
+-- A row of one Connect type applies to that type.
+typed : (type own : ℕ) (t : Bool) → (eqb type own && t) ≡ true → (type ≡ own) × (t ≡ true)
+typed type own t e = let a = and-true (eqb type own) t e in (eqb-true type own (a .0), a .1)
 
-  pub host-way : Hosts (host c type session r d v)
-  unfolding host
-  host-way =
-      let request : type ≡ 0 → Rows Hosts (requestRows c session r) = λ t.
-      (λ e. requests t (eqb-true (c .state) 0 e))
-      also (λ e. repeats 1)
-      also tt in
-      let device : type ≡ 2 → Rows Hosts (deviceRows c d v) = λ t.
-      (λ e. passes t (eqb-true (c .state) 1 (and-true (eqb (c .state) 1) (eqb v 1) e .0)))
-      also (λ e. fails (eqb-true v 0 (and-true (eqb (c .state) 1) (eqb v 0) e .1)))
-      also (λ e. repeats 3)
-      also tt in
-      let done : type ≡ 6 → Rows Hosts (doneRows c) = λ t.
-      (λ e. finishes t (eqb-true (c .state) 2 e))
-      also (λ e. repeats 7)
-      also tt in
-      let last = of-type Hosts type 6 (doneRows c) done in
-      let later =
-      append Hosts (ofType type 2 (deviceRows c d v)) (ofType type 6 (doneRows c)) (of-type Hosts type 2 (deviceRows c d v) device) last in
-      first-row Hosts (hostRows c type session r d v) (refuse c 15)
-      (append Hosts (ofType type 0 (requestRows c session r)) (ofType type 2 (deviceRows c d v) ++ ofType type 6 (doneRows c))
-      (of-type Hosts type 0 (requestRows c session r) request) later)
-      (refuses 15)
+-- The ways of a Connect message: 15, Again, the three steps of an enrolment with a verdict of 0 between them, each with what its row says.
+module _ (c : Connection) (session : ℕ) (p : List ℕ) (v : ℕ) (G : Stepped → Type 0) where
+  pub connect-cases : ((n : ℕ) → G (refuse c n)) → ((t : ℕ) → G (stepped c (Again t)))
+      → (connectType p ≡ 0 → c .state ≡ 0 → G (stepped (requested c session (readRequest p)) (Reply 1)))
+      → (connectType p ≡ 2 → c .state ≡ 1 → G (stepped (withDigestAndState c (digest (certificate p)) 2) (Reply 3)))
+      → (v ≡ 0 → G (stepped (withDigestAndState c (digest (certificate p)) 4) Failure))
+      → (connectType p ≡ 6 → c .state ≡ 2 → G (stepped (withDigestAndState c (c .digest) 3) (Reply 7)))
+      → G (connect c session p v)
+  unfolding connect host
+  connect-cases refused again requests passes fails finishes =
+      let type = connectType p in
+      first-row G (hostRows c type session (readRequest p) (digest (certificate p)) v) (refuse c 15)
+      ((λ e. let a = typed type 0 _ e in requests (a .0) (eqb-true (c .state) 0 (a .1)))
+      also (λ e. again 1)
+      also (λ e. let a = typed type 2 _ e in passes (a .0) (typed (c .state) 1 _ (a .1) .0))
+      also (λ e. fails (eqb-true v 0 (typed (c .state) 1 _ (typed type 2 _ e .1) .1)))
+      also (λ e. again 3)
+      also (λ e. let a = typed type 6 _ e in finishes (a .0) (eqb-true (c .state) 2 (a .1)))
+      also (λ e. again 7)
+      also tt)
+      (refused 15)

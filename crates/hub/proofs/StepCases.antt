@@ -8,9 +8,7 @@ use lib.Dec.{eqb, ltb}
 use lib.ListN.{length}
 use borrow.Author.Tests.{eqb-true}
 use Rattle.laws.proofs.Cases.{on}
-use Rattle.wire.specs.Payload.{connectType, readRequest}
 use Rattle.wire.specs.declared.header.Header.{Header}
-use Rattle.sha256.specs.Digests.{digest}
 use Rattle.message.specs.Reading.{readMessage, workingAfter}
 use Rattle.message.specs.Handed.{payload}
 use Rattle.message.specs.declared.reading.MessageRead.{MessageRead}
@@ -21,32 +19,23 @@ use Rattle.joining.specs.Join.{join, reportAfter}
 use Rattle.hub.specs.declared.Connection.{Connection}
 use Rattle.hub.specs.declared.Stepped.{Stepped}
 use Rattle.hub.specs.Host.{refuse}
-use Rattle.hub.specs.Hear.{certificate, connect, pieceIn, joined, isForeign, joins, heard, reportHeard}
+use Rattle.hub.specs.Hear.{connect, pieceIn, joined, isForeign, joins, hear, reportHeard}
 use Rattle.hub.specs.Step.{afterRead, reportRead, step, reportStepped}
-use Rattle.hub.proofs.HostWays.{Hosts, host-way}
 
 -- A Connect message is not joined.
 pub connect-apart : (c : Connection) (h : Header) → eqb (h .kind) 2 ≡ true → joins c h ≡ false
 connect-apart c h e = rw (eqb-true (h .kind) 2 e)
 
--- The ways of a Connect message.
-abbrev pub Connects : Connection → ℕ → List ℕ → ℕ → Stepped → Type 0
-Connects c session p v = Hosts c (connectType p) session (readRequest p) (digest (certificate p)) v
-
-pub connect-way : (c : Connection) (session : ℕ) (p : List ℕ) (v : ℕ) → Connects c session p v (connect c session p v)
-unfolding connect
-connect-way c session p v = host-way c (connectType p) session (readRequest p) (digest (certificate p)) v
-
 -- A message that was read: 16 applies; it is Connect; it is joined; 15 applies.
 module _ (c : Connection) (h : Header) (p b : List ℕ) (v : ℕ) (G : Stepped → List ℕ → Type 0) where
-  pub heard-cases : (isForeign c h ≡ true → G (refuse c 16) b)
+  pub hear-cases : (isForeign c h ≡ true → G (refuse c 16) b)
       → (isForeign c h ≡ false → eqb (h .kind) 2 ≡ true → G (connect c (h .session) p v) b)
       → (isForeign c h ≡ false → joins c h ≡ true
       → G (joined c (join (c .size) (c .progress) (pieceIn h) p b)) (reportAfter (c .size) (c .progress) (pieceIn h) p b))
       → (isForeign c h ≡ false → eqb (h .kind) 2 ≡ false → joins c h ≡ false → G (refuse c 15) b)
-      → G (heard c h p b v) (reportHeard c h p b)
-  unfolding heard reportHeard
-  heard-cases foreign connects session other =
+      → G (hear c h p b v) (reportHeard c h p b)
+  unfolding hear reportHeard
+  hear-cases foreign connects session other =
       on (isForeign c h) (λ f. rw f (foreign f))
       (λ f.
       on (eqb (h .kind) 2) (λ k. rw (f, k, connect-apart c h k) (connects f k))
@@ -64,23 +53,23 @@ module _ (c : Connection) (m k w b : List ℕ) (v : ℕ) (G : Stepped → List �
 
   -- It is enough that refusals have it and what is heard.
   pub step-cases : ((n : ℕ) → G (refuse c n) b)
-      → ((h : Header) (s : Bool) (from size : ℕ) → readMessage m k (length w) ≡ Read h s from size
-      → G (heard c h (payload m (workingAfter m k w) s from size) b v) (reportHeard c h (payload m (workingAfter m k w) s from size) b))
+      → (badSize (c .size) ≡ false → (h : Header) (s : Bool) (from size : ℕ) → readMessage m k (length w) ≡ Read h s from size
+      → G (hear c h (payload m (workingAfter m k w) s from size) b v) (reportHeard c h (payload m (workingAfter m k w) s from size) b))
       → G (step c m k w b v) (reportStepped c m k w b v)
-  step-cases refused read = step-tests (λ t. refused 25) (λ t z. refused 24) (λ t z. by (readMessage m k (length w)) refl)
+  step-cases refused read = step-tests (λ t. refused 25) (λ t z. refused 24) (λ t z. by z (readMessage m k (length w)) refl)
     where
-      by : (r : MessageRead) → readMessage m k (length w) ≡ r → G (afterRead c m (workingAfter m k w) b v r) (reportRead c m (workingAfter m k w) b r)
-      by (Refused n) e = refused n
-      by (Read h s from size) e = read h s from size e
+      by : badSize (c .size) ≡ false → (r : MessageRead) → readMessage m k (length w) ≡ r
+          → G (afterRead c m (workingAfter m k w) b v r) (reportRead c m (workingAfter m k w) b r)
+      by z (Refused n) e = refused n
+      by z (Read h s from size) e = read z h s from size e
 
--- Of answer and connection alone: refusals have it, each way of a Connect message, and every piece that is joined.
+-- Of answer and connection alone: refusals have it, every Connect message, and every piece that is joined.
 module _ (c : Connection) (m k w b : List ℕ) (v : ℕ) (G : Stepped → Type 0) where
-  pub step-has : ((n : ℕ) → G (refuse c n)) → ((session : ℕ) (p : List ℕ) (s : Stepped) → Connects c session p v s → G s)
-      → ((j : Joined) → G (joined c j)) → G (step c m k w b v)
+  pub step-has : ((n : ℕ) → G (refuse c n)) → ((session : ℕ) (p : List ℕ) → G (connect c session p v)) → ((j : Joined) → G (joined c j))
+      → G (step c m k w b v)
   step-has refused connects joining =
-      step-cases c m k w b v (λ (s : Stepped) (b′ : List ℕ). G s) refused
-      (λ h s from size e.
+      step-cases c m k w b v (λ s b′. G s) refused
+      (λ z h s from size e.
       let p = payload m (workingAfter m k w) s from size in
-      heard-cases c h p b v (λ (s : Stepped) (b′ : List ℕ). G s) (λ f. refused 16)
-      (λ f t. connects (h .session) p (connect c (h .session) p v) (connect-way c (h .session) p v))
+      hear-cases c h p b v (λ s b′. G s) (λ f. refused 16) (λ f t. connects (h .session) p)
       (λ f j. joining (join (c .size) (c .progress) (pieceIn h) p b)) (λ f t j. refused 15))

@@ -57,8 +57,8 @@ abbrev pub joins : Connection → Header → Bool
 joins c h = eqb (h .kind) 4 && eqb (c .state) 3
 
 -- A message that the reader read: 16, then what its type does, "all else … refusal 15".
-unfoldable pub heard : Connection → Header → List ℕ → List ℕ → ℕ → Stepped
-heard c h payload report verdict =
+unfoldable pub hear : Connection → Header → List ℕ → List ℕ → ℕ → Stepped
+hear c h payload report verdict =
     firstRow
     ((isForeign c h, refuse c otherSession)
     ∷ (eqb (h .kind) 2, connect c (h .session) payload verdict)

@@ -15,12 +15,12 @@ use Rattle.joining.specs.Cut.{badSize}
 use Rattle.hub.specs.declared.Connection.{Connection}
 use Rattle.hub.specs.declared.Stepped.{Stepped}
 use Rattle.hub.specs.Host.{refuse}
-use Rattle.hub.specs.Hear.{heard, reportHeard}
+use Rattle.hub.specs.Hear.{hear, reportHeard}
 
 -- What becomes of the reader's answer.
 abbrev pub afterRead : Connection → List ℕ → List ℕ → List ℕ → ℕ → MessageRead → Stepped
 afterRead c message working report verdict (Refused n) = refuse c n
-afterRead c message working report verdict (Read h sealed from size) = heard c h (payload message working sealed from size) report verdict
+afterRead c message working report verdict (Read h sealed from size) = hear c h (payload message working sealed from size) report verdict
 
 -- The report buffer after a message, by what reading it answered.
 abbrev pub reportRead : Connection → List ℕ → List ℕ → List ℕ → MessageRead → List ℕ

@@ -3,7 +3,7 @@
 ghost use mathlib.Core.Path.{_≡_};
 ghost use Rattle.joining.specs.Join.{join, reportAfter};
 ghost use Rattle.sha256.specs.Digests.{digest};
-ghost use Rattle.hub.specs.Hear.{certificate, connect, pieceIn, joined, isForeign, heard, reportHeard};
+ghost use Rattle.hub.specs.Hear.{certificate, connect, pieceIn, joined, isForeign, hear, reportHeard};
 use super::Answer;
 use super::Connection;
 use super::READY;
@@ -90,7 +90,7 @@ impl Connection {
         report: &mut [u8],
         verdict: u8,
     ) -> Stepped
-        ensures { λ r. ⌜ r ≡ heard self header (now (payload .entry)) (now (report .entry)) verdict ⌝ }
+        ensures { λ r. ⌜ r ≡ hear self header (now (payload .entry)) (now (report .entry)) verdict ⌝ }
         ensures { λ _. ⌜ now (report .exit) ≡ reportHeard self header (now (payload .entry)) (now (report .entry)) ⌝ }
     {
         if self.is_foreign(header) {

@@ -3,21 +3,19 @@
 use Prim.Native.Nat.{ℕ}
 use mathlib.Core.Path.{refl, sym, ap, _∙_}
 use mathlib.Core.List.{List, [], _∷_}
-use Rattle.laws.specs.Bytes.{be16}
 use Rattle.wire.specs.declared.header.Header.{Header}
 use Rattle.message.specs.Reading.{workingAfter}
 use Rattle.message.specs.Handed.{payload}
 use Rattle.joining.specs.declared.Piece.{Piece}
-use Rattle.joining.specs.declared.Joined.{Joined}
 use Rattle.joining.specs.Join.{join}
 use Rattle.joining.proofs.JoinWays.{join-cases}
 use Rattle.joining.proofs.AcceptedCount.{Holds, nothing-holds, tally-now, tally-known, tally-complete, extended-holds}
 use Rattle.hub.specs.declared.Connection.{Connection}
 use Rattle.hub.specs.declared.Stepped.{Stepped}
-use Rattle.hub.specs.Hear.{pieceIn, joined, heard}
+use Rattle.hub.specs.Hear.{connect, pieceIn, joined}
 use Rattle.hub.specs.Step.{step}
-use Rattle.hub.proofs.HostWays.{refuses, repeats, requests, passes, fails, finishes}
-use Rattle.hub.proofs.StepCases.{Connects, connect-way, heard-cases, step-cases}
+use Rattle.hub.proofs.HostWays.{connect-cases}
+use Rattle.hub.proofs.StepCases.{hear-cases, step-cases}
 use Rattle.promises.specs.Counted.{indexIn, accepted, acceptedAll, Counts, HeardCount}
 use Rattle.promises.proofs.ReadAgain.{read-header}
 use Rattle.joining.specs.Events.{Event}
@@ -28,18 +26,14 @@ module _ (c : Connection) (es : List Event) (w : Holds (c .progress) es) where
   abbrev Counted : ℕ → Stepped → Type 0
   Counted i s = Holds (s .connection .progress) (accepted (s .answer) i es) × Counts (s .answer) i es
 
-  connected : (i session : ℕ) (p : List ℕ) (v : ℕ) (s : Stepped) → Connects c session p v s → Counted i s
-  connected i session p v _ (refuses n) = (w, tt)
-  connected i session p v _ (repeats t) = (w, tt)
-  connected i session p v _ (requests t s) = (w, tt)
-  connected i session p v _ (passes t s) = (w, tt)
-  connected i session p v _ (fails z) = (w, tt)
-  connected i session p v _ (finishes t s) = (w, tt)
+  connect-counts : (i session : ℕ) (p : List ℕ) (v : ℕ) → Counted i (connect c session p v)
+  connect-counts i session p v =
+      connect-cases c session p v (Counted i) (λ n. (w, tt)) (λ t. (w, tt)) (λ t s. (w, tt)) (λ t s. (w, tt)) (λ z. (w, tt)) (λ t s. (w, tt))
 
   join-counts : (q : Piece) (p report : List ℕ) → Counted (q .index) (joined c (join (c .size) (c .progress) q p report))
   join-counts q p report =
       let same = sym (w .alike (q .index)) in
-      join-cases (c .size) (c .progress) q p report (λ (j : Joined) (b : List ℕ). Counted (q .index) (joined c j)) (λ z. (w, tt))
+      join-cases (c .size) (c .progress) q p report (λ j b. Counted (q .index) (joined c j)) (λ z. (w, tt))
       (λ z k. (w, (same ∙ k, tally-known (c .size) (c .progress) q p report es w z k)))
       (λ z k d. (nothing-holds _ refl, (same ∙ k, tally-complete (c .size) (c .progress) q p report es w z d)))
       (λ z k d. (
@@ -47,29 +41,22 @@ module _ (c : Connection) (es : List Event) (w : Holds (c .progress) es) where
         (same ∙ k, tally-now (c .size) (c .progress) q p report es w z),
       ))
 
-  heard-counts : (h : Header) (p report : List ℕ) (v : ℕ) → Counted (h .index) (heard c h p report v)
-  heard-counts h p report v =
-      heard-cases c h p report v (λ (s : Stepped) (b : List ℕ). Counted (h .index) s) (λ f. (w, tt))
-      (λ f k. connected (h .index) (h .session) p v _ (connect-way c (h .session) p v))
-      (λ f j. join-counts (pieceIn h) p report)
-      (λ f k j. (w, tt))
-
-  step-counts : (m keys working report : List ℕ) (v : ℕ) → Counted (be16 m 20) (step c m keys working report v)
-  step-counts m keys working report v =
-      step-cases c m keys working report v (λ (s : Stepped) (b : List ℕ). Counted (be16 m 20) s) (λ n. (w, tt))
-      (λ h s from size e.
-      rw (ap (λ (h : Header). h .index) (read-header m keys working h s from size e))
-      (heard-counts h (payload m (workingAfter m keys working) s from size) report v))
+  step-counts : (b : List ℕ) (x : Call) → Counted (indexIn x) (step c (x .message) (x .keys) (x .working) b (x .verdict))
+  step-counts b x =
+      step-cases c (x .message) (x .keys) (x .working) b (x .verdict) (λ s b′. Counted (indexIn x) s) (λ n. (w, tt))
+      (λ z h s from size e.
+      let p = payload (x .message) (workingAfter (x .message) (x .keys) (x .working)) s from size in
+      rw (ap (λ (h : Header). h .index) (read-header (x .message) (x .keys) (x .working) h s from size e))
+      (hear-cases c h p b (x .verdict) (λ s b′. Counted (h .index) s) (λ f. (w, tt))
+      (λ f k. connect-counts (h .index) (h .session) p (x .verdict)) (λ f j. join-counts (pieceIn h) p b) (λ f k j. (w, tt))))
 
 since : (p : Standing) (es : List Event) → Holds (p .connection .progress) es → (xs : List Call)
     → Holds (afterAll p xs .connection .progress) (acceptedAll p xs es)
 since p es w [] = w
 since p es w (x ∷ xs) =
-    since (after p x) (accepted (answer p x) (indexIn x) es)
-    (step-counts (p .connection) es w (x .message) (x .keys) (x .working) (p .report) (x .verdict) .0) xs
+    since (after p x) (accepted (answer p x) (indexIn x) es) (step-counts (p .connection) es w (p .report) x .0) xs
 
 pub heard-count : HeardCount
 heard-count p e xs x =
     let q = afterAll p xs in
-    step-counts (q .connection) (acceptedAll p xs []) (since p [] (nothing-holds (p .connection .progress) e) xs) (x .message) (x .keys) (x .working)
-    (q .report) (x .verdict) .1
+    step-counts (q .connection) (acceptedAll p xs []) (since p [] (nothing-holds (p .connection .progress) e) xs) (q .report) x .1

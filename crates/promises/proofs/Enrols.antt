@@ -6,7 +6,7 @@ use mathlib.Core.List.{List, [], _∷_, _++_}
 use mathlib.Core.Bool.{false, not, and-false}
 use native.Mathlib.Omega.{arith}
 use lib.ListN.{length, replicate}
-use borrow.Author.Tests.{eq-eqb, le-ltb}
+use borrow.Author.Tests.{le-ltb}
 use Rattle.wire.specs.Fields.{badType, badFlags, badPiece, mostPieces, isSealed}
 use Rattle.wire.specs.Payload.{starts, exchanges, isConnectionRequest, isDeviceAuthentication, isDoneRequest, isShaped, badPayload, readRequest}
 use Rattle.wire.specs.declared.header.Header.{Header}
@@ -19,31 +19,16 @@ use Rattle.hub.specs.declared.Stepped.{Stepped}
 use Rattle.hub.specs.declared.Answer.the-variants.{Reply}
 use Rattle.hub.specs.Opening.{blank}
 use Rattle.hub.specs.Host.{host, stepped, requested, withDigestAndState}
-use Rattle.hub.specs.Hear.{certificate, connect, isForeign, heard, reportHeard}
+use Rattle.hub.specs.Hear.{certificate, connect, isForeign, hear, reportHeard}
 use Rattle.promises.specs.Refusals.{AreBytes}
-use Rattle.promises.specs.Written.{Wrote}
 use Rattle.promises.specs.Met.{Enrolled, CanEnrol}
 use Rattle.promises.proofs.ReadBack.{steps-by-state}
 use Rattle.promises.proofs.Writes.{wrote}
 use Rattle.promises.proofs.Witness.{are-bytes, end-allowed}
-use Rattle.message.specs.Widths.{InWidth}
 use Rattle.hub.specs.Calls.{Call, Standing, after, answer}
 
 abbrev header : ℕ → Header
 header flags = record { kind = 2; flags = flags; sequence = 0; request = 0; index = 0; count = 1; session = 7; channel = 0 }
-
-widths : (flags : ℕ) → flags < 65536 → InWidth (header flags)
-widths flags l =
-    record {
-      kind = omega arith;
-      flags = l;
-      sequence = omega arith;
-      request = omega arith;
-      index = omega arith;
-      count = omega arith;
-      session = omega arith;
-      channel = omega arith;
-    }
 
 -- The end of the chain.
 abbrev end : List ℕ
@@ -61,93 +46,72 @@ deviceBytes = 0 ∷ 0 ∷ 2 ∷ 0 ∷ 1 ∷ 5 ∷ 0 ∷ 0 ∷ []
 abbrev finishBytes : List ℕ
 finishBytes = 0 ∷ 0 ∷ 6 ∷ []
 
-module _ (keys report : List ℕ) (of-keys : AreBytes keys) (whole : length keys ≡ 64) where
+-- The connection after each of them, opened at fragment size F.
+abbrev waiting : ℕ → Connection
+waiting F = requested (blank F) 7 (readRequest requestBytes)
+
+abbrev passed : ℕ → Connection
+passed F = withDigestAndState (waiting F) (digest (certificate deviceBytes)) 2
+
+abbrev ready : ℕ → Connection
+ready F = withDigestAndState (passed F) (passed F .digest) 3
+
+-- A Connect message leaves the report buffer alone.
+unjoined : (c : Connection) (flags : ℕ) (bytes report : List ℕ) → reportHeard c (header flags) bytes report ≡ report
+unfolding reportHeard
+unjoined c flags bytes report = rw (and-false (not (isForeign c (header flags))))
+
+module _ (F : ℕ) (keys report : List ℕ) (sized : badSize F ≡ false) (of-keys : AreBytes keys) (whole : length keys ≡ 64) where
   abbrev callWith : ℕ → List ℕ → Call
   callWith flags bytes = record { message = messageBytes (header flags) end bytes keys; keys = keys; working = replicate 96 0; verdict = 1 }
 
   abbrev at : Connection → Standing
   at c = record { connection = c; report = report }
 
-  -- A Connect message leaves the report buffer alone.
-  unjoined : (c : Connection) (flags : ℕ) (bytes : List ℕ) → reportHeard c (header flags) bytes report ≡ report
-  unfolding reportHeard
-  unjoined c flags bytes = rw (and-false (not (isForeign c (header flags))))
+  -- The message gets this reply and takes one connection to the other.
+  abbrev Steps : Connection → Connection → ℕ → List ℕ → ℕ → Type 0
+  Steps c d flags bytes t = (answer (at c) (callWith flags bytes) ≡ Reply t) × (after (at c) (callWith flags bytes) ≡ at d)
 
-  -- What is heard is what the step does.
-  enrols : (c d : Connection) (flags : ℕ) (bytes : List ℕ) (t : ℕ) → badSize (c .size) ≡ false
-      → Wrote (header flags) end bytes keys (messageBytes (header flags) end bytes keys) → sealedSize (length bytes) ≤ 96
-      → heard c (header flags) bytes report 1 ≡ stepped d (Reply t)
-      → (answer (at c) (callWith flags bytes) ≡ Reply t) × (after (at c) (callWith flags bytes) ≡ at d)
-  enrols c d flags bytes t z w l e =
-      let s = steps-by-state c (header flags) end bytes keys (messageBytes (header flags) end bytes keys) w (replicate 96 0) report 1
-      (λ o. l) (omega arith) z in
-      let p = s .0 ∙ e in
-      let q = s .1 ∙ unjoined c flags bytes in
-      (ap (λ (s : Stepped). s .answer) p, λ i. record { connection = p i .connection; report = q i })
-
-  -- A message whose flags and payload are not refused is written.
-  written : (flags : ℕ) (bytes : List ℕ) → flags < 65536 → AreBytes bytes → badFlags 2 flags ≡ false → badPayload 2 (isSealed flags) bytes ≡ false
-      → Wrote (header flags) end bytes keys (messageBytes (header flags) end bytes keys)
+  -- A message whose flags and payload are not refused is written, and what is heard is what the step does.
+  steps : (c d : Connection) (flags : ℕ) (bytes : List ℕ) (t : ℕ) → badSize (c .size) ≡ false → flags < 65536 → AreBytes bytes
+      → badFlags 2 flags ≡ false → badPayload 2 (isSealed flags) bytes ≡ false → sealedSize (length bytes) ≤ 96
+      → hear c (header flags) bytes report 1 ≡ stepped d (Reply t) → Steps c d flags bytes t
   unfolding writeRefusal badType badPiece mostPieces
-  written flags bytes l b f p =
-      let n = lengthOf (header flags) end bytes in
-      wrote (header flags) end bytes keys (widths flags l) (are-bytes end refl) b of-keys
-      (rw (f, end-allowed, eq-eqb (length keys) 64 whole, and-false (isSealed flags), p, le-ltb n n (omega arith)))
+  steps c d flags bytes t z l b f p n e =
+      let h = header flags in
+      let k = lengthOf h end bytes in
+      let w =
+      wrote h end bytes keys (omega arith) (are-bytes end refl) b of-keys
+      (rw (f, end-allowed, whole, and-false (isSealed flags), p, le-ltb k k (omega arith))) in
+      let s = steps-by-state c h end bytes keys (messageBytes h end bytes keys) w (replicate 96 0) report 1 (λ o. n) (omega arith) z in
+      let q = s .0 ∙ e in
+      let r = s .1 ∙ unjoined c flags bytes report in
+      (ap (λ (s : Stepped). s .answer) q, λ i. record { connection = q i .connection; report = r i })
 
-  request-written : Wrote (header 0) end requestBytes keys (messageBytes (header 0) end requestBytes keys)
-  unfolding badFlags isSealed badPayload isShaped isConnectionRequest starts exchanges
-  request-written = written 0 requestBytes (omega arith) (are-bytes requestBytes refl) refl refl
+  requests : Steps (blank F) (waiting F) 0 requestBytes 1
+  unfolding hear connect host badFlags isSealed badPayload isShaped isConnectionRequest starts exchanges padding sealedSize
+  requests = steps (blank F) (waiting F) 0 requestBytes 1 sized (omega arith) (are-bytes requestBytes refl) refl refl (omega arith) refl
 
-  device-written : Wrote (header 6) end deviceBytes keys (messageBytes (header 6) end deviceBytes keys)
-  unfolding badFlags isSealed badPayload isShaped isDeviceAuthentication starts
-  device-written = written 6 deviceBytes (omega arith) (are-bytes deviceBytes refl) refl refl
+  authenticates : Steps (waiting F) (passed F) 6 deviceBytes 3
+  unfolding hear connect host badFlags isSealed badPayload isShaped isDeviceAuthentication starts padding sealedSize
+  authenticates = steps (waiting F) (passed F) 6 deviceBytes 3 sized (omega arith) (are-bytes deviceBytes refl) refl refl (omega arith) refl
 
-  finish-written : Wrote (header 6) end finishBytes keys (messageBytes (header 6) end finishBytes keys)
-  unfolding badFlags isSealed badPayload isShaped isDeviceAuthentication isDoneRequest starts
-  finish-written = written 6 finishBytes (omega arith) (are-bytes finishBytes refl) refl refl
+  finishes : Steps (passed F) (ready F) 6 finishBytes 7
+  unfolding hear connect host badFlags isSealed badPayload isShaped isDeviceAuthentication isDoneRequest starts padding sealedSize
+  finishes = steps (passed F) (ready F) 6 finishBytes 7 sized (omega arith) (are-bytes finishBytes refl) refl refl (omega arith) refl
 
-  module _ (F : ℕ) (sized : badSize F ≡ false) where
-    abbrev waiting : Connection
-    waiting = requested (blank F) 7 (readRequest requestBytes)
-
-    abbrev passed : Connection
-    passed = withDigestAndState waiting (digest (certificate deviceBytes)) 2
-
-    abbrev ready : Connection
-    ready = withDigestAndState passed (passed .digest) 3
-
-    requests : heard (blank F) (header 0) requestBytes report 1 ≡ stepped waiting (Reply 1)
-    unfolding heard connect host
-    requests = refl
-
-    authenticates : heard waiting (header 6) deviceBytes report 1 ≡ stepped passed (Reply 3)
-    unfolding heard connect host
-    authenticates = refl
-
-    finishes : heard passed (header 6) finishBytes report 1 ≡ stepped ready (Reply 7)
-    unfolding heard connect host
-    finishes = refl
-
-    fits : (sealedSize 86 ≤ 96) × (sealedSize 8 ≤ 96) × (sealedSize 3 ≤ 96)
-    unfolding sealedSize padding
-    fits = (omega arith, omega arith, omega arith)
-
-    enrolled : Enrolled F keys report
-    enrolled =
-        let x = callWith 0 requestBytes in
-        let y = callWith 6 deviceBytes in
-        let z = callWith 6 finishBytes in
-        let p = enrols (blank F) waiting 0 requestBytes 1 sized request-written (fits .0) requests in
-        let q = enrols waiting passed 6 deviceBytes 3 sized device-written (fits .1) authenticates in
-        let r = enrols passed ready 6 finishBytes 7 sized finish-written (fits .2) finishes in
-        record {
-          request = x;
-          device = y;
-          finish = z;
-          first = p .0;
-          second = ap (λ (s : Standing). answer s y) (p .1) ∙ q .0;
-          third = ap (λ (s : Standing). answer (after s y) z) (p .1) ∙ ap (λ (s : Standing). answer s z) (q .1) ∙ r .0;
-        }
+  enrolled : Enrolled F keys report
+  enrolled =
+      let y = callWith 6 deviceBytes in
+      let z = callWith 6 finishBytes in
+      record {
+        request = callWith 0 requestBytes;
+        device = y;
+        finish = z;
+        first = requests .0;
+        second = ap (λ (s : Standing). answer s y) (requests .1) ∙ authenticates .0;
+        third = ap (λ (s : Standing). answer (after s y) z) (requests .1) ∙ ap (λ (s : Standing). answer s z) (authenticates .1) ∙ finishes .0;
+      }
 
 pub can-enrol : CanEnrol
-can-enrol F keys report sized of-keys whole = enrolled keys report of-keys whole F sized
+can-enrol = enrolled

@@ -1,10 +1,9 @@
 -- SPDX-License-Identifier: MPL-2.0
 -- Demand 2's messages: what the writer's answer and output say gives message's theorems their premises.
 use Prim.Native.Nat.{ℕ, _+_, _≤_}
-use mathlib.Core.Path.{_≡_, _∙_}
+use mathlib.Core.Path.{_≡_, refl, _∙_}
 use mathlib.Core.List.{List}
 use mathlib.Core.Bool.{true, false}
-use native.Mathlib.Omega.{arith}
 use lib.ListN.{length, drop}
 use lib.Seq.{take-at}
 use lib.Dec.{eqb}
@@ -19,10 +18,11 @@ use Rattle.message.proofs.WrittenBack.{read-plain, read-sealed}
 use Rattle.message.proofs.HandedBack.{handed-plain, handed-sealed}
 use Rattle.joining.specs.Cut.{badSize}
 use Rattle.hub.specs.declared.Connection.{Connection}
-use Rattle.hub.specs.Hear.{heard, reportHeard}
+use Rattle.hub.specs.Hear.{hear, reportHeard}
 use Rattle.hub.specs.Step.{step, reportStepped}
 use Rattle.promises.specs.Refusals.{AreBytes}
-use Rattle.promises.specs.Written.{Wrote, ReadAs, LongEnough, ReadsBack, StepsByState}
+use Rattle.promises.proofs.Apart.{apart}
+use Rattle.promises.specs.Written.{Wrote, ReadAs, ReadsBack, StepsByState}
 
 pub all-bytes : {m : List ℕ} → AreBytes m → AllBytes m
 all-bytes w = record { at = w }
@@ -33,8 +33,7 @@ module _ (h : Header) (chain bytes keys message : List ℕ) (w : Wrote h chain b
   unfolding writeAnswer
   passed =
       on (eqb (writeRefusal h chain bytes (length keys) (length (w .output))) 0)
-      (λ e. let k = rw e at (w .answered) in let z : lengthOf h chain bytes ≡ w .size = cc in (eqb-true _ 0 e, z))
-      (λ e. let k = rw e at (w .answered) in let z : _≡_ {A = ℕ} 0 1 = cc in absurd (omega arith))
+      (λ e. let k = rw e at (w .answered) in (eqb-true _ 0 e, cc)) (λ e. let k = rw e at (w .answered) in apart (cc))
 
   is-message : message ≡ messageBytes h chain bytes keys
   unfolding writtenInto
@@ -44,41 +43,37 @@ module _ (h : Header) (chain bytes keys message : List ℕ) (w : Wrote h chain b
       (take-at (messageBytes h chain bytes keys) (drop (lengthOf h chain bytes) (w .output)) (w .size)
       (length-messageBytes h chain bytes keys ∙ passed .1))
 
-  module _ (working : List ℕ) (room : LongEnough h bytes working) where
-    read-written : ReadAs h bytes message keys working
-    read-written =
-        rw is-message
-        (on (isSealed (h .flags))
-        (λ s.
-        let a = all-bytes (w .of-keys) in
-        let b = all-bytes (w .of-chain) in
-        let c = all-bytes (w .of-payload) in
-        record {
-          sealed = true;
-          from = 4;
-          size = length bytes;
-          reads = read-sealed h chain bytes keys (length working) (length (w .output)) (passed .0) s a b c (w .widths) (room s);
-          handed = handed-sealed h chain bytes keys working (length (w .output)) (passed .0) s a b c (w .widths) (room s);
-        })
-        (λ s.
-        record {
-          sealed = false;
-          from = 40 + length chain;
-          size = length bytes;
-          reads = read-plain h chain bytes keys (length working) (length (w .output)) (passed .0) s;
-          handed = handed-plain h chain bytes keys working (length (w .output)) (passed .0) s;
-        }))
-
 pub reads-back : ReadsBack
-reads-back h chain payload keys message w working room = read-written h chain payload keys message w working room
+reads-back h chain bytes keys message w working room =
+    let good = passed h chain bytes keys message w .0 in
+    let a = all-bytes (w .of-keys) in
+    let b = all-bytes (w .of-chain) in
+    let c = all-bytes (w .of-payload) in
+    rw (is-message h chain bytes keys message w)
+    (on (isSealed (h .flags))
+    (λ s.
+    record {
+      sealed = true;
+      from = 4;
+      size = length bytes;
+      reads = read-sealed h chain bytes keys (length working) (length (w .output)) good s a b c (w .widths) (room s);
+      handed = handed-sealed h chain bytes keys working (length (w .output)) good s a b c (w .widths) (room s);
+    })
+    (λ s.
+    record {
+      sealed = false;
+      from = 40 + length chain;
+      size = length bytes;
+      reads = read-plain h chain bytes keys (length working) (length (w .output)) good s;
+      handed = handed-plain h chain bytes keys working (length (w .output)) good s;
+    }))
 
 -- A step whose message is read hears it.
 pub step-hears : (c : Connection) (h : Header) (bytes m keys working report : List ℕ) (v : ℕ) → badSize (c .size) ≡ false → v ≤ 1
     → ReadAs h bytes m keys working
-    → (step c m keys working report v ≡ heard c h bytes report v) × (reportStepped c m keys working report v ≡ reportHeard c h bytes report)
+    → (step c m keys working report v ≡ hear c h bytes report v) × (reportStepped c m keys working report v ≡ reportHeard c h bytes report)
 unfolding step reportStepped
-step-hears c h bytes m keys working report v z l r =
-    (rw (le-ltb 1 v l, z, r .reads, r .handed), rw (le-ltb 1 v l, z, r .reads, r .handed))
+step-hears c h bytes m keys working report v z l r = rw (le-ltb 1 v l, z, r .reads, r .handed) (refl, refl)
 
 pub steps-by-state : StepsByState
 steps-by-state c h chain payload keys message w working report v room l z =

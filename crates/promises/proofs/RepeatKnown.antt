@@ -11,26 +11,17 @@ use Rattle.laws.proofs.Sames.{same-refl}
 use Rattle.wire.specs.Payload.{connectType, readRequest}
 use Rattle.wire.specs.declared.header.Header.{Header}
 use Rattle.sha256.specs.Digests.{digest}
-use Rattle.joining.specs.declared.Arrival.{Arrival}
-use Rattle.joining.specs.declared.Arrival.the-variants as arrival
 use Rattle.joining.specs.Cut.{badSize}
 use Rattle.joining.specs.Join.{join}
 use Rattle.hub.specs.declared.Connection.{Connection}
 use Rattle.hub.specs.declared.Stepped.{Stepped}
 use Rattle.hub.specs.declared.Answer.the-variants.{Reply, Again}
-use Rattle.hub.specs.Answers.{answerOf}
 use Rattle.hub.specs.Host.{host, stepped, requested, withDigestAndState, knows}
-use Rattle.hub.specs.Hear.{certificate, connect, pieceIn, isForeign, heard}
-use Rattle.hub.proofs.HostWays.{refuses, repeats, requests, passes, fails, finishes}
-use Rattle.hub.proofs.StepCases.{Connects, connect-way, heard-cases}
+use Rattle.hub.specs.Hear.{certificate, connect, pieceIn, isForeign, hear}
+use Rattle.hub.proofs.HostWays.{connect-cases}
+use Rattle.hub.proofs.StepCases.{hear-cases}
+use Rattle.promises.proofs.Apart.{apart, arrival-apart}
 use Rattle.promises.proofs.StateKept.{Keeps}
-
--- An answer that is no reply and no Failure.
-other-reply : (a : Arrival) (t : ℕ) → answerOf a ≡ Reply t → ⊥
-other-reply (arrival.Refused n) t e = let z : _≡_ {A = ℕ} 0 1 = cc in omega arith
-other-reply (arrival.Taken k) t e = let z : _≡_ {A = ℕ} 0 1 = cc in omega arith
-other-reply (arrival.Repeat k) t e = let z : _≡_ {A = ℕ} 0 1 = cc in omega arith
-other-reply (arrival.Complete l k) t e = let z : _≡_ {A = ℕ} 0 1 = cc in omega arith
 
 -- What a repeat is compared with is what the connection remembers.
 pub data Compared (c : Connection) (p : List ℕ) : ℕ → Type 0 where
@@ -64,10 +55,6 @@ still-known c d h p t k w =
 
 -- A known message gets Again.
 module _ (c : Connection) (h : Header) (p report : List ℕ) (v : ℕ) where
-  near : (t : ℕ) → Known c h p t → isForeign c h ≡ false
-  near t w =
-      rw (w .kind, ne-eqb (c .state) 0 (λ z. omega (arith, w .low)), eq-eqb (h .session) (c .session) (w .session))
-
   connect-again : (t : ℕ) → 1 ≤ c .state → c .state ≤ 3 → Compared c p t → connect c (h .session) p v ≡ stepped c (Again t)
   unfolding connect host
   connect-again _ l u (request e w) =
@@ -76,45 +63,42 @@ module _ (c : Connection) (h : Header) (p report : List ℕ) (v : ℕ) where
       rw (e, ne-eqb (c .state) 1 (λ z. omega arith), le-leb 2 (c .state) k, le-leb (c .state) 3 u, w)
   connect-again _ l u (finish e s) = rw (e, s)
 
-  pub again : (t : ℕ) → Known c h p t → heard c h p report v ≡ stepped c (Again t)
-  unfolding heard
-  again t w = rw (near t w, w .kind) (connect-again t (w .low) (w .high) (w .compared))
+  pub again : (t : ℕ) → Known c h p t → hear c h p report v ≡ stepped c (Again t)
+  unfolding hear
+  again t w =
+      rw (w .kind, ne-eqb (c .state) 0 (λ z. omega (arith, w .low)), eq-eqb (h .session) (c .session) (w .session))
+      (connect-again t (w .low) (w .high) (w .compared))
 
 -- A message that was answered with a reply is known.
 module _ (c : Connection) (sized : badSize (c .size) ≡ false) (h : Header) (p report : List ℕ) (v : ℕ) where
   abbrev Replied : Stepped → Type 0
   Replied s = (t : ℕ) → s .answer ≡ Reply t → Known (s .connection) h p t
 
-  as-told : (d : Connection) (k : ℕ) → Known d h p k → Replied (stepped d (Reply k))
-  as-told d k w t e = let z : k ≡ t = cc in rw (← z) w
-
   module _ (near : isForeign c h ≡ false) (kind : h .kind ≡ 2) where
     ours : 1 ≤ c .state → h .session ≡ c .session
     ours l = eqb-true (h .session) (c .session) (not-false _ (rw (kind, ne-eqb (c .state) 0 (λ z. omega arith)) at near))
 
     -- In this session, in a state of 1 to 3.
-    known : (d : Connection) (t : ℕ) → d .size ≡ c .size → h .session ≡ d .session → 1 ≤ d .state → d .state ≤ 3 → Compared d p t → Known d h p t
-    known d t z s l u w = record { sized = rw z sized; kind = kind; session = s; low = l; high = u; compared = w }
+    told : (d : Connection) (k : ℕ) → d .size ≡ c .size → h .session ≡ d .session → 1 ≤ d .state → d .state ≤ 3 → Compared d p k
+        → Replied (stepped d (Reply k))
+    told d k z s l u w t e =
+        let q : k ≡ t = cc in
+        record { sized = rw z sized; kind = kind; session = s; low = l; high = u; compared = rw (← q) w }
 
-    connect-replied : (s : Stepped) → Connects c (h .session) p v s → Replied s
-    connect-replied _ (refuses n) t e = let z : _≡_ {A = ℕ} 0 1 = cc in absurd (omega arith)
-    connect-replied _ (repeats k) t e = let z : _≡_ {A = ℕ} 0 1 = cc in absurd (omega arith)
-    connect-replied _ (fails z) t e = let z : _≡_ {A = ℕ} 0 1 = cc in absurd (omega arith)
-    connect-replied _ (requests k s) t e =
+    connect-replied : Replied (connect c (h .session) p v)
+    connect-replied =
         let r = readRequest p in
-        as-told (requested c (h .session) r) 1
-        (known _ 1 refl refl (omega arith) (omega arith)
-        (request k (rw (same-refl (r .nonce), same-refl (r .x), same-refl (r .y))))) t e
-    connect-replied _ (passes k s) t e =
         let d = digest (certificate p) in
-        as-told (withDigestAndState c d 2) 3
-        (known _ 3 refl (ours (omega arith)) (omega arith) (omega arith) (device k (omega arith) (same-refl d))) t e
-    connect-replied _ (finishes k s) t e =
-        as-told (withDigestAndState c (c .digest) 3) 7 (known _ 7 refl (ours (omega arith)) (omega arith) (omega arith) (finish k refl)) t e
+        connect-cases c (h .session) p v Replied (λ n t e. apart (cc)) (λ k t e. apart (cc))
+        (λ k s.
+        told (requested c (h .session) r) 1 refl refl (omega arith) (omega arith)
+        (request k (rw (same-refl (r .nonce), same-refl (r .x), same-refl (r .y)))))
+        (λ k s. told (withDigestAndState c d 2) 3 refl (ours (omega arith)) (omega arith) (omega arith) (device k (omega arith) (same-refl d)))
+        (λ z t e. apart (cc))
+        (λ k s. told (withDigestAndState c (c .digest) 3) 7 refl (ours (omega arith)) (omega arith) (omega arith) (finish k refl))
 
-  pub heard-replied : Replied (heard c h p report v)
-  heard-replied =
-      heard-cases c h p report v (λ (s : Stepped) (b : List ℕ). Replied s) (λ f t e. absurd (other-reply (arrival.Refused 16) t e))
-      (λ f k. connect-replied f (eqb-true (h .kind) 2 k) _ (connect-way c (h .session) p v))
-      (λ f j t e. absurd (other-reply (join (c .size) (c .progress) (pieceIn h) p report .answer) t e))
-      (λ f k j t e. absurd (other-reply (arrival.Refused 15) t e))
+  pub hear-replied : Replied (hear c h p report v)
+  hear-replied =
+      hear-cases c h p report v (λ s b. Replied s) (λ f t e. apart (cc)) (λ f k. connect-replied f (eqb-true (h .kind) 2 k))
+      (λ f j t e. absurd (arrival-apart (join (c .size) (c .progress) (pieceIn h) p report .answer) .0 t e))
+      (λ f k j t e. apart (cc))

@@ -5,18 +5,18 @@ use mathlib.Core.Path.{_≡_, refl}
 use mathlib.Core.List.{List}
 use native.Mathlib.Omega.{arith}
 use Rattle.sha256.specs.Digests.{digest}
-use Rattle.joining.specs.declared.Arrival.{Arrival}
-use Rattle.joining.specs.declared.Arrival.the-variants as arrival
+use Rattle.joining.specs.declared.Progress.{Progress}
 use Rattle.hub.specs.declared.Connection.{Connection}
 use Rattle.hub.specs.declared.Stepped.{Stepped}
 use Rattle.hub.specs.declared.Answer.the-variants.{Failure}
-use Rattle.hub.specs.Answers.{answerOf}
 use Rattle.hub.specs.Host.{withDigestAndState}
-use Rattle.hub.specs.Hear.{certificate}
+use Rattle.hub.specs.Hear.{certificate, connect, withProgress}
 use Rattle.hub.specs.Step.{step}
-use Rattle.hub.proofs.HostWays.{refuses, repeats, requests, passes, fails, finishes}
-use Rattle.hub.proofs.StepCases.{Connects, step-has}
+use Rattle.hub.specs.Calls.{Call}
+use Rattle.hub.proofs.HostWays.{connect-cases}
+use Rattle.hub.proofs.StepCases.{step-has}
 use Rattle.promises.specs.Enrolment.{OnlyByZero}
+use Rattle.promises.proofs.Apart.{apart, arrival-apart}
 
 -- What a step leaves of a connection in states 1 to 3, unless it names Failure: all that a repeat is compared with.
 pub record Keeps (c d : Connection) : Type 0 where
@@ -29,53 +29,42 @@ pub record Keeps (c d : Connection) : Type 0 where
   pub top : d .state ≤ 3
   pub digest : 2 ≤ c .state → d .digest ≡ c .digest
 
--- No step but a Failure forgets.
+-- No step but a Failure forgets: digest, state and progress are all that else is moved.
 module _ (c : Connection) (low : 1 ≤ c .state) (high : c .state ≤ 3) where
   abbrev Kept : Stepped → Type 0
   Kept s = (s .answer ≡ Failure → ⊥) → Keeps c (s .connection)
 
-  same-kept : Keeps c c
-  same-kept = record { size = refl; session = refl; nonce = refl; x = refl; y = refl; up = omega arith; top = high; digest = λ l. refl }
+  moved : (d : List ℕ) (state : ℕ) (q : Progress) → c .state ≤ state → state ≤ 3 → (2 ≤ c .state → d ≡ c .digest)
+      → Keeps c (withProgress (withDigestAndState c d state) q)
+  moved d state q u t e = record { size = refl; session = refl; nonce = refl; x = refl; y = refl; up = u; top = t; digest = e }
 
-  moved : (d : List ℕ) (state : ℕ) → c .state ≤ state → state ≤ 3 → (2 ≤ c .state → d ≡ c .digest) → Keeps c (withDigestAndState c d state)
-  moved d state u t e = record { size = refl; session = refl; nonce = refl; x = refl; y = refl; up = u; top = t; digest = e }
+  kept : (q : Progress) → Keeps c (withProgress c q)
+  kept q = moved (c .digest) (c .state) q (omega arith) high (λ l. refl)
 
-  connect-kept : (v session : ℕ) (p : List ℕ) (s : Stepped) → Connects c session p v s → Kept s
-  connect-kept v session p _ (refuses n) f = same-kept
-  connect-kept v session p _ (repeats t) f = same-kept
-  connect-kept v session p _ (requests t z) f = absurd (omega arith)
-  connect-kept v session p _ (passes t z) f = moved (digest (certificate p)) 2 (omega arith) (omega arith) (λ l. absurd (omega arith))
-  connect-kept v session p _ (fails z) f = absurd (f refl)
-  connect-kept v session p _ (finishes t z) f = moved (c .digest) 3 (omega arith) (omega arith) (λ l. refl)
+  connect-kept : (v session : ℕ) (p : List ℕ) → Kept (connect c session p v)
+  connect-kept v session p =
+      connect-cases c session p v Kept (λ n f. kept (c .progress)) (λ t f. kept (c .progress)) (λ t z f. absurd (omega arith))
+      (λ t z f. moved (digest (certificate p)) 2 (c .progress) (omega arith) (omega arith) (λ l. absurd (omega arith)))
+      (λ z f. absurd (f refl))
+      (λ t z f. moved (c .digest) 3 (c .progress) (omega arith) (omega arith) (λ l. refl))
 
-  pub step-kept : (m keys w report : List ℕ) (v : ℕ) → Kept (step c m keys w report v)
-  step-kept m keys w report v =
-      step-has c m keys w report v Kept (λ n f. same-kept) (connect-kept v)
-      (λ j f. record { size = refl; session = refl; nonce = refl; x = refl; y = refl; up = omega arith; top = high; digest = λ l. refl })
+  pub step-kept : (b : List ℕ) (x : Call) → Kept (step c (x .message) (x .keys) (x .working) b (x .verdict))
+  step-kept b x =
+      step-has c (x .message) (x .keys) (x .working) b (x .verdict) Kept (λ n f. kept (c .progress)) (connect-kept (x .verdict))
+      (λ j f. kept (j .progress))
 
 -- Failure is named by one row, whose verdict is 0.
-no-failure : (a : Arrival) → answerOf a ≡ Failure → ⊥
-no-failure (arrival.Refused n) e = let z : _≡_ {A = ℕ} 0 1 = cc in omega arith
-no-failure (arrival.Taken k) e = let z : _≡_ {A = ℕ} 0 1 = cc in omega arith
-no-failure (arrival.Repeat k) e = let z : _≡_ {A = ℕ} 0 1 = cc in omega arith
-no-failure (arrival.Complete l k) e = let z : _≡_ {A = ℕ} 0 1 = cc in omega arith
-
 module _ (c : Connection) (v : ℕ) where
   abbrev Judged : Stepped → Type 0
   Judged s = s .answer ≡ Failure → v ≡ 0
 
-  connect-judged : (session : ℕ) (p : List ℕ) (s : Stepped) → Connects c session p v s → Judged s
-  connect-judged session p _ (refuses n) e = let z : _≡_ {A = ℕ} 0 1 = cc in absurd (omega arith)
-  connect-judged session p _ (repeats t) e = let z : _≡_ {A = ℕ} 0 1 = cc in absurd (omega arith)
-  connect-judged session p _ (requests t s) e = let z : _≡_ {A = ℕ} 0 1 = cc in absurd (omega arith)
-  connect-judged session p _ (passes t s) e = let z : _≡_ {A = ℕ} 0 1 = cc in absurd (omega arith)
-  connect-judged session p _ (fails z) e = z
-  connect-judged session p _ (finishes t s) e = let z : _≡_ {A = ℕ} 0 1 = cc in absurd (omega arith)
-
-  step-judged : (m keys w report : List ℕ) → Judged (step c m keys w report v)
-  step-judged m keys w report =
-      step-has c m keys w report v Judged (λ n e. absurd (no-failure (arrival.Refused n) e)) connect-judged
-      (λ j e. absurd (no-failure (j .answer) e))
+  connect-judged : (session : ℕ) (p : List ℕ) → Judged (connect c session p v)
+  connect-judged session p =
+      connect-cases c session p v Judged (λ n e. apart (cc)) (λ t e. apart (cc)) (λ t s e. apart (cc)) (λ t s e. apart (cc)) (λ z e. z)
+      (λ t s e. apart (cc))
 
 pub only-by-zero : OnlyByZero
-only-by-zero p x e = step-judged (p .connection) (x .verdict) (x .message) (x .keys) (x .working) (p .report) e
+only-by-zero p x =
+    let v = x .verdict in
+    step-has (p .connection) (x .message) (x .keys) (x .working) (p .report) v (Judged (p .connection) v) (λ n e. apart (cc))
+    (connect-judged (p .connection) v) (λ j e. absurd (arrival-apart (j .answer) .1 e))

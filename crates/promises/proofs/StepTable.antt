@@ -17,7 +17,6 @@ use Rattle.wire.specs.declared.header.Header.{Header}
 use Rattle.wire.proofs.Sound as wire
 use Rattle.sha256.specs.Digests.{digest}
 use Rattle.message.specs.Reading.{readMessage, workingAfter}
-use Rattle.joining.specs.declared.Joined.{Joined}
 use Rattle.joining.specs.Heard.{most}
 use Rattle.joining.specs.Cut.{badSize}
 use Rattle.joining.specs.Join.{badIndex, joinRefusal, join}
@@ -28,12 +27,13 @@ use Rattle.hub.specs.declared.Answer.{Answer}
 use Rattle.hub.specs.declared.Answer.the-variants.{Refused, Reply, Again, Failure, Taken, Repeat, Complete}
 use Rattle.hub.specs.Answers.{valuesOf, isQuiet}
 use Rattle.hub.specs.Host.{hostRows, firstRow, host, refuse}
-use Rattle.hub.specs.Hear.{certificate, connect, pieceIn, joined, heard}
+use Rattle.hub.specs.Hear.{certificate, connect, pieceIn, joined, hear}
 use Rattle.hub.specs.Step.{afterRead, step}
-use Rattle.hub.proofs.StepCases.{connect-apart, heard-cases, step-tests}
+use Rattle.hub.proofs.StepCases.{connect-apart, hear-cases, step-tests}
 use Rattle.hub.proofs.QuietKeeps.{step-still}
 use Rattle.promises.specs.Refusals.{AreBytes, readerTable, anyOf, hostTable, handed, stepTable, StepExact, LeavesAlone}
-use Rattle.promises.proofs.RefusalTables.{reader-first, read-by-table}
+use Rattle.promises.proofs.ReaderNumber.{early, readerNumber, read-by-number}
+use Rattle.promises.proofs.RefusalTables.{reader-first}
 
 -- The number of a step's refusal, 0 where it does not refuse.
 abbrev number : Stepped → ℕ
@@ -64,60 +64,61 @@ module _ (c : Connection) (h : Header) (p b : List ℕ) (v : ℕ) (sized : badSi
   -- Joining's refusal is the step's.
   join-number : number (joined c (join (c .size) (c .progress) (pieceIn h) p b)) ≡ joinRefusal (c .size) (c .progress) (pieceIn h) p b
   join-number =
-      join-cases (c .size) (c .progress) (pieceIn h) p b
-      (λ (j : Joined) (b′ : List ℕ). number (joined c j) ≡ joinRefusal (c .size) (c .progress) (pieceIn h) p b) (λ z. refl)
-      (λ z k. sym z)
-      (λ z k d. sym z)
-      (λ z k d. sym z)
+      join-cases (c .size) (c .progress) (pieceIn h) p b (λ j b′. number (joined c j) ≡ joinRefusal (c .size) (c .progress) (pieceIn h) p b)
+      (λ z. refl) (λ z k. sym z) (λ z k d. sym z) (λ z k d. sym z)
 
-  heard-number : number (heard c h p b v) ≡ first (hostTable c h p b v)
+  hear-number : number (hear c h p b v) ≡ first (hostTable c h p b v)
   unfolding joinRefusal
-  heard-number =
-      heard-cases c h p b v (λ (s : Stepped) (b′ : List ℕ). number s ≡ first (hostTable c h p b v)) (λ f. rw f)
-      (λ f k. rw (f, k, connect-apart c h k) connect-number)
+  hear-number =
+      hear-cases c h p b v (λ s b′. number s ≡ first (hostTable c h p b v)) (λ f. rw f) (λ f k. rw (f, k, connect-apart c h k) connect-number)
       (λ f j. rw (f, j) (join-number ∙ rw (sized, indexed)))
       (λ f k j. rw (f, k, j))
 
-module _ (c : Connection) (m keys working report : List ℕ) (v : ℕ) where
-  module _ (bytes : AreBytes m) (sized : badSize (c .size) ≡ false) where
-    indexed : refusalOf m ≡ 0 → badIndex (headerOf m .count) (headerOf m .index) ≡ false
-    indexed z =
-        let p = wire.piece _ (headerOf m .index) (headerOf m .count) (wire.good m z .piece) in
-        rw (le-ltb most (headerOf m .count) (p .few), lt-leb (headerOf m .count) (headerOf m .index) (p .under))
+-- What passed 7 has an index under its count.
+indexed : (m : List ℕ) → refusalOf m ≡ 0 → badIndex (headerOf m .count) (headerOf m .index) ≡ false
+indexed m z =
+    let p = wire.piece _ (headerOf m .index) (headerOf m .count) (wire.good m z .piece) in
+    rw (le-ltb most (headerOf m .count) (p .few), lt-leb (headerOf m .count) (headerOf m .index) (p .under))
 
-    read-number : number (afterRead c m (workingAfter m keys working) report v (readMessage m keys (length working)))
-        ≡ orElse (first (readerTable m keys (length working))) (first (hostTable c (headerOf m) (handed c m keys working report v) report v))
-    read-number =
-        rw (read-by-table m keys (length working) bytes)
-        (on (eqb (first (readerTable m keys (length working))) 0)
-        (λ e.
-        let z = sym (reader-first m keys (length working) bytes) ∙ eqb-true (first (readerTable m keys (length working))) 0 e in
-        rw e (heard-number c (headerOf m) (handed c m keys working report v) report v sized (indexed (neither (refusalOf m) _ z .0))))
-        (λ e. rw e))
+refused-is : (a : Answer) (n : ℕ) → (n ≡ 0 → ⊥) → valuesOf a .refusal ≡ n → a ≡ Refused n
+refused-is (Refused k) n z e = ap Refused e
+refused-is (Reply t) n z e = absurd (z (sym e))
+refused-is (Again t) n z e = absurd (z (sym e))
+refused-is Failure n z e = absurd (z (sym e))
+refused-is (Taken k) n z e = absurd (z (sym e))
+refused-is (Repeat k) n z e = absurd (z (sym e))
+refused-is (Complete l k) n z e = absurd (z (sym e))
+
+module _ (c : Connection) (m keys working report : List ℕ) (v : ℕ) where
+  -- The rows after 14.
+  abbrev later : List (ℕ × Bool)
+  later = hostTable c (headerOf m) (handed c m keys working report v) report v
+
+  read-number : badSize (c .size) ≡ false → number (afterRead c m (workingAfter m keys working) report v (readMessage m keys (length working)))
+      ≡ orElse (readerNumber m keys (length working)) (first later)
+  read-number sized =
+      let n = readerNumber m keys (length working) in
+      rw (read-by-number m keys (length working))
+      (on (eqb n 0)
+      (λ e.
+      let z = neither (refusalOf m) _ (neither (early m keys (length working)) _ (eqb-true n 0 e) .0) .0 in
+      rw e (hear-number c (headerOf m) (handed c m keys working report v) report v sized (indexed m z)))
+      (λ e. rw e))
 
   step-number : AreBytes m → number (step c m keys working report v) ≡ first (stepTable c m keys working report v)
   step-number bytes =
-      step-tests c m keys working report v (λ (s : Stepped) (b : List ℕ). number s ≡ first (stepTable c m keys working report v)) (λ t. rw t)
-      (λ t z. rw (t, z))
+      step-tests c m keys working report v (λ s b. number s ≡ first (stepTable c m keys working report v)) (λ t. rw t) (λ t z. rw (t, z))
       (λ t z.
       rw (t, z)
-      (read-number bytes z
-      ∙ sym (first-append (readerTable m keys (length working)) (hostTable c (headerOf m) (handed c m keys working report v) report v) refl)))
-
-  refused-is : (a : Answer) (n : ℕ) → (n ≡ 0 → ⊥) → valuesOf a .refusal ≡ n → a ≡ Refused n
-  refused-is (Refused k) n z e = ap Refused e
-  refused-is (Reply t) n z e = absurd (z (sym e))
-  refused-is (Again t) n z e = absurd (z (sym e))
-  refused-is Failure n z e = absurd (z (sym e))
-  refused-is (Taken k) n z e = absurd (z (sym e))
-  refused-is (Repeat k) n z e = absurd (z (sym e))
-  refused-is (Complete l k) n z e = absurd (z (sym e))
+      (read-number z ∙ ap (λ (n : ℕ). orElse n (first later)) (sym (reader-first m keys (length working) bytes))
+      ∙ sym (first-append (readerTable m keys (length working)) later refl)))
 
   pub step-exact : StepExact c m keys working report v
   step-exact n bytes z =
+      let rows = stepTable c m keys working report v in
       let e = step-number bytes in (
-        λ r. first-leads n z (stepTable c m keys working report v) (sym e ∙ ap (λ (a : Answer). valuesOf a .refusal) r),
-        λ l. refused-is (step c m keys working report v .answer) n z (e ∙ leads-first n (stepTable c m keys working report v) l),
+        λ r. first-leads n z rows (sym e ∙ ap (λ (a : Answer). valuesOf a .refusal) r),
+        λ l. refused-is (step c m keys working report v .answer) n z (e ∙ leads-first n rows l),
       )
 
   pub leaves-alone : LeavesAlone c m keys working report v

@@ -12,21 +12,23 @@ use borrow.Author.Tests.{ltb-true}
 use Rattle.laws.proofs.Bools.{and-true}
 use Rattle.wire.specs.Fields.{mostPieces}
 use Rattle.wire.specs.Chain.{entryOf, chain, mostEntries, readChain, badChain}
+use Rattle.wire.specs.Payload.{readRequest}
 use Rattle.wire.specs.Reader.{headerRows, rowsOf, refusalWith, refusalOf, readHeader}
 use Rattle.message.specs.Reading.{readMessage}
 use Rattle.seal.specs.Padding.{padding, sealedSize}
-use Rattle.laws.proofs.ByteLists.{AllBytes, nil-bytes, cons-bytes}
 use Rattle.joining.specs.Join.{expecting}
 use Rattle.joining.specs.Cut.{cutRefusal}
 use Rattle.hub.specs.declared.Connection.{Connection}
-use Rattle.hub.specs.declared.Stepped.{Stepped}
+use Rattle.hub.specs.Opening.{blank}
+use Rattle.hub.specs.Host.{requested, withDigestAndState}
+use Rattle.hub.specs.Hear.{withProgress}
 use Rattle.hub.specs.Answers.{isQuiet}
 use Rattle.hub.proofs.StepCases.{step-tests}
 use Rattle.promises.specs.Refusals.{AreBytes}
 use Rattle.promises.specs.Reports.{Sending, began, fragments, fragment, Fair, Sent, Course, done, brings, rests, HandedOut}
 use Rattle.promises.specs.Met.{Typed, Choice, Good, callFor}
 use Rattle.promises.proofs.ReportsJoined.{demand-three}
-use Rattle.promises.proofs.Writes.{can-be-sent}
+use Rattle.promises.proofs.Writes.{not-longer, can-be-sent}
 use Rattle.joining.specs.Events.{Event, piece, between, came, LastMissing}
 use Rattle.hub.specs.Calls.{Call, Standing, answer}
 
@@ -35,25 +37,14 @@ abbrev below : List ℕ → Bool
 below [] = true
 below (x ∷ m) = ltb x 256 && below m
 
-tested : (m : List ℕ) → below m ≡ true → AllBytes m
-tested [] e = nil-bytes
-tested (x ∷ m) e = let a = and-true (ltb x 256) (below m) e in cons-bytes (ltb-true x 256 (a .0)) (tested m (a .1))
-
 pub are-bytes : (m : List ℕ) → below m ≡ true → AreBytes m
-are-bytes m e = tested m e .at
+are-bytes [] e i = omega arith
+are-bytes (x ∷ m) e zero = ltb-true x 256 (and-true (ltb x 256) (below m) e .0)
+are-bytes (x ∷ m) e (suc i) = are-bytes m (and-true (ltb x 256) (below m) e .1) i
 
+-- Opened at fragment size 4, requested in session 7, Ready, and expecting number 5.
 abbrev ready : Connection
-ready =
-    record {
-      size = 4;
-      state = 3;
-      session = 7;
-      nonce = replicate 8 0;
-      x = replicate 32 0;
-      y = replicate 32 0;
-      digest = replicate 32 0;
-      progress = expecting 5;
-    }
+ready = withProgress (withDigestAndState (requested (blank 4) 7 (readRequest [])) (replicate 32 0) 3) (expecting 5)
 
 abbrev tenBytes : Sending
 tenBytes = record { connection = ready; buffer = replicate 16 0; keys = replicate 64 0; channel = 1; report = replicate 10 1 }
@@ -77,11 +68,8 @@ choice = record { request = 9; acknowledge = true; wake = false; chain = 0 ∷ 0
 
 -- A fragment's sealed part has sixteen bytes.
 sixteen : (i : ℕ) → i < 3 → sealedSize (length (fragment tenBytes i)) ≤ 16
-unfolding sealedSize padding cutRefusal mostPieces
-sixteen zero l = omega arith
-sixteen (suc zero) l = omega arith
-sixteen (suc (suc zero)) l = omega arith
-sixteen (suc (suc (suc i))) l = absurd (omega arith)
+unfolding sealedSize padding
+sixteen i l = omega (arith, not-longer tenBytes ten-bytes-fair ten-bytes-typed i l)
 
 pub end-allowed : badChain (0 ∷ 0 ∷ []) ≡ false
 unfolding badChain readChain mostEntries chain entryOf
@@ -93,7 +81,7 @@ choice-good =
       request = omega arith;
       of-chain = are-bytes (0 ∷ 0 ∷ []) refl;
       chained = end-allowed;
-      room = λ i l. sixteen i l;
+      room = sixteen;
       verdict = omega arith;
     }
 
@@ -104,7 +92,7 @@ emptyCall = record { message = []; keys = []; working = []; verdict = 0 }
 nothing-refused : (p : Standing) → isQuiet (answer p emptyCall) ≡ true
 unfolding readMessage readHeader refusalOf refusalWith rowsOf headerRows
 nothing-refused p =
-    step-tests (p .connection) [] [] [] (p .report) 0 (λ (s : Stepped) (b : List ℕ). isQuiet (s .answer) ≡ true)
+    step-tests (p .connection) [] [] [] (p .report) 0 (λ s b. isQuiet (s .answer) ≡ true)
     (λ t. refl) (λ t z. refl) (λ t z. refl)
 
 -- Fragment 2, something between, then 0 and 2 again.

@@ -5,62 +5,44 @@ use mathlib.Core.Path.{_≡_, refl, sym}
 use mathlib.Core.List.{List, [], _∷_}
 use mathlib.Core.Bool.{Bool, true, false, and-false}
 use native.Mathlib.Omega.{arith}
-use lib.ListN.{length, take, drop, replicate, length-replicate}
+use lib.ListN.{length, drop, replicate, length-replicate}
 use lib.Seq.{take-at}
-use borrow.Author.Tests.{eq-eqb, ne-eqb, le-ltb, lt-leb}
+use borrow.Author.Tests.{ne-eqb, le-ltb, lt-leb}
 use Rattle.wire.specs.Fields.{badType, badFlags, badPiece, isSealed, mostPieces}
 use Rattle.wire.specs.Payload.{badPayload}
 use Rattle.wire.specs.declared.header.Header.{Header}
-use Rattle.writer.specs.declared.Written.the-variants.{Bytes}
 use Rattle.laws.proofs.ByteLists.{take-bytes, drop-bytes}
 use Rattle.message.specs.Writing.{lengthOf, writeRefusal, messageBytes, writeAnswer, writtenInto}
 use Rattle.message.proofs.WrittenLengths.{length-messageBytes}
 use Rattle.joining.specs.Heard.{most, bit}
-use Rattle.laws.specs.Parts.{part}
 use Rattle.joining.specs.Cut.{cutCount}
-use Rattle.joining.proofs.Cuts.{Cuttable, cuttable, not-over}
+use Rattle.joining.proofs.Cuts.{not-over}
 use Rattle.promises.specs.Refusals.{AreBytes}
 use Rattle.promises.specs.Written.{Wrote}
 use Rattle.promises.specs.Reports.{Sending, fragments, fragment, headerFor, Fair, Sent, done, brings}
 use Rattle.promises.specs.Met.{Typed, Choice, Good, flagsOf, callFor, CanBeSent, AnyOrder}
 use Rattle.promises.proofs.ReadBack.{all-bytes}
-use Rattle.promises.proofs.ReportsJoined.{each-cut, each-count}
+use Rattle.promises.proofs.ReportsJoined.{counted, is-part, start-fair}
 use Rattle.message.specs.Widths.{InWidth}
 use Rattle.hub.specs.Calls.{after}
 
 -- A call of the writer with an output that is just long enough.
-module _ (h : Header) (chain bytes keys : List ℕ) (widths : InWidth h) (of-chain : AreBytes chain) (of-bytes : AreBytes bytes)
-    (of-keys : AreBytes keys)
-    (good : writeRefusal h chain bytes (length keys) (lengthOf h chain bytes) ≡ 0) where
-  abbrev output : List ℕ
-  output = replicate (lengthOf h chain bytes) 0
-
-  passed : writeRefusal h chain bytes (length keys) (length output) ≡ 0
-  passed = rw (length-replicate {A = ℕ} (lengthOf h chain bytes) 0) good
-
-  answered : writeAnswer h chain bytes (length keys) (length output) ≡ Bytes (lengthOf h chain bytes)
-  unfolding writeAnswer
-  answered = rw passed
-
-  written : messageBytes h chain bytes keys ≡ take (lengthOf h chain bytes) (writtenInto h chain bytes keys output)
-  unfolding writtenInto
-  written =
-      rw passed
-      (sym (take-at (messageBytes h chain bytes keys) (drop (lengthOf h chain bytes) output) (lengthOf h chain bytes)
-      (length-messageBytes h chain bytes keys)))
-
-  pub wrote : Wrote h chain bytes keys (messageBytes h chain bytes keys)
-  wrote =
-      record {
-        widths = widths;
-        of-chain = of-chain;
-        of-payload = of-bytes;
-        of-keys = of-keys;
-        output = output;
-        size = lengthOf h chain bytes;
-        answered = answered;
-        bytes = written;
-      }
+pub wrote : (h : Header) (chain bytes keys : List ℕ) → InWidth h → AreBytes chain → AreBytes bytes → AreBytes keys
+    → writeRefusal h chain bytes (length keys) (lengthOf h chain bytes) ≡ 0 → Wrote h chain bytes keys (messageBytes h chain bytes keys)
+unfolding writeAnswer writtenInto
+wrote h chain bytes keys widths of-chain of-bytes of-keys good =
+    let n = lengthOf h chain bytes in
+    let k = length-replicate {A = ℕ} n 0 in
+    record {
+      widths = widths;
+      of-chain = of-chain;
+      of-payload = of-bytes;
+      of-keys = of-keys;
+      output = replicate n 0;
+      size = n;
+      answered = rw (k, good);
+      bytes = rw (k, good) (sym (take-at (messageBytes h chain bytes keys) (drop n (replicate n 0)) n (length-messageBytes h chain bytes keys)));
+    }
 
 -- Acknowledge and wake are free; 2 and 4 are there.
 flags-free : (a w : Bool) → (badFlags 4 (6 + bit a + 8 * bit w) ≡ false) × (6 + bit a + 8 * bit w ≤ 15)
@@ -71,71 +53,36 @@ flags-free false true = (refl, omega arith)
 flags-free false false = (refl, omega arith)
 
 module _ (s : Sending) (f : Fair s) (t : Typed s) (i : ℕ) (l : i < fragments s) where
-  abbrev F : ℕ
-  F = s .connection .size
-
-  k : Cuttable F (length (s .report)) 0
-  k = cuttable F (length (s .report)) 0 (f .cut)
-
-  is-part : fragment s i ≡ part (s .report) (F * i) F
-  is-part = rw (each-cut F (length (s .report)) (f .cut) i l)
-
-  short : length (fragment s i) ≤ 16384
-  short = rw is-part (omega (arith, not-over (s .report) (k .cut) i l, k .small))
+  pub not-longer : length (fragment s i) ≤ s .connection .size
+  not-longer = rw (is-part s f i l) (not-over (s .report) (start-fair s f .cut) i l)
 
   of-fragment : AreBytes (fragment s i)
-  of-fragment = rw is-part (take-bytes F (drop (F * i) (s .report)) (drop-bytes (F * i) (s .report) (all-bytes (t .report))) .at)
+  of-fragment =
+      let at = s .connection .size * i in
+      rw (is-part s f i l) (take-bytes (s .connection .size) (drop at (s .report)) (drop-bytes at (s .report) (all-bytes (t .report))) .at)
 
-  counted : cutCount F (length (s .report)) i ≡ fragments s
-  counted = each-count F (length (s .report)) (f .cut) i l
-
-  few : fragments s ≤ 64
-  unfolding mostPieces
-  few = k .cut .most
-
-  placed : badPiece 4 i (cutCount F (length (s .report)) i) ≡ false
+  placed : badPiece 4 i (cutCount (s .connection .size) (length (s .report)) i) ≡ false
   unfolding badPiece
   placed =
-      rw (
-        counted,
-        ne-eqb (fragments s) 0 (λ z. omega arith),
-        le-ltb mostPieces (fragments s) (k .cut .most),
-        lt-leb (fragments s) i l,
-      )
+      let n = fragments s in
+      rw (counted s f i l, ne-eqb n 0 (λ z. omega arith), le-ltb mostPieces n (start-fair s f .cut .most), lt-leb n i l)
 
   module _ (d : Choice) (g : Good s d) where
     abbrev h : Header
     h = headerFor s i (d .request) (flagsOf d)
 
     widths : InWidth h
+    unfolding mostPieces
     widths =
-        let c = counted in
-        let n = few in
         let u = flags-free (d .acknowledge) (d .wake) .1 in
-        record {
-          kind = omega arith;
-          flags = omega arith;
-          sequence = omega (arith, f .number);
-          request = g .request;
-          index = omega arith;
-          count = omega arith;
-          session = t .session;
-          channel = t .channel;
-        }
+        omega (arith, counted s f i l, start-fair s f .cut .most, f .number, g .request, t .session, t .channel)
 
     allowed : writeRefusal h (d .chain) (fragment s i) (length (s .keys)) (lengthOf h (d .chain) (fragment s i)) ≡ 0
     unfolding writeRefusal badType badPayload
     allowed =
         let n = lengthOf h (d .chain) (fragment s i) in
-        rw (
-          flags-free (d .acknowledge) (d .wake) .0,
-          placed,
-          g .chained,
-          eq-eqb (length (s .keys)) 64 (t .whole),
-          and-false (isSealed (flagsOf d)),
-          le-ltb 16384 (length (fragment s i)) short,
-          le-ltb n n (omega arith),
-        )
+        let short = le-ltb 16384 (length (fragment s i)) (omega (arith, not-longer, start-fair s f .small)) in
+        rw (flags-free (d .acknowledge) (d .wake) .0, placed, g .chained, t .whole, and-false (isSealed (flagsOf d)), short, le-ltb n n (omega arith))
 
     pub sent : Sent s i (callFor s i d)
     sent =
@@ -150,7 +97,7 @@ module _ (s : Sending) (f : Fair s) (t : Typed s) (i : ℕ) (l : i < fragments s
         }
 
 pub can-be-sent : (s : Sending) → CanBeSent s
-can-be-sent s f t i l d g = sent s f t i l d g
+can-be-sent = sent
 
 any-order : (s : Sending) → AnyOrder s
 any-order s f t [] g p = done

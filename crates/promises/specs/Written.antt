@@ -16,7 +16,7 @@ use Rattle.message.specs.Writing.{writeAnswer, writtenInto}
 use Rattle.message.specs.declared.reading.MessageRead.the-variants.{Read}
 use Rattle.joining.specs.Cut.{badSize}
 use Rattle.hub.specs.declared.Connection.{Connection}
-use Rattle.hub.specs.Hear.{heard, reportHeard}
+use Rattle.hub.specs.Hear.{hear, reportHeard}
 use Rattle.hub.specs.Step.{step, reportStepped}
 use Rattle.promises.specs.Refusals.{AreBytes}
 use Rattle.message.specs.Widths.{InWidth}
@@ -52,11 +52,11 @@ ReadsBack =
     (h : Header) (chain payload keys message : List ℕ) → Wrote h chain payload keys message
     → (working : List ℕ) → LongEnough h payload working → ReadAs h payload message keys working
 
--- Each step's answer, next connection and report buffer by the state: on a message that was written they are what `heard` and `reportHeard`
+-- Each step's answer, next connection and report buffer by the state: on a message that was written they are what `hear` and `reportHeard`
 -- (document 01's "Host states", row by row) give for its fields and payload.
 abbrev pub StepsByState : Type 0
 StepsByState =
     (c : Connection) (h : Header) (chain payload keys message : List ℕ) → Wrote h chain payload keys message
     → (working report : List ℕ) (verdict : ℕ) → LongEnough h payload working → verdict ≤ 1 → badSize (c .size) ≡ false
-    → (step c message keys working report verdict ≡ heard c h payload report verdict)
+    → (step c message keys working report verdict ≡ hear c h payload report verdict)
     × (reportStepped c message keys working report verdict ≡ reportHeard c h payload report)

@@ -6,17 +6,11 @@ use Rattle.hub.specs.Answers.{answerOf}
 use Rattle.hub.proofs.Answer.of.Statement.{statement}
 use Rattle.hub.proofs.Answer.of.Tie as tie
 
-returns : tie.Need-returns
-returns c = ap answerOf (sym (c .before .arrival .given .1))
-
-returns-2 : tie.Need-returns-2
-returns-2 c = ap answerOf (sym (c .before .arrival2 .given .1))
-
-returns-3 : tie.Need-returns-3
-returns-3 c = ap answerOf (sym (c .before .arrival3 .given .1))
-
-returns-4 : tie.Need-returns-4
-returns-4 c = ap answerOf (sym (c .before .arrival4 .given .1))
-
 pub of-spec : {M : Type 1} → statement M
-of-spec = tie.close (tie.spec (λ c. search needs) (λ c. search needs) (λ c. search needs) (λ c. search needs) returns returns-2 returns-3 returns-4)
+of-spec =
+    tie.close (tie.spec
+    (λ c. search needs) (λ c. search needs) (λ c. search needs) (λ c. search needs)
+    (λ c. ap answerOf (sym (c .before .arrival .given .1)))
+    (λ c. ap answerOf (sym (c .before .arrival2 .given .1)))
+    (λ c. ap answerOf (sym (c .before .arrival3 .given .1)))
+    (λ c. ap answerOf (sym (c .before .arrival4 .given .1))))

@@ -4,12 +4,6 @@ use borrow.Author.Needs.{needs}
 use Rattle.hub.proofs.Connection.authenticate.Statement.{statement}
 use Rattle.hub.proofs.Connection.authenticate.Tie as tie
 
-returns : tie.Need-returns
-returns c = rw (c .before .if1 .taken, c .with-digest-and-state .ensures)
-
-returns-2 : tie.Need-returns-2
-returns-2 c = rw (c .before .before .if1 .left, c .before .if2 .taken, c .with-digest-and-state2 .ensures)
-
 returns-3 : tie.Need-returns-3
 returns-3 c =
     let d = c .before .before .before .before .before in
@@ -22,4 +16,8 @@ returns-4 c =
     rw (d .before .if1 .left, d .if2 .left, ← (a .alike .ensures), c .before .if3 .left, c .refuse .ensures)
 
 pub authenticate-spec : {M : Type 1} → statement M
-authenticate-spec = tie.close (tie.spec _ returns _ returns-2 (λ c. search needs) (λ c. search needs) _ returns-3 _ returns-4)
+authenticate-spec =
+    tie.close (tie.spec
+    _ (λ c. rw (c .before .if1 .taken, c .with-digest-and-state .ensures))
+    _ (λ c. rw (c .before .before .if1 .left, c .before .if2 .taken, c .with-digest-and-state2 .ensures))
+    (λ c. search needs) (λ c. search needs) _ returns-3 _ returns-4)

@@ -3,8 +3,5 @@
 use Rattle.hub.proofs.Connection.blank.Statement.{statement}
 use Rattle.hub.proofs.Connection.blank.Tie as tie
 
-returns : tie.Need-returns
-returns c = rw (c .expecting .ensures)
-
 pub blank-spec : {M : Type 1} → statement M
-blank-spec = tie.close (tie.spec _ returns)
+blank-spec = tie.close (tie.spec _ (λ c. rw (c .expecting .ensures)))

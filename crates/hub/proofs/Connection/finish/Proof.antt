@@ -4,14 +4,9 @@ use borrow.Author.Tests.{eq-eqb, ne-eqb}
 use Rattle.hub.proofs.Connection.finish.Statement.{statement}
 use Rattle.hub.proofs.Connection.finish.Tie as tie
 
-returns : tie.Need-returns
-returns c = rw (eq-eqb _ _ (c .before .before .if1 .taken), c .with-digest-and-state .ensures)
-
-returns-2 : tie.Need-returns-2
-returns-2 c = rw (ne-eqb _ _ (c .before .if1 .left), eq-eqb _ _ (c .if2 .taken))
-
-returns-3 : tie.Need-returns-3
-returns-3 c = rw (ne-eqb _ _ (c .before .before .if1 .left), ne-eqb _ _ (c .before .if2 .left), c .refuse .ensures)
-
 pub finish-spec : {M : Type 1} → statement M
-finish-spec = tie.close (tie.spec _ returns returns-2 _ returns-3)
+finish-spec =
+    tie.close (tie.spec
+    _ (λ c. rw (eq-eqb _ _ (c .before .before .if1 .taken), c .with-digest-and-state .ensures))
+    (λ c. rw (ne-eqb _ _ (c .before .if1 .left), eq-eqb _ _ (c .if2 .taken)))
+    _ (λ c. rw (ne-eqb _ _ (c .before .before .if1 .left), ne-eqb _ _ (c .before .if2 .left), c .refuse .ensures)))

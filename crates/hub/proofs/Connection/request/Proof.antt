@@ -4,16 +4,9 @@ use borrow.Author.Tests.{eq-eqb, ne-eqb}
 use Rattle.hub.proofs.Connection.request.Statement.{statement}
 use Rattle.hub.proofs.Connection.request.Tie as tie
 
-returns : tie.Need-returns
-returns c = rw (eq-eqb _ _ (c .before .if1 .taken), c .requested .ensures)
-
-returns-2 : tie.Need-returns-2
-returns-2 c = rw (ne-eqb _ _ (c .before .before .if1 .left), ← (c .before .knows .ensures), c .if2 .taken)
-
-returns-3 : tie.Need-returns-3
-returns-3 c =
-    let k = c .before .before in
-    rw (ne-eqb _ _ (k .before .if1 .left), ← (k .knows .ensures), c .before .if2 .left, c .refuse .ensures)
-
 pub request-spec : {M : Type 1} → statement M
-request-spec = tie.close (tie.spec _ returns _ returns-2 _ returns-3)
+request-spec =
+    tie.close (tie.spec
+    _ (λ c. rw (eq-eqb _ _ (c .before .if1 .taken), c .requested .ensures))
+    _ (λ c. rw (ne-eqb _ _ (c .before .before .if1 .left), ← (c .before .knows .ensures), c .if2 .taken))
+    _ (λ c. let k = c .before .before in rw (ne-eqb _ _ (k .before .if1 .left), ← (k .knows .ensures), c .before .if2 .left, c .refuse .ensures)))

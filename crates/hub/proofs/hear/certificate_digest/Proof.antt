@@ -15,14 +15,8 @@ inside : (c : tie.After-struct-known) → let r = c .before .certificate-of .res
     (c .before .before .before .args .payload .now)
 inside c = rw (c .before .certificate-of .ensures) (certificate-inside (c .before .before .before .args .payload .now))
 
-add-end : tie.Need-add-end
-add-end c = omega (arith, inside c)
-
-part-digest-end : tie.Need-part-digest-end
-part-digest-end c = omega (arith, inside c)
-
-returns : tie.Need-returns
-returns c = c .digest .ensures ∙ rw (add-sub-cancel-left, c .before .before .before .certificate-of .ensures)
-
 pub certificate-digest-spec : {M : Type 1} → statement M
-certificate-digest-spec = tie.close (tie.spec _ add-end (λ c. search needs) (λ c. search needs) part-digest-end _ returns)
+certificate-digest-spec =
+    tie.close (tie.spec
+    _ (λ c. omega (arith, inside c)) (λ c. search needs) (λ c. search needs) (λ c. omega (arith, inside c))
+    _ (λ c. c .digest .ensures ∙ rw (add-sub-cancel-left, c .before .before .before .certificate-of .ensures)))
