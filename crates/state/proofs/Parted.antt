@@ -1,13 +1,14 @@
 -- SPDX-License-Identifier: MPL-2.0
 -- Parts one after the other: as they are stored, and as they stand in a list, each at its place.
-use Prim.Native.Nat.{ℕ, zero, suc, _+_}
-use mathlib.Core.Path.{_≡_, refl, ap, _∙_}
+use Prim.Native.Nat.{ℕ, zero, suc, _+_, _-_, _≤_}
+use mathlib.Core.Path.{_≡_, refl, sym, _∙_}
 use mathlib.Core.List.{List, [], _∷_, _++_, append-assoc, append-nil}
 use native.Mathlib.Nat.{add-zero, add-suc, add-assoc}
-use lib.ListN.{length, length-append}
+use lib.ListN.{length, take, drop, length-append}
 use lib.Seq.{sets}
 use Rattle.laws.specs.Bytes.{bytesAt}
-use Rattle.laws.proofs.Parts.{part-back}
+use Rattle.laws.proofs.Lists.{copied-part}
+use Rattle.laws.proofs.Parts.{part-back, bytesAt-part}
 use Rattle.laws.proofs.Stores.{sets-sets}
 use Rattle.state.specs.State.{joined}
 
@@ -43,3 +44,9 @@ unfolding bytesAt
 stand-joined s p [] w = refl
 stand-joined s p (x ∷ xs) w =
     rw (length-append x (joined xs), bytesAt-append s p (length x) (length (joined xs)), w .0, ← stand-joined s (p + length x) xs (w .1))
+
+-- A copy of the part `&s[p..p + n]` over the whole of an array of n holds the bytes there.
+pub copied-bytes : (n p : ℕ) (s target : List ℕ) → p + n ≤ length s → length target ≡ n
+    → take (length (take (p + n - p) (drop p s))) (take (p + n - p) (drop p s)) ++ drop (length (take (p + n - p) (drop p s))) target
+    ≡ bytesAt s p n
+copied-bytes n p s target h e = copied-part n p s target h e ∙ sym (bytesAt-part s p n h)

@@ -15,7 +15,7 @@ use Rattle.laws.proofs.Parts.{bytesAt-part}
 use Rattle.wire.specs.Fields.{mostPieces}
 use Rattle.joining.specs.Heard.{has, most}
 use Rattle.state.specs.Layout.{sizePlace, sessionPlace, expectedPlace, heardPlace, heardSize, countPlace, channelPlace, lastPlace, stateSize}
-use Rattle.state.specs.State.{listed, bitAt, heardAt, heardByte, heardBytes, connectionAt, Whole}
+use Rattle.state.specs.State.{listed, bitAt, heardAt, heardByte, heardBytes, progressAt, progressParts, connectionAt, Whole}
 use Rattle.state.proofs.Listed.{listed-at, listed-same, bytesAt-listed}
 use Rattle.state.proofs.Parted.{Stand, bytesAt-append, stand-joined}
 use Rattle.state.proofs.Bits.{eight-bits}
@@ -62,11 +62,13 @@ module _ (s : List ℕ) (bytes : (i : ℕ) → be8 s i < 256) where
   heard-bytes : bytesAt s heardPlace heardSize ≡ heardBytes (heardAt s most) heardSize
   heard-bytes = bytesAt-listed s heardPlace heardSize ∙ listed-same _ _ heardSize heard-byte
 
+  progress-stand : Stand s expectedPlace (progressParts (progressAt s))
+  unfolding listed mostPieces
+  progress-stand = (four expectedPlace, (heard-bytes, (eight countPlace, (eight channelPlace, (two lastPlace, tt)))))
+
   parts-stand : Stand s 0 (allParts (connectionAt s))
-  unfolding connectionAt bytesAt listed mostPieces
-  parts-stand =
-      (eight sizePlace, (refl, (eight sessionPlace, (refl, (refl, (refl, (refl, (four expectedPlace,
-      (heard-bytes, (eight countPlace, (eight channelPlace, (two lastPlace, tt))))))))))))
+  unfolding connectionAt bytesAt
+  parts-stand = (eight sizePlace, (refl, (eight sessionPlace, (refl, (refl, (refl, (refl, progress-stand)))))))
 
 pub whole : Whole
 unfolding connectionAt bytesAt listed mostPieces

@@ -15,16 +15,8 @@ returns c =
     let at-session = at-nonce .before .before in
     let at-state = at-session .before .before in
     let at-size = at-state .before .before in
-    rw (
-      at-size .number64 .ensures,
-      at-state .byte .ensures,
-      at-session .number642 .ensures,
-      at-nonce .nonce-at .ensures,
-      at-x .key-at .ensures,
-      at-y .key-at2 .ensures,
-      at-digest .key-at3 .ensures,
-      c .progress-at .ensures,
-    )
+    rw (at-size .number64 .ensures, at-state .byte .ensures, at-session .number642 .ensures, at-nonce .nonce-at .ensures)
+    (rw (at-x .key-at .ensures, at-y .key-at2 .ensures, at-digest .key-at3 .ensures, c .progress-at .ensures))
 
 pub decode-spec : {M : Type 1} → statement M
 decode-spec =

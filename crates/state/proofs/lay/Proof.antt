@@ -26,9 +26,10 @@ returns c =
     let k = start .args .c in
     let f : Fits k = search needs in
     let e = read-back k f .0 in
-    let run = rw (f .nonce, f .x, f .y, f .digest) at (stored-joined l sizePlace (stateParts k)) ∙ sets-whole (stateBytes k) l (start .pre ∙ sym e) in (
+    let run = rw (f .nonce, f .x, f .y, f .digest) at (stored-joined l sizePlace (stateParts k)) in
+    let whole = run ∙ sets-whole (stateBytes k) l (start .pre ∙ sym e) in (
       rw (at-progress .put-progress .ensures .0, at-digest .put-key3 .ensures .0, at-y .put-key2 .ensures .0, at-x .put-key .ensures .0)
-          (rw (at-nonce .put-nonce .ensures .0, at-session .store642 .ensures, at-state .store8 .ensures, at-size .store64 .ensures) run),
+          (rw (at-nonce .put-nonce .ensures .0, at-session .store642 .ensures, at-state .store8 .ensures, at-size .store64 .ensures) whole),
       e,
     )
 
