@@ -13,14 +13,14 @@ use Rattle.state.proofs.lay.Tie as tie
 returns : tie.Need-returns
 unfolding stateBytes
 returns c =
-    let at-progress = c .before .before in
-    let at-digest = at-progress .before .before .before .before in
-    let at-y = at-digest .before .before .before .before in
-    let at-x = at-y .before .before .before .before in
-    let at-nonce = at-x .before .before .before .before in
-    let at-session = at-nonce .before .before .before .before in
-    let at-state = at-session .before .before .before .before in
-    let at-size = at-state .before .before .before .before in
+    let at-progress : tie.After-put-progress = search in
+    let at-digest : tie.After-put-key3 = search in
+    let at-y : tie.After-put-key2 = search in
+    let at-x : tie.After-put-key = search in
+    let at-nonce : tie.After-put-nonce = search in
+    let at-session : tie.After-store642 = search in
+    let at-state : tie.After-store8 = search in
+    let at-size : tie.After-store64 = search in
     let start = at-size .before .before .before .before .before .before .before .before in
     let l = start .args .out .now in
     let k = start .args .c in
