@@ -8,7 +8,7 @@ use Rattle.state.proofs.nonce_at.Tie as tie
 
 returns : tie.Need-returns
 returns c =
-    let start = c .before .before .before .before .before in
+    let start : tie.Start = search in
     c .before .copy .ensures .1 ∙ copied-bytes 8 _ (start .args .s .now) _ (start .pre) refl
 
 pub nonce-at-spec : {M : Type 1} → statement M

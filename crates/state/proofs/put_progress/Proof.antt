@@ -12,13 +12,14 @@ use Rattle.state.proofs.put_progress.Tie as tie
 returns : tie.Need-returns
 unfolding progressBytes mostPieces
 returns c =
-    let at-last = c .before .before in
-    let at-channel = at-last .before .before .before .before in
-    let at-count = at-channel .before .before .before .before in
-    let at-heard = at-count .before .before .before .before in
-    let at-expected = at-heard .before .before .before .before in
-    let s = at-expected .before .before .before .before .args in
-    let run = rw (length-listed (heardByte (s .p .heard)) heardSize) at (stored-joined (s .out .now) expectedPlace (progressParts (s .p))) in (
+    let start : tie.Start = search in
+    let p = start .args .p in
+    let at-expected : tie.After-store32 = search in
+    let at-heard : tie.After-put-heard = search in
+    let at-count : tie.After-store64 = search in
+    let at-channel : tie.After-store642 = search in
+    let at-last : tie.After-store16 = search in
+    let run = rw (length-listed (heardByte (p .heard)) heardSize) at (stored-joined (start .args .out .now) expectedPlace (progressParts p)) in (
       rw (at-last .store16 .ensures, at-channel .store642 .ensures, at-count .store64 .ensures)
           (rw (at-heard .put-heard .ensures .0, at-expected .store32 .ensures) run),
       at-heard .put-heard .ensures .1,

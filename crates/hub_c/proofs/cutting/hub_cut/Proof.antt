@@ -13,7 +13,8 @@ returns-2 : tie.Need-returns-2
 returns-2 c =
     let cut : tie.After-cut = search in
     let refused : tie.Then2 = search in
-    let report = cut .before .before .before .before .args .report .now in
+    let start : tie.Start = search in
+    let report = start .args .report .now in
     let r = rw (cut .cut .ensures .0) at (refused .if2 .taken) in
     rw (eq-eqb _ _ (cut .before .if1 .left)) (cut .cut .ensures .0, c .before .before .put-triple .ensures ∙ cut-refused _ report _ r)
 
@@ -22,7 +23,8 @@ returns-3 c =
     let cut : tie.After-cut = search in
     let good : tie.Else2 = search in
     let piece : tie.After-cut-piece = search in
-    let report = cut .before .before .before .before .args .report .now in
+    let start : tie.Start = search in
+    let report = start .args .report .now in
     let z = sym (cut .cut .ensures .0) ∙ good .if2 .left in
     let words = cut-told _ report _ z (cut .cut .ensures .1) (piece .cut-piece .ensures) in
     rw (eq-eqb _ _ (cut .before .if1 .left)) (sym z, c .before .before .put-triple2 .ensures ∙ words)
