@@ -2,14 +2,15 @@
 -- A field that is brought into its room changes nothing that the writer answers or writes: a number that has no room is refused by the row that
 -- tests its field, before and after.
 use Prim.Native.Nat.{ℕ, _≤_}
-use mathlib.Core.Path.{_≡_, refl, ap}
-use mathlib.Core.Logic.{_⊎_, inl, inr}
+use mathlib.Core.Path.{_≡_, refl, ap, _∙_}
+use mathlib.Core.Logic.{_⊎_, inl, inr, ⊎-elim}
 use mathlib.Core.List.{List, _++_}
-use mathlib.Core.Bool.{Bool, true, false, cond, _||_}
+use mathlib.Core.Bool.{Bool, true, false, cond, _||_, true≢false}
 use native.Mathlib.Omega.{arith}
 use lib.Dec.{eqb, ltb}
 use lib.ListN.{length, drop}
 use borrow.Author.Tests.{lt-ltb, ltb-true, ltb-false, le-leb, ne-eqb}
+use Rattle.laws.proofs.Cases.{on}
 use Rattle.laws.proofs.Bools.{or-true}
 use Rattle.wire.specs.Fields.{badType, badFlags, badPiece, mostPieces}
 use Rattle.wire.specs.declared.header.Header.{Header}
@@ -43,15 +44,18 @@ index-over : (k i c : ℕ) → c ≤ i → badPiece k i c ≡ true
 unfolding badPiece
 index-over k i c h = rw (le-leb c i h, or-true (eqb c 0 || ltb mostPieces c))
 
--- A number of the first three rows is not 0.
-sixth : (a : Bool) → eqb (cond a 5 6) 0 ≡ false
-sixth true = refl
-sixth false = refl
+narrow-le : (most x : ℕ) → narrow most x ≤ most
+narrow-le most x =
+    on (ltb most x) (λ e. rw (narrow-over most x e) (omega arith)) (λ e. rw (narrow-fits most x e) (ltb-false most x e))
 
-seventh : (a b : Bool) → eqb (cond a 5 (cond b 6 7)) 0 ≡ false
-seventh true b = refl
-seventh false true = refl
-seventh false false = refl
+-- A test that holds from the greatest number on is the same after narrowing, and where it does not hold nothing is narrowed.
+module _ (most : ℕ) (test : ℕ → Bool) (over : (x : ℕ) → most ≤ x → test x ≡ true) (x : ℕ) where
+  tested : (test (narrow most x) ≡ test x) × (test x ≡ false → narrow most x ≡ x)
+  tested =
+      on (ltb most x)
+      (λ e. let l = ltb-true most x e in
+      let t = over x (omega arith) in (rw (narrow-over most x e, over most (omega arith), t), λ f. absurd (true≢false (rw t at f))))
+      (λ e. rw (narrow-fits most x e) (refl, λ f. refl))
 
 module _ (chain payload : List ℕ) (keys room : ℕ) where
   abbrev R : Header → ℕ
@@ -62,60 +66,25 @@ module _ (chain payload : List ℕ) (keys room : ℕ) where
   Alike g h = (g ≡ h) ⊎ ((R g ≡ R h) × (eqb (R h) 0 ≡ false))
 
   module _ (h : Header) (s : ltb 4294967295 (h .sequence) ≡ false) where
-    -- The first field that has no room: its row refuses both, and the rows above it test the same.
-    by : (k f c i : Bool) → ltb 255 (h .kind) ≡ k → ltb 65535 (h .flags) ≡ f → ltb 65535 (h .count) ≡ c → ltb 65535 (h .index) ≡ i
-        → Alike (narrowed h) h
-    unfolding writeRefusal
-    by true f c i k′ f′ c′ i′ =
-        let l = ltb-true 255 (h .kind) k′ in
-        let e = type-over (h .kind) (omega arith) in
-        inr (rw (narrow-over 255 (h .kind) k′, type-over 255 (omega arith), e), rw e)
-    by false true c i k′ f′ c′ i′ =
-        let l = ltb-true 65535 (h .flags) f′ in
-        let e = flags-over (h .kind) (h .flags) (omega arith) in
-        let g = flags-over (h .kind) 65535 (omega arith) in
-        inr (rw (narrow-fits 255 (h .kind) k′, narrow-over 65535 (h .flags) f′, g, e), rw e (sixth (badType (h .kind))))
-    by false false true i k′ f′ c′ i′ =
-        let l = ltb-true 65535 (h .count) c′ in
-        let e = count-over (h .kind) (h .index) (h .count) (omega arith) in
-        let g = count-over (h .kind) (narrow 65535 (h .index)) 65535 (omega arith) in
-        inr (
-          rw (narrow-fits 255 (h .kind) k′, narrow-fits 65535 (h .flags) f′, narrow-over 65535 (h .count) c′, g, e),
-          rw e (seventh (badType (h .kind)) (badFlags (h .kind) (h .flags))),
-        )
-    by false false false true k′ f′ c′ i′ =
-        let l = ltb-true 65535 (h .index) i′ in
-        let m = ltb-false 65535 (h .count) c′ in
-        let e = index-over (h .kind) (h .index) (h .count) (omega arith) in
-        let g = index-over (h .kind) 65535 (h .count) m in
-        inr (
-          rw (narrow-fits 255 (h .kind) k′, narrow-fits 65535 (h .flags) f′, narrow-fits 65535 (h .count) c′, narrow-over 65535 (h .index) i′, g, e),
-          rw e (seventh (badType (h .kind)) (badFlags (h .kind) (h .flags))),
-        )
-    by false false false false k′ f′ c′ i′ =
-        inl
-        (rw (
-          narrow-fits 255 (h .kind) k′,
-          narrow-fits 65535 (h .flags) f′,
-          narrow-fits 4294967295 (h .sequence) s,
-          narrow-fits 65535 (h .index) i′,
-          narrow-fits 65535 (h .count) c′,
-        ))
-
+    -- The first of the three tests that holds refuses both, and where none holds every field has room.
     alike : Alike (narrowed h) h
-    alike = by (ltb 255 (h .kind)) (ltb 65535 (h .flags)) (ltb 65535 (h .count)) (ltb 65535 (h .index)) refl refl refl refl
+    unfolding writeRefusal
+    alike =
+        let k = tested 255 badType type-over (h .kind) in
+        let f = tested 65535 (badFlags (h .kind)) (flags-over (h .kind)) (h .flags) in
+        let c = tested 65535 (badPiece (h .kind) (h .index)) (count-over (h .kind) (h .index)) (h .count) in
+        let least = narrow-le 65535 (h .count) in
+        let i = tested 65535 (λ (n : ℕ). badPiece (h .kind) n (narrow 65535 (h .count))) (λ n l. index-over (h .kind) n _ (omega arith)) (h .index) in
+        on (badType (h .kind)) (λ t. inr (rw (k .0, t), rw t))
+        (λ t. on (badFlags (h .kind) (h .flags)) (λ u. inr (rw (k .1 t, f .0, t, u), rw (t, u)))
+        (λ u. on (badPiece (h .kind) (h .index) (h .count)) (λ v. inr (rw (k .1 t, f .1 u, i .0, c .0, t, u, v), rw (t, u, v)))
+        (λ v. inl (rw (k .1 t, f .1 u, narrow-fits 4294967295 (h .sequence) s, i .1 (c .0 ∙ v), c .1 v)))))
 
     -- What is answered by the refusal is the same.
-    module _ {A : Type 0} (done : Header → A) (refused : ℕ → A) where
-      abbrev given : Header → A
-      given g = cond (eqb (R g) 0) (done g) (refused (R g))
-
-      same : Alike (narrowed h) h → given (narrowed h) ≡ given h
-      same (inl e) = ap given e
-      same (inr e) = rw (e .0, e .1)
-
-      pub narrow-same : given (narrowed h) ≡ given h
-      narrow-same = same alike
+    pub narrow-same : {A : Type 0} (done : Header → A) (refused : ℕ → A)
+        → cond (eqb (R (narrowed h)) 0) (done (narrowed h)) (refused (R (narrowed h))) ≡ cond (eqb (R h) 0) (done h) (refused (R h))
+    narrow-same done refused =
+        ⊎-elim (λ e. ap (λ (g : Header). cond (eqb (R g) 0) (done g) (refused (R g))) e) (λ e. rw (e .0, e .1)) alike
 
 module _ (chain payload : List ℕ) (h : Header) (s : ltb 4294967295 (h .sequence) ≡ false) where
   -- The writer's answer, and the output that it leaves.

@@ -3,7 +3,7 @@
 use Prim.Native.Nat.{ℕ, _*_}
 use mathlib.Core.Path.{_≡_, refl, ap}
 use mathlib.Core.List.{List, [], _∷_}
-use mathlib.Core.Bool.{false, not, _||_}
+use mathlib.Core.Bool.{Bool, false, not, _||_}
 use lib.Dec.{eqb}
 use lib.ListN.{length}
 use borrow.Author.Tests.{eqb-true, eq-eqb, ne-eqb, not-false}
@@ -18,11 +18,21 @@ use Rattle.joining.specs.Cut.{cutRefusal, cutCount, cutPiece}
 use Rattle.hub_c.specs.Pieces.{cutWords}
 use Rattle.hub_c.specs.Line.{lineText}
 
--- Two buffers.
-pub both-sized : (a m b n : ℕ) → (not (eqb a m) || not (eqb b n)) ≡ false → (a ≡ m) × (b ≡ n)
-both-sized a m b n e =
-    let k = or-false (not (eqb a m)) (not (eqb b n)) e in
-    (eqb-true a m (not-false (eqb a m) (k .0)), eqb-true b n (not-false (eqb b n) (k .1)))
+-- Of two buffers that have their sizes each has; the writer's words have a test beside them.
+module _ (a m b n : ℕ) where
+  pub first-sized : (not (eqb a m) || not (eqb b n)) ≡ false → a ≡ m
+  first-sized e = eqb-true a m (not-false (eqb a m) (or-false (not (eqb a m)) (not (eqb b n)) e .0))
+
+  pub second-sized : (not (eqb a m) || not (eqb b n)) ≡ false → b ≡ n
+  second-sized e = eqb-true b n (not-false (eqb b n) (or-false (not (eqb a m)) (not (eqb b n)) e .1))
+
+  pub third-false : (t : Bool) → (not (eqb a m) || not (eqb b n) || t) ≡ false → t ≡ false
+  third-false t e = or-false (not (eqb a m) || not (eqb b n)) t e .1
+
+  pub second-of-three : (t : Bool) → (not (eqb a m) || not (eqb b n) || t) ≡ false → b ≡ n
+  second-of-three t e = second-sized (or-false (not (eqb a m) || not (eqb b n)) t e .0)
+
+pub ruleset sizes = (first-sized, second-sized, second-of-three)
 
 -- What the cutter answers is put into words.
 module _ (F : ℕ) (R : List ℕ) (i : ℕ) where

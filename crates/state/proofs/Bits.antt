@@ -1,7 +1,7 @@
 -- SPDX-License-Identifier: MPL-2.0
 -- Eight indexes and their byte, both ways.
 use Prim.Native.Nat.{ℕ, zero, suc, _+_, _*_, _/_, _%_, _^_, _<_}
-use mathlib.Core.Path.{_≡_, refl, sym, ap, _∙_}
+use mathlib.Core.Path.{_≡_, refl, ap, _∙_}
 use mathlib.Core.List.{List, [], _∷_}
 use mathlib.Core.Bool.{Bool, true, false}
 use native.Mathlib.Omega.{arith}
@@ -18,11 +18,7 @@ abbrev bitOf : ℕ → ℕ → Bool
 bitOf n k = eqb (n / 2 ^ k % 2) 1
 
 half-bit : (n k : ℕ) → bitOf n (suc k) ≡ bitOf (n / 2) k
-half-bit n k = ap (λ (m : ℕ). eqb (m % 2) 1) (ap (λ (m : ℕ). n / m) (pow-succ' 2 k) ∙ sym (div-div-eq-div-mul n 2 (2 ^ k)))
-
-is-one : (b : Bool) → eqb (bit b) 1 ≡ b
-is-one true = refl
-is-one false = refl
+half-bit n k = rw (pow-succ' 2 k, div-div-eq-div-mul n 2 (2 ^ k))
 
 bit-one : (n : ℕ) → n < 2 → bit (eqb n 1) ≡ n
 bit-one zero l = refl
@@ -32,14 +28,12 @@ bit-one (suc (suc n)) l = absurd (omega arith)
 -- The bits of a value are those that it was made of.
 picked : (bs : List Bool) (k : ℕ) → bitOf (value bs) k ≡ getD bs k false
 picked [] k = rw zero-div
-picked (b ∷ bs) zero =
-    let l = bit-le b in
-    let e : (bit b + 2 * value bs) / 1 % 2 ≡ bit b = rw div-one (omega arith) in
-    ap (λ (n : ℕ). eqb n 1) e ∙ is-one b
+picked (true ∷ bs) zero = let e : (1 + 2 * value bs) / 1 % 2 ≡ 1 = rw div-one (omega arith) in rw e
+picked (false ∷ bs) zero = let e : (0 + 2 * value bs) / 1 % 2 ≡ 0 = rw div-one (omega arith) in rw e
 picked (b ∷ bs) (suc k) =
     let l = bit-le b in
     let h : (bit b + 2 * value bs) / 2 ≡ value bs = omega arith in
-    half-bit (bit b + 2 * value bs) k ∙ ap (λ (n : ℕ). bitOf n k) h ∙ picked bs k
+    rw (half-bit (bit b + 2 * value bs) k, h) (picked bs k)
 
 -- The value of a number's bits is the number.
 weighed : (bs : List Bool) (n : ℕ) → n < 2 ^ length bs → ((k : ℕ) → k < length bs → getD bs k false ≡ bitOf n k) → value bs ≡ n
@@ -52,9 +46,7 @@ weighed (b ∷ bs) n l e =
 
 -- Bit k of eight indexes is index k of them, and indexes that are the bits of a byte make the byte.
 pub eight-bit : (h : List Bool) (at k : ℕ) → k < 8 → bitOf (eight h at) k ≡ has h (at + k)
-eight-bit h at k l =
-    let f : ℕ → Bool = λ (i : ℕ). has h (at + i) in
-    picked (listed f 8) k ∙ listed-at f false 8 k l
+eight-bit h at k l = picked (listed (λ (i : ℕ). has h (at + i)) 8) k ∙ listed-at _ false 8 k l
 
 pub eight-bits : (h : List Bool) (at n : ℕ) → n < 256 → ((k : ℕ) → k < 8 → has h (at + k) ≡ eqb (n / 2 ^ k % 2) 1) → eight h at ≡ n
 unfolding listed

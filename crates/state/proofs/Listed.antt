@@ -2,12 +2,13 @@
 -- The first values of a function as a list: its elements, and the loops that fill an array and a buffer with it.
 use Prim.Native.Nat.{ℕ, zero, suc, _+_, _≤_, _<_}
 use mathlib.Core.Path.{_≡_, refl, sym, ap, _∙_}
-use mathlib.Core.Logic.{_⊎_, inl, inr}
+use mathlib.Core.Logic.{⊎-elim}
 use mathlib.Core.List.{List, [], _∷_, _++_, append-assoc, append-nil}
 use native.Mathlib.Omega.{arith}
 use native.Mathlib.Numerals.{add-one}
 use lib.ListN.{length, getD, set, drop, length-append, drop-of-length-le, List·getD-append}
 use lib.Seq.{sets, drop-cons, drop-length, set-at, getD-at}
+use Rattle.laws.specs.Bytes.{be8, bytesAt}
 use Rattle.laws.proofs.Order.{lt-or-ge}
 use Rattle.laws.proofs.Stores.{sets-start, stored-twice}
 use Rattle.state.specs.State.{listed}
@@ -18,16 +19,12 @@ module _ {A : Type 0} (f : ℕ → A) where
   length-listed zero = refl
   length-listed (suc n) = rw length-append (omega (arith, length-listed n))
 
-  either : (d : A) (n i : ℕ) → (i < n → getD (listed f n) i d ≡ f i) → i < suc n → (i < n) ⊎ (n ≤ i) → getD (listed f n ++ (f n ∷ [])) i d ≡ f i
-  either d n i before l (inl p) = List·getD-append (listed f n) (f n ∷ []) d i (rw (length-listed n) p) ∙ before p
-  either d n i before l (inr p) =
-      let k : n ≡ i = omega arith in
-      getD-at (listed f n) (f n) [] d i (length-listed n ∙ k) ∙ ap f k
-
   pub listed-at : (d : A) (n i : ℕ) → i < n → getD (listed f n) i d ≡ f i
   unfolding listed
   listed-at d zero i l = absurd (omega arith)
-  listed-at d (suc n) i l = either d n i (λ p. listed-at d n i p) l (lt-or-ge i n)
+  listed-at d (suc n) i l =
+      ⊎-elim (λ p. List·getD-append (listed f n) (f n ∷ []) d i (rw (length-listed n) p) ∙ listed-at d n i p)
+      (λ (p : n ≤ i). let k : n ≡ i = omega arith in getD-at (listed f n) (f n) [] d i (length-listed n ∙ k) ∙ ap f k) (lt-or-ge i n)
 
   -- One value more in an array that holds the first i, and an array that holds as many as it is long.
   pub listed-more : (l : List A) (i : ℕ) (b : A) → i < length l → b ≡ f i
@@ -39,6 +36,18 @@ module _ {A : Type 0} (f : ℕ → A) where
 
   pub listed-all : (l : List A) (i : ℕ) → i ≡ length l → listed f i ++ drop i l ≡ listed f (length l)
   listed-all l i e = rw (e, drop-length l, append-nil)
+
+-- The bytes at a place are such a list.
+pub bytesAt-listed : (s : List ℕ) (at n : ℕ) → bytesAt s at n ≡ listed (λ (i : ℕ). be8 s (at + i)) n
+unfolding bytesAt listed
+bytesAt-listed s at zero = refl
+bytesAt-listed s at (suc n) = rw (bytesAt-listed s at n)
+
+-- Two such lists are the same where the values are.
+pub listed-same : {A : Type 0} (f g : ℕ → A) (n : ℕ) → ((i : ℕ) → i < n → f i ≡ g i) → listed f n ≡ listed g n
+unfolding listed
+listed-same f g zero h = refl
+listed-same f g (suc n) h = rw (listed-same f g n (λ i l. h i (omega arith)), h n (omega arith))
 
 -- One value more after those that a buffer holds from a place on.
 pub listed-stored : (f : ℕ → ℕ) (l : List ℕ) (at i : ℕ) {m n : List ℕ} → m ≡ sets l at (listed f i) → n ≡ sets m (at + i) (f i ∷ [])

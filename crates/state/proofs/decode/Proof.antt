@@ -8,23 +8,15 @@ use Rattle.state.proofs.decode.Tie as tie
 returns : tie.Need-returns
 unfolding connectionAt
 returns c =
-    let at-digest = c .before .before in
-    let at-y = at-digest .before .before in
-    let at-x = at-y .before .before in
-    let at-nonce = at-x .before .before in
-    let at-session = at-nonce .before .before in
-    let at-state = at-session .before .before in
-    let at-size = at-state .before .before in
-    rw (
-      at-size .number64 .ensures,
-      at-state .byte .ensures,
-      at-session .number642 .ensures,
-      at-nonce .nonce-at .ensures,
-      at-x .key-at .ensures,
-      at-y .key-at2 .ensures,
-      at-digest .key-at3 .ensures,
-      c .progress-at .ensures,
-    )
+    let at-size : tie.After-number64 = search in
+    let at-state : tie.After-byte = search in
+    let at-session : tie.After-number642 = search in
+    let at-nonce : tie.After-nonce-at = search in
+    let at-x : tie.After-key-at = search in
+    let at-y : tie.After-key-at2 = search in
+    let at-digest : tie.After-key-at3 = search in
+    rw (at-size .number64 .ensures, at-state .byte .ensures, at-session .number642 .ensures, at-nonce .nonce-at .ensures)
+    (rw (at-x .key-at .ensures, at-y .key-at2 .ensures, at-digest .key-at3 .ensures, c .progress-at .ensures))
 
 pub decode-spec : {M : Type 1} → statement M
 decode-spec =

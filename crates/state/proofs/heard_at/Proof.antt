@@ -2,7 +2,7 @@
 -- The first i indexes are those of the state.
 use Prim.Native.Nat.{_≤_, _-_}
 use mathlib.Core.List.{_++_}
-use mathlib.Core.Path.{refl, ap, _∙_, _≡_}
+use mathlib.Core.Path.{refl, sym, _∙_, _≡_}
 use native.Mathlib.Omega.{arith}
 use lib.ListN.{length, drop}
 use borrow.Author.Needs.{needs}
@@ -26,20 +26,16 @@ loop-holds c = (omega arith, refl, refl)
 loop-again : tie.Need-loop-again Inv-loop μ-loop
 unfolding mostPieces
 loop-again c =
-    let at-byte = c .before in
-    let at-loop = at-byte .before .before in
-    let s = at-loop .before .before .args .s .now in
-    let l = at-loop .loop in
-    let b = rw (at-byte .byte .ensures) at (c .bit-of .ensures) in
-    (omega arith, l .inv .1, rw (l .inv .2) (listed-more (bitAt s) _ (l .i) _ (omega (arith, l .inv .1)) b))
+    let l = c .before .before .before .loop in
+    let b = rw (c .before .byte .ensures) at (c .bit-of .ensures) in
+    (omega arith, l .inv .1, rw (l .inv .2) (listed-more _ _ _ _ (omega (arith, l .inv .1)) b))
 
 returns : tie.Need-returns Inv-loop μ-loop
 unfolding mostPieces
 returns c =
-    let at-loop = c .before in
-    let s = at-loop .before .before .args .s .now in
-    let l = at-loop .loop in
-    l .inv .2 ∙ listed-all (bitAt s) _ (l .i) (omega (arith, l .inv .1)) ∙ ap (heardAt s) (l .inv .1)
+    let l = c .before .loop in
+    let e : l .i ≡ most = omega arith in
+    rw (← l .inv .1) (l .inv .2 ∙ listed-all _ _ (l .i) (e ∙ sym (l .inv .1)))
 
 pub heard-at-spec : {M : Type 1} → statement M
 unfolding mostPieces

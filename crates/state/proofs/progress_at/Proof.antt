@@ -10,8 +10,8 @@ returns c =
     let at-channel = c .before in
     let at-count = at-channel .before in
     let at-heard = at-count .before in
-    let expected = at-heard .before .number32 .ensures in
-    rw (expected, at-heard .heard-at .ensures, at-count .number64 .ensures, at-channel .number642 .ensures, c .number16 .ensures)
+    rw (at-heard .before .number32 .ensures, at-heard .heard-at .ensures, at-count .number64 .ensures)
+    (rw (at-channel .number642 .ensures, c .number16 .ensures))
 
 pub progress-at-spec : {M : Type 1} → statement M
 progress-at-spec = tie.close (tie.spec _ _ _ _ _ returns)

@@ -1,15 +1,14 @@
 -- SPDX-License-Identifier: MPL-2.0
 -- The first i bytes are put.
-use Prim.Native.Nat.{ℕ, _≤_, _-_, _+_}
-use mathlib.Core.List.{_∷_, []}
-use mathlib.Core.Path.{refl, ap, _∙_, _≡_}
+use Prim.Native.Nat.{_≤_, _-_}
+use mathlib.Core.Path.{refl, _≡_}
 use native.Mathlib.Omega.{arith}
 use lib.ListN.{length}
 use lib.Seq.{sets}
 use borrow.Author.Needs.{needs}
 use Rattle.wire.specs.Fields.{mostPieces}
 use Rattle.state.specs.Layout.{heardPlace, heardSize}
-use Rattle.state.specs.State.{listed, heardByte, heardBytes}
+use Rattle.state.specs.State.{listed, heardBytes}
 use Rattle.state.proofs.Listed.{listed-stored}
 use Rattle.state.proofs.put_heard.Statement.{statement}
 use Rattle.state.proofs.put_heard.Tie as tie
@@ -29,20 +28,16 @@ unfolding mostPieces
 loop-again c =
     let at-store8 = c .before .before in
     let at-eight-of = at-store8 .before in
-    let at-loop = at-eight-of .before .before .before in
-    let s = at-loop .before .before .args in
-    let l = at-loop .loop in
-    let b = at-store8 .store8 .ensures ∙ ap (λ (k : ℕ). sets (l .out) (heardPlace + l .i) (k ∷ [])) (at-eight-of .eight-of .ensures) in
-    (omega arith, omega arith, listed-stored (heardByte (s .heard)) (s .out .now) heardPlace (l .i) (l .inv .2) b)
+    let l = at-eight-of .before .before .before .loop in
+    let b = rw (at-eight-of .eight-of .ensures) at (at-store8 .store8 .ensures) in
+    (omega arith, omega arith, listed-stored _ _ heardPlace (l .i) (l .inv .2) b)
 
 returns : tie.Need-returns Inv-loop μ-loop
 unfolding mostPieces
 returns c =
-    let at-loop = c .before in
-    let s = at-loop .before .before .args in
-    let l = at-loop .loop in
+    let l = c .before .loop in
     let e : l .i ≡ heardSize = omega arith in
-    (l .inv .2 ∙ ap (λ (k : ℕ). sets (s .out .now) heardPlace (heardBytes (s .heard) k)) e, search needs)
+    (rw (← e) (l .inv .2), search needs)
 
 pub put-heard-spec : {M : Type 1} → statement M
 unfolding mostPieces

@@ -4,11 +4,5 @@ use native.Mathlib.Omega.{arith}
 use Rattle.state.proofs.weigh.Statement.{statement}
 use Rattle.state.proofs.weigh.Tie as tie
 
-returns : tie.Need-returns
-returns c = (rw (c .if1 .taken) (omega arith), omega arith)
-
-returns-2 : tie.Need-returns-2
-returns-2 c = (rw (c .if1 .left) (omega arith), omega arith)
-
 pub weigh-spec : {M : Type 1} → statement M
-weigh-spec = tie.close (tie.spec returns returns-2)
+weigh-spec = tie.close (tie.spec (λ c. (rw (c .if1 .taken) (omega arith), omega arith)) (λ c. (rw (c .if1 .left) (omega arith), omega arith)))

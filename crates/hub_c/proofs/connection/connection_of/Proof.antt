@@ -5,12 +5,8 @@ use Rattle.wire.specs.Fields.{mostPieces}
 use Rattle.hub_c.proofs.connection.connection_of.Statement.{statement}
 use Rattle.hub_c.proofs.connection.connection_of.Tie as tie
 
-fill-requires : tie.Need-fill-requires
-unfolding mostPieces
-fill-requires c κs = c .before .before .pre
-
-returns : tie.Need-returns
-returns c = rw (c .before .before .before .fill .ensures) at (c .decode .ensures)
-
 pub connection-of-spec : {M : Type 1} → statement M
-connection-of-spec = tie.close (tie.spec (λ c. search needs) fill-requires _ returns)
+unfolding mostPieces
+connection-of-spec =
+    tie.close (tie.spec
+    (λ c. search needs) (λ c κs. c .before .before .pre) _ (λ c. rw (c .before .before .before .fill .ensures) at (c .decode .ensures)))

@@ -6,11 +6,9 @@ use Rattle.wire.specs.Fields.{mostPieces}
 use Rattle.hub_c.proofs.connection.put_connection.Statement.{statement}
 use Rattle.hub_c.proofs.connection.put_connection.Tie as tie
 
-returns : tie.Need-returns
-returns c =
-    let at-fill = c .before .before in
-    at-fill .fill .ensures ∙ at-fill .before .before .before .encode .ensures
-
 pub put-connection-spec : {M : Type 1} → statement M
 unfolding mostPieces
-put-connection-spec = tie.close (tie.spec _ (λ c. search needs) (λ c κs. search needs) (λ c. search needs) returns)
+put-connection-spec =
+    tie.close (tie.spec
+    _ (λ c. search needs) (λ c κs. search needs) (λ c. search needs)
+    (λ c. let made : tie.After-encode = search in c .before .before .fill .ensures ∙ made .encode .ensures))

@@ -1,48 +1,40 @@
 -- SPDX-License-Identifier: MPL-2.0
 -- The buffers have their sizes or not; the line is that of the message.
-use Prim.Native.Nat.{ℕ}
-use mathlib.Core.List.{_∷_, []}
+use Rattle.lines.proofs.Puts.{room}
+use Rattle.hub_c.proofs.Sizing.{first-sized, second-sized, line-told}
+use native.Mathlib.Omega.{arith}
 use native.Mathlib.Nat.{zero-add}
 use lib.ListN.{length}
-use lib.Seq.{sets}
-use Rattle.lines.specs.Listing.{lineOf}
-use Rattle.lines.proofs.Puts.{room}
-use Rattle.hub_c.specs.declared.reading.Found.{Found}
-use Rattle.hub_c.specs.Headers.{ofHeader}
-use Rattle.hub_c.proofs.Sizing.{both-sized, line-told}
-use native.Mathlib.Omega.{arith}
-use mathlib.Core.Path.{sym, ap, ap₂, _∙_}
+use mathlib.Core.Path.{_≡_}
 use borrow.Author.Needs.{needs}
+use mathlib.Core.Path.{refl}
+use Rattle.hub_c.specs.Line.{lineText}
 use Rattle.hub_c.proofs.listing.hub_list.Statement.{statement}
 use Rattle.hub_c.proofs.listing.hub_list.Tie as tie
 
-returns : tie.Need-returns
-returns c = (rw (c .if1 .taken), (rw (c .if1 .taken), rw (c .if1 .taken)))
-
 put-length-requires : tie.Need-put-length-requires
 put-length-requires c κs =
-    let at-if1 = c .before .before .before .before .before .before .before in
-    let s = at-if1 .before .before .before .before .args in
-    both-sized (length (s .line .now)) 64 (length (s .size .now)) 1 (at-if1 .if1 .left) .1
+    let start : tie.Start = search in
+    let sized : tie.Else1 = search in
+    second-sized (length (start .args .line .now)) 64 _ 1 (sized .if1 .left)
 
 returns-2 : tie.Need-returns-2
 returns-2 c =
-    let at-put-length = c .before .before .before in
-    let at-put-line = at-put-length .before .before .before .before in
-    let at-number16 = at-put-line .before .before in
-    let at-read-header = at-number16 .before in
-    let at-if1 = at-read-header .before in
-    let s = at-if1 .before .before .before .before .args in
-    let l = at-if1 .if1 .left in
-    let line = s .line .now in
-    let wide = both-sized (length line) 64 (length (s .size .now)) 1 l .0 in
-    let h = at-read-header .read-header .ensures in
-    let p = at-put-line .put-line .ensures in
-    let r = room 64 0 (lineOf (at-read-header .read-header .result) (at-number16 .number16 .result)) line (omega (arith, wide)) in
-    let t = ap₂ lineOf h (at-number16 .number16 .ensures) ∙ line-told (s .message .now) in
-    let size = at-put-length .put-length .ensures ∙ ap (λ (k : ℕ). k ∷ []) (p .0 ∙ sym (r .0) ∙ zero-add _ ∙ ap length t) in
-    let refusal = ap (λ (f : Found). f .refusal) (c .of-header .ensures ∙ ap ofHeader h) in
-    (rw l refusal, (rw l (p .1 ∙ sym (r .1) ∙ ap (sets line 0) t), rw l size))
+    let start : tie.Start = search in
+    let sized : tie.Else1 = search in
+    let read : tie.After-read-header = search in
+    let number : tie.After-number16 = search in
+    let put : tie.After-put-line = search in
+    let at-length : tie.After-put-length = search in
+    let m = start .args .message .now in
+    let line = start .args .line .now in
+    let wide = first-sized (length line) 64 (length (start .args .size .now)) 1 (sized .if1 .left) in
+    let r = room 64 0 (lineText m) line (omega arith) in
+    let told = rw (read .read-header .ensures, number .number16 .ensures, line-told m, ← r .0, ← r .1, zero-add) at (put .put-line .ensures) in
+    rw (sized .if1 .left, ← read .read-header .ensures, ← c .of-header .ensures) (refl, (told .1, rw (told .0) at (at-length .put-length .ensures)))
 
 pub hub-list-spec : {M : Type 1} → statement M
-hub-list-spec = tie.close (tie.spec returns _ _ _ put-length-requires _ (λ c. search needs) (λ c. search needs) returns-2)
+hub-list-spec =
+    tie.close (tie.spec
+    (λ c. rw (c .if1 .taken) (refl, (refl, refl))) _ _ _
+    put-length-requires _ (λ c. search needs) (λ c. search needs) returns-2)

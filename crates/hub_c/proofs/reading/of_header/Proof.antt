@@ -6,10 +6,7 @@ use borrow.Author.Needs.{needs}
 use Rattle.hub_c.proofs.reading.of_header.Statement.{statement}
 use Rattle.hub_c.proofs.reading.of_header.Tie as tie
 
-returns-2 : tie.Need-returns-2
-returns-2 c =
-    let at-read2 = c .before .before in
-    rw (c .is-sealed .ensures) (ap ofHeader (sym (at-read2 .read2 .given .1)))
-
 pub of-header-spec : {M : Type 1} → statement M
-of-header-spec = tie.close (tie.spec (λ c. search needs) _ (λ c. search needs) _ (λ c. cc) returns-2)
+of-header-spec =
+    tie.close (tie.spec
+    (λ c. search needs) _ (λ c. search needs) _ (λ c. cc) (λ c. rw (c .is-sealed .ensures) (ap ofHeader (sym (c .before .before .read2 .given .1)))))

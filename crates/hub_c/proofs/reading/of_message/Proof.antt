@@ -6,10 +6,5 @@ use borrow.Author.Needs.{needs}
 use Rattle.hub_c.proofs.reading.of_message.Statement.{statement}
 use Rattle.hub_c.proofs.reading.of_message.Tie as tie
 
-returns-2 : tie.Need-returns-2
-returns-2 c =
-    let at-read2 = c .before in
-    ap ofMessage (sym (at-read2 .read2 .given .1))
-
 pub of-message-spec : {M : Type 1} → statement M
-of-message-spec = tie.close (tie.spec (λ c. search needs) _ (λ c. search needs) (λ c. cc) returns-2)
+of-message-spec = tie.close (tie.spec (λ c. search needs) _ (λ c. search needs) (λ c. cc) (λ c. ap ofMessage (sym (c .before .read2 .given .1))))

@@ -4,10 +4,6 @@ use borrow.Author.Needs.{needs}
 use Rattle.hub_c.proofs.reading.put_place.Statement.{statement}
 use Rattle.hub_c.proofs.reading.put_place.Tie as tie
 
-returns : tie.Need-returns
-returns c =
-    let at-put = c .before .before in
-    rw (← at-put .before .flag .ensures) (at-put .put-three .ensures)
-
 pub put-place-spec : {M : Type 1} → statement M
-put-place-spec = tie.close (tie.spec _ _ (λ c. search needs) returns)
+put-place-spec =
+    tie.close (tie.spec _ _ (λ c. search needs) (λ c. rw (← c .before .before .before .flag .ensures) (c .before .before .put-three .ensures)))

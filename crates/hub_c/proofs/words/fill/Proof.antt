@@ -7,10 +7,7 @@ use Rattle.hub_c.proofs.words.fill.Statement.{statement}
 use Rattle.hub_c.proofs.words.fill.Tie as tie
 
 returns : tie.Need-returns
-returns c =
-    let at-copy = c .before .before in
-    let start = at-copy .before .before .before .before in
-    at-copy .copy .ensures .1 ∙ copied-whole (start .args .bytes .now) (start .args .out .now) (start .pre)
+returns c = let start : tie.Start = search in c .before .before .copy .ensures .1 ∙ copied-whole _ _ (start .pre)
 
 pub fill-spec : {M : Type 1} → statement M
 fill-spec = tie.close (tie.spec (λ c κs. search needs) (λ c. search needs) returns)

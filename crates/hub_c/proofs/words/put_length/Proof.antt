@@ -9,10 +9,8 @@ use Rattle.hub_c.proofs.words.put_length.Tie as tie
 
 returns : tie.Need-returns
 returns c =
-    let at-put-word = c .before .before in
-    let start = at-put-word .before .before .before in
-    let s = start .args in
-    at-put-word .put-word .ensures ∙ sets-whole (s .x ∷ []) (s .out .now) (start .pre)
+    let start : tie.Start = search in
+    c .before .before .put-word .ensures ∙ sets-whole (_ ∷ []) (start .args .out .now) (start .pre)
 
 pub put-length-spec : {M : Type 1} → statement M
 put-length-spec = tie.close (tie.spec _ (λ c. search needs) returns)

@@ -9,10 +9,8 @@ use Rattle.hub_c.proofs.words.put_triple.Tie as tie
 
 returns : tie.Need-returns
 returns c =
-    let at-put = c .before .before in
-    let start = at-put .before .before .before in
-    let s = start .args in
-    at-put .put-three .ensures ∙ sets-whole (s .a ∷ s .b ∷ s .c ∷ []) (s .out .now) (start .pre)
+    let start : tie.Start = search in
+    c .before .before .put-three .ensures ∙ sets-whole (_ ∷ _ ∷ _ ∷ []) (start .args .out .now) (start .pre)
 
 pub put-triple-spec : {M : Type 1} → statement M
 put-triple-spec = tie.close (tie.spec _ (λ c. search needs) returns)

@@ -6,11 +6,7 @@ use borrow.Author.Needs.{needs}
 use Rattle.hub_c.proofs.words.put_word.Statement.{statement}
 use Rattle.hub_c.proofs.words.put_word.Tie as tie
 
-returns-2 : tie.Need-returns-2
-returns-2 c =
-    let start = c .before in
-    let s = start .args in
-    sym (set-out (s .out .now) (s .at) (s .x) (c .if1 .left))
-
 pub put-word-spec : {M : Type 1} → statement M
-put-word-spec = tie.close (tie.spec (λ c. search needs) (λ c. search needs) (λ c. search needs) (λ c. search needs) returns-2)
+put-word-spec =
+    tie.close (tie.spec
+    (λ c. search needs) (λ c. search needs) (λ c. search needs) (λ c. search needs) (λ c. sym (set-out _ _ _ (c .if1 .left))))

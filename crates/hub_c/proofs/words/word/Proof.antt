@@ -6,11 +6,7 @@ use borrow.Author.Needs.{needs}
 use Rattle.hub_c.proofs.words.word.Statement.{statement}
 use Rattle.hub_c.proofs.words.word.Tie as tie
 
-returns-2 : tie.Need-returns-2
-returns-2 c =
-    let start = c .before in
-    let s = start .args in
-    sym (List·getD-eq-default (s .s .now) 0 (c .if1 .left))
-
 pub word-spec : {M : Type 1} → statement M
-word-spec = tie.close (tie.spec (λ c. search needs) (λ c. search needs) (λ c. search needs) returns-2)
+word-spec =
+    tie.close (tie.spec
+    (λ c. search needs) (λ c. search needs) (λ c. search needs) (λ c. sym (List·getD-eq-default (c .before .args .s .now) 0 (c .if1 .left))))

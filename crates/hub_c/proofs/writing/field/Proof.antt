@@ -7,11 +7,8 @@ use Rattle.hub_c.proofs.Narrowing.{narrow-fits, narrow-over}
 use Rattle.hub_c.proofs.writing.field.Statement.{statement}
 use Rattle.hub_c.proofs.writing.field.Tie as tie
 
-returns : tie.Need-returns
-returns c = (rw (← c .before .word .ensures) (sym (narrow-over _ _ (lt-ltb _ _ (c .if1 .taken)))), omega arith)
-
-returns-2 : tie.Need-returns-2
-returns-2 c = (rw (← c .before .word .ensures) (sym (narrow-fits _ _ (le-ltb _ _ (c .if1 .left)))), c .if1 .left)
-
 pub field-spec : {M : Type 1} → statement M
-field-spec = tie.close (tie.spec _ returns returns-2)
+field-spec =
+    tie.close (tie.spec
+    _ (λ c. (rw (← c .before .word .ensures) (sym (narrow-over _ _ (lt-ltb _ _ (c .if1 .taken)))), omega arith))
+    (λ c. (rw (← c .before .word .ensures) (sym (narrow-fits _ _ (le-ltb _ _ (c .if1 .left)))), c .if1 .left)))

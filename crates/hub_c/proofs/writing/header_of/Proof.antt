@@ -12,16 +12,8 @@ returns c =
     let at-request = at-index .before in
     let at-sequence = at-request .before in
     let at-flags = at-sequence .before in
-    rw (
-      at-flags .before .field .ensures .0,
-      at-flags .field2 .ensures .0,
-      at-sequence .field3 .ensures .0,
-      at-request .word .ensures,
-      at-index .field4 .ensures .0,
-      at-count .field5 .ensures .0,
-      at-session .word2 .ensures,
-      c .word3 .ensures,
-    )
+    rw (at-flags .before .field .ensures .0, at-flags .field2 .ensures .0, at-sequence .field3 .ensures .0, at-request .word .ensures)
+    (rw (at-index .field4 .ensures .0, at-count .field5 .ensures .0, at-session .word2 .ensures, c .word3 .ensures))
 
 pub header-of-spec : {M : Type 1} → statement M
 header-of-spec =

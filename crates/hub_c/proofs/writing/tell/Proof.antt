@@ -7,16 +7,12 @@ use borrow.Author.Needs.{needs}
 use Rattle.hub_c.proofs.writing.tell.Statement.{statement}
 use Rattle.hub_c.proofs.writing.tell.Tie as tie
 
-returns : tie.Need-returns
-unfolding lengthAfter
-returns c = (refl, rw (ne-eqb _ _ (c .if1 .taken)))
-
 returns-2 : tie.Need-returns-2
 unfolding lengthAfter
 returns-2 c =
-    let at-put-length = c .before .before in
-    let at-if1 = at-put-length .before .before in
-    (sym (at-if1 .if1 .left), rw (eq-eqb _ _ (at-if1 .if1 .left)) (at-put-length .put-length .ensures))
+    let good : tie.Else1 = search in
+    rw (eq-eqb _ _ (good .if1 .left)) (sym (good .if1 .left), c .before .before .put-length .ensures)
 
 pub tell-spec : {M : Type 1} → statement M
-tell-spec = tie.close (tie.spec returns (λ c κs. search needs) (λ c. search needs) returns-2)
+unfolding lengthAfter
+tell-spec = tie.close (tie.spec (λ c. (refl, rw (ne-eqb _ _ (c .if1 .taken)))) (λ c κs. search needs) (λ c. search needs) returns-2)

@@ -5,17 +5,13 @@ use borrow.Author.Needs.{needs}
 use Rattle.replay.proofs.answer.put_answer.Statement.{statement}
 use Rattle.replay.proofs.answer.put_answer.Tie as tie
 
-returns : tie.Need-returns
-returns c = no-room _ _ _ _ (lacking (c .if1 .taken) _ _ (c .before .lacks .ensures))
-
-put-line-requires : tie.Need-put-line-requires
-put-line-requires c κs = fitting (c .before .if1 .left) _ _ (c .before .before .lacks .ensures)
-
 returns-2 : tie.Need-returns-2
 returns-2 c =
-    let put = c .before .before in
-    let judged = put .before .before in
-    roomy _ _ _ _ (fitting (judged .if1 .left) _ _ (judged .before .lacks .ensures)) (put .put-line .ensures)
+    let fits : tie.Else1 = search in
+    roomy _ _ _ _ (fitting (fits .if1 .left) _ _ (fits .before .lacks .ensures)) (c .before .before .put-line .ensures)
 
 pub put-answer-spec : {M : Type 1} → statement M
-put-answer-spec = tie.close (tie.spec _ returns put-line-requires (λ c. search needs) returns-2)
+put-answer-spec =
+    tie.close (tie.spec
+    _ (λ c. no-room _ _ _ _ (lacking (c .if1 .taken) _ _ (c .before .lacks .ensures)))
+    (λ c κs. fitting (c .before .if1 .left) _ _ (c .before .before .lacks .ensures)) (λ c. search needs) returns-2)

@@ -10,9 +10,10 @@ use Rattle.replay.proofs.answer.put_line.Tie as tie
 returns-4 : tie.Need-returns-4
 unfolding answerLine
 returns-4 c =
-    let a = c .before .before .before .before .before .before .before .before .args in
-    let put = told 8 (a .at) failureLine (a .out .now) (omega arith) (c .before .before .put-text .ensures) in
-    rw (c .before .before .before .before .before .enum-told .given .1) put
+    let start : tie.Start = search in
+    let failed : tie.After-enum-told = search in
+    let put = told 8 (start .args .at) failureLine (start .args .out .now) (omega arith) (c .before .before .put-text .ensures) in
+    rw (failed .enum-told .given .1) put
 
 pub put-line-spec : {M : Type 1} → statement M
 unfolding answerLine
@@ -23,10 +24,10 @@ put-line-spec =
     (λ c. search needs) (λ c κs. search needs) (λ c. search needs) (λ c. search needs) (λ c κs. search needs)
     (λ c. search needs) (λ c. search needs) (λ c κs. search needs) (λ c. search needs) (λ c. search needs)
     (λ c κs. search needs) (λ c. search needs) (λ c. search needs) (λ c κs. search needs) (λ c. search needs)
-    (λ c. rw (c .before .before .before .before .before .before .answer .given .1) (c .before .before .put-word .ensures))
-    (λ c. search needs) (λ c. rw (c .before .before .before .before .before .before .answer2 .given .1) (c .before .before .put-word2 .ensures))
-    (λ c. search needs) (λ c. rw (c .before .before .before .before .before .before .answer3 .given .1) (c .before .before .put-word3 .ensures))
+    (λ c. let a : tie.After-answer = search in rw (a .answer .given .1) (c .before .before .put-word .ensures))
+    (λ c. search needs) (λ c. let a : tie.After-answer2 = search in rw (a .answer2 .given .1) (c .before .before .put-word2 .ensures))
+    (λ c. search needs) (λ c. let a : tie.After-answer3 = search in rw (a .answer3 .given .1) (c .before .before .put-word3 .ensures))
     (λ c. search needs) returns-4
-    (λ c. search needs) (λ c. rw (c .before .before .before .before .before .before .answer4 .given .1) (c .before .before .put-count .ensures))
-    (λ c. search needs) (λ c. rw (c .before .before .before .before .before .before .answer5 .given .1) (c .before .before .put-count2 .ensures))
-    (λ c. search needs) (λ c. rw (c .before .before .before .before .before .before .answer6 .given .1) (c .before .before .put-count3 .ensures)))
+    (λ c. search needs) (λ c. let a : tie.After-answer4 = search in rw (a .answer4 .given .1) (c .before .before .put-count .ensures))
+    (λ c. search needs) (λ c. let a : tie.After-answer5 = search in rw (a .answer5 .given .1) (c .before .before .put-count2 .ensures))
+    (λ c. search needs) (λ c. let a : tie.After-answer6 = search in rw (a .answer6 .given .1) (c .before .before .put-count3 .ensures)))

@@ -11,7 +11,8 @@ use Rattle.replay.proofs.answer.put_word.Tie as tie
 
 returns : tie.Need-returns
 returns c =
-    let a = c .before .before .before .before .before .before .args in
+    let start : tie.Start = search in
+    let a = start .args in
     told (length (a .name .now) + 11) (a .at) (named (a .name .now) (a .number)) (a .out .now) (omega arith) (c .before .before .put-named .ensures)
 
 pub put-word-spec : {M : Type 1} → statement M
