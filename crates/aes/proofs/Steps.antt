@@ -128,16 +128,9 @@ unmix-block s b = block-of _ (λ i h. unmixed-byte _ _ _ _ (all-bytes b _) (all-
 
 pub unmix-mix : (s : List ℕ) → Block s → invMixColumns (mixColumns s) ≡ s
 unfolding invMixColumns mixColumns
-unmix-mix s b =
-    block-is _ s (b .len)
-    (λ i h. simp (block-at, down-lt, down-down)
-    (unmixed-mixed _ _ _ _ (all-bytes b _) (all-bytes b _) (all-bytes b _) (all-bytes b _) ∙ ap (λ (k : ℕ). getD s k 0) (down-zero i)))
+unmix-mix s b = block-is _ s (b .len) (λ i h. simp (block-at, down-lt, down-down, down-zero, unmixed-mixed, all-bytes b))
 
 -- InvMixColumns of a sum is the sum of both
 pub unmix-add : (s k : List ℕ) → Block s → Block k → invMixColumns (addRoundKey s k) ≡ addRoundKey (invMixColumns s) (invMixColumns k)
 unfolding addRoundKey invMixColumns unmixed
-unmix-add s k bs bk =
-    block-same _ _
-    (λ i h. simp (block-at, down-lt)
-    (row-xor 14 11 13 9 _ _ _ _ _ _ _ _ (all-bytes bs _) (all-bytes bs _) (all-bytes bs _) (all-bytes bs _)
-    (all-bytes bk _) (all-bytes bk _) (all-bytes bk _) (all-bytes bk _)))
+unmix-add s k bs bk = block-same _ _ (λ i h. simp (block-at, down-lt, row-xor, all-bytes bs, all-bytes bk))

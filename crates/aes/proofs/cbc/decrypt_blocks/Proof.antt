@@ -7,7 +7,7 @@ use borrow.Author.Needs.{needs}
 use lib.ListN.{length}
 use Rattle.aes.specs.Words.{bytesOf}
 use Rattle.aes.specs.Cbc.{cbcDecryptBlock, cbcDecrypt}
-use Rattle.aes.proofs.ChainLoop.{Chained, begin, block-left, done, decrypt-two-more}
+use Rattle.aes.proofs.ChainLoop.{Chained, begin, done, decrypt-two-more}
 use Rattle.aes.proofs.cbc.decrypt_blocks.Statement.{statement}
 use Rattle.aes.proofs.cbc.decrypt_blocks.Tie as tie
 
