@@ -1,17 +1,16 @@
 -- SPDX-License-Identifier: MPL-2.0
 -- What the public calls of chaining answer, and what they leave in their target.
-use mathlib.Core.Path.{_≡_, refl, sym, ap, ap₂, _∙_}
-use mathlib.Core.List.{List, [], _∷_, _++_, append-nil}
-use Prim.Native.Nat.{ℕ, _+_, _/_, _%_, _≤_, _<_}
+use mathlib.Core.Path.{_≡_, sym, _∙_}
+use mathlib.Core.List.{List, _++_, append-nil}
+use Prim.Native.Nat.{ℕ, _+_, _/_, _%_, _≤_}
 use native.Mathlib.Omega.{arith}
 use mathlib.Core.Bool.{Bool, true, false, cond, not, _&&_}
-use borrow.Author.Tests.{eq-eqb, ne-eqb, eqb-true, leb-true, not-true, not-false}
+use borrow.Author.Tests.{eq-eqb, eqb-true, leb-true, not-false}
 use lib.Dec.{eqb, leb}
 use lib.ListN.{length, take, drop, replicate}
 use lib.Seq.{paste, length-paste, take-all, take-length, take-append-seam, drop-append-seam}
 use Rattle.laws.proofs.Bools.{and-true}
 use Rattle.aes.specs.declared.columns.State.{State}
-use Rattle.aes.specs.State.{addRoundKey}
 use Rattle.aes.specs.Words.{bytesOf}
 use Rattle.aes.specs.Cipher.{cipher}
 use Rattle.aes.specs.Cbc.{chain, cbcEncryptBlock, cbcEncrypt, fits, written}

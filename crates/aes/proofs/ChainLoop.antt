@@ -1,17 +1,16 @@
 -- SPDX-License-Identifier: MPL-2.0
 -- A chain that a loop writes block by block: what its invariant says, how it begins, goes on and ends.
-use mathlib.Core.Path.{_≡_, refl, sym, ap, ap₂, _∙_, subst}
-use mathlib.Core.List.{List, [], _++_, append-assoc, append-nil}
+use mathlib.Core.Path.{_≡_, refl, sym, _∙_}
+use mathlib.Core.List.{List, _++_, append-assoc, append-nil}
 use Prim.Native.Nat.{ℕ, suc, _+_, _*_, _-_, _/_, _%_, _≤_, _<_}
 use native.Mathlib.Omega.{arith}
-use lib.ListN.{getD, length, take, drop, length-drop, take-append-drop}
+use lib.ListN.{length, take, drop, length-drop, take-append-drop}
 use lib.Seq.{paste, length-paste, take-paste, drop-paste, take-append-le, take-take, take-all, drop-drop, drop-at, length-take-le, getD-take}
 use Rattle.laws.proofs.Lists.{part-from}
-use Rattle.aes.specs.State.{addRoundKey, loadBlock}
-use Rattle.aes.specs.Cipher.{cipher, invCipher}
-use Rattle.aes.specs.Cbc.{chain, cbcEncryptBlock, cbcDecryptBlock}
+use Rattle.aes.specs.State.{loadBlock}
+use Rattle.aes.specs.Cbc.{chain, cbcDecryptBlock}
 use Rattle.aes.proofs.Steps.{block-is}
-use Rattle.aes.proofs.Chain.{encrypt-long, decrypt-long}
+use Rattle.aes.proofs.Chain.{decrypt-long}
 
 -- ---- sixteen bytes of a list, from its front and from a place of it
 

@@ -1,7 +1,7 @@
 -- SPDX-License-Identifier: MPL-2.0
 -- The steps of a round: each takes a block to a block, and each is undone by its inverse.
-use mathlib.Core.Path.{_≡_, refl, sym, ap, _∙_, subst}
-use mathlib.Core.List.{List, [], _∷_, _++_}
+use mathlib.Core.Path.{_≡_, refl, sym, _∙_, subst}
+use mathlib.Core.List.{List}
 use Prim.Native.Nat.{ℕ, _+_, _*_, _/_, _%_, _<_, _≤_}
 use native.Mathlib.Nat.{add-mod-mod}
 use native.Mathlib.Omega.{arith}
@@ -9,10 +9,7 @@ use lib.Dec.{lit<}
 use mathlib.Core.Logic.{⊎-elim}
 use lib.ListN.{getD, length, replicate, getD-replicate, List·getD-eq-default}
 use Rattle.laws.proofs.Order.{lt-or-ge}
-use Rattle.laws.specs.Runs.{run}
-use Rattle.field.specs.Xor.{xor}
-use Rattle.field.specs.Sbox.{invSbox}
-use Rattle.field.specs.Mix.{row, mixed, unmixed}
+use Rattle.field.specs.Mix.{unmixed}
 use Rattle.laws.proofs.Below.{agree, bounded}
 use Rattle.laws.proofs.Runs.{run-length, run-from-zero, run-is}
 use Rattle.field.proofs.Xor.{byte, cancel, zero-r}

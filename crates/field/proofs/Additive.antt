@@ -1,6 +1,6 @@
 -- SPDX-License-Identifier: MPL-2.0
 -- What keeps sums is known by its values at the eight binary digits: two such functions that agree there agree at every byte.
-use mathlib.Core.Path.{_≡_, sym, ap, ap₂, _∙_, subst}
+use mathlib.Core.Path.{_≡_, sym, ap, _∙_, subst}
 use Prim.Native.Nat.{ℕ, zero, suc, _+_, _*_, _/_, _%_, _^_, _≤_, _<_}
 use native.Mathlib.Nat.{mod-lt, zero-mul, one-mul, div-lt-iff-lt-mul, pow-suc, mul-comm}
 use native.Mathlib.Omega.{arith}

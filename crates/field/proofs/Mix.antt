@@ -7,7 +7,7 @@ use lib.Dec.{lit<}
 use Rattle.field.specs.Xor.{xor}
 use Rattle.field.specs.Field.{xtime, times, mul}
 use Rattle.field.specs.Mix.{xor4, row, mixed, unmixed}
-use Rattle.field.proofs.Xor.{comm, zero-r, zero-l, byte, assoc, swap4}
+use Rattle.field.proofs.Xor.{comm, zero-r, byte, assoc, swap4}
 use Rattle.field.proofs.Linear.{mul-byte, mul-xor, xor-mul}
 use Rattle.field.proofs.Product.{one-times, zero-times, times-assoc}
 

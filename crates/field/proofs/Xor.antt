@@ -1,6 +1,6 @@
 -- SPDX-License-Identifier: MPL-2.0
 -- The laws of `xor`.
-use mathlib.Core.Path.{_≡_, refl, sym, ap, ap₂, _∙_}
+use mathlib.Core.Path.{_≡_, refl, sym, ap₂, _∙_}
 use Prim.Native.Nat.{ℕ, _*_, _/_, _%_, _<_}
 use native.Mathlib.Nat.{add-zero}
 use lib.Bits.{bitXor, xor-comm, xor-self, xor-zero-r, xor-zero-l, xor-shr, xor-mod, xor-lt, xor-block}

@@ -1,7 +1,6 @@
 -- SPDX-License-Identifier: MPL-2.0
 -- Two blocks at a time, or the one that is left.
 use native.Mathlib.Decide.{ℕ-discrete}
-use native.Mathlib.Omega.{arith}
 use Prim.Native.Nat.{_-_}
 use borrow.Author.Needs.{needs}
 use lib.ListN.{length}
