@@ -47,6 +47,7 @@ module _ {out next : List ℕ → List ℕ → List ℕ} {s t₀ u₀ u t : List
   more long h v t′ ev et =
       let c : List ℕ = out u (take 16 (drop at s)) in
       let lc : length c ≡ 16 = long u (take 16 (drop at s)) in
+      let all : take 16 c ≡ c = take-all 16 c (omega arith) in
       let n : b .left ≡ suc (b .left - 1) = omega (arith, b .whole) in
       rw (ev, et)
       (record {
@@ -54,7 +55,7 @@ module _ {out next : List ℕ → List ℕ → List ℕ} {s t₀ u₀ u t : List
         whole = omega (arith, b .whole);
         room = b .room;
         len = length-paste t at c 16 (omega arith) (omega arith) ∙ b .len;
-        front = rw (take-paste t at c 16 (omega arith) (omega arith), take-all 16 c (omega arith), append-assoc, ← drop-drop 16 at s) (rw n at (b .front));
+        front = rw (take-paste t at c 16 (omega arith) (omega arith), all, append-assoc, ← drop-drop 16 at s) (rw n at (b .front));
         rest = rw (drop-paste t at c 16 (omega arith) (omega arith), ← drop-drop 16 at t, b .rest) (drop-drop 16 at t₀);
       })
 
@@ -85,15 +86,16 @@ paste-again t c d a h hd = rw (take-before t d a (omega arith) a (omega arith), 
 paste-swap : (t c d : List ℕ) (a : ℕ) → a + 32 ≤ length t → length c ≡ 16 → length d ≡ 16
     → paste (paste t (a + 16) d 16) a c 16 ≡ paste (paste t a c 16) (a + 16) d 16
 paste-swap t c d a h hc hd =
-    rw (take-before t d (a + 16) (omega arith) a (omega arith), drop-from t d (a + 16) (omega arith), take-paste t a c 16 (omega arith) (omega arith),
-    ← drop-drop 16 (a + 16) (paste t a c 16), drop-paste t a c 16 (omega arith) (omega arith), drop-drop 16 (a + 16) t)
-    (sym (append-assoc (take a t ++ take 16 c) (take 16 d) (drop (a + 16 + 16) t)))
+    rw (take-before t d (a + 16) (omega arith) a (omega arith), drop-from t d (a + 16) (omega arith), take-paste t a c 16 (omega arith) (omega arith))
+    (rw (← drop-drop 16 (a + 16) (paste t a c 16), drop-paste t a c 16 (omega arith) (omega arith), drop-drop 16 (a + 16) t)
+    (sym (append-assoc (take a t ++ take 16 c) (take 16 d) (drop (a + 16 + 16) t))))
 
 -- the block at `at`, and the one that follows unless it is the last
 module _ (ks : List (List ℕ)) {s t₀ u₀ u t : List ℕ} {at : ℕ} (c : Chained (cbcDecryptBlock ks) (λ b c. b) s t₀ u₀ u t at) where
-  -- the block at a place, and what the code writes: first at the later place, which may be the same
+  -- what the code writes: first at the later place, which may be the same
   pub decrypt-two-more : (next : ℕ) (v t′ : List ℕ) → at ≤ next → next + 16 ≤ length s → (at < next → next ≡ at + 16) → v ≡ take 16 (drop next s)
-      → t′ ≡ paste (paste t next (cbcDecryptBlock ks (take 16 (drop at s)) (take 16 (drop next s))) 16) at (cbcDecryptBlock ks u (take 16 (drop at s))) 16
+      → t′ ≡ paste (paste t next (cbcDecryptBlock ks (take 16 (drop at s)) (take 16 (drop next s))) 16) at
+      (cbcDecryptBlock ks u (take 16 (drop at s))) 16
       → Dec (next ≡ at) → Chained (cbcDecryptBlock ks) (λ b c. b) s t₀ u₀ v t′ (next + 16)
   decrypt-two-more next v t′ h g near ev et (yes p) =
       let x : List ℕ = take 16 (drop at s) in

@@ -59,8 +59,8 @@ put-two : (f l z : List ℕ) → length f ≡ 16 → length l ≡ 16 → length 
 put-two f l z ef el e =
     let n : length (paste z 0 f 16) ≡ length z = length-paste z 0 f 16 (omega arith) (omega arith) in
     let g : length (paste z 0 f 16) ≤ 32 = omega arith in
-    rw (take-paste z 0 f 16 (omega arith) (omega arith), drop-of-length-le (paste z 0 f 16) g, append-nil, take-all 16 f (omega arith),
-    take-all 16 l (omega arith))
+    rw (take-paste z 0 f 16 (omega arith) (omega arith), drop-of-length-le (paste z 0 f 16) g, append-nil)
+    (rw (take-all 16 f (omega arith), take-all 16 l (omega arith)))
 
 module _ (ks : List (List ℕ)) (v f l : List ℕ) (ef : length f ≡ 16) (el : length l ≡ 16) where
   abbrev pair : List ℕ

@@ -29,7 +29,8 @@ unfolding cipher
 returns c =
     let at-loop = c .before .before .before .before in
     let e : at-loop .loop .n ≡ 9 = omega arith in
-    rw (c .last-round .ensures, c .before .words3 .ensures, at-loop .loop .inv .1, e, at-loop .before .add .ensures, at-loop .before .before .words .ensures)
+    let at-add = at-loop .before in
+    rw (c .last-round .ensures, c .before .words3 .ensures, at-loop .loop .inv .1, e, at-add .add .ensures, at-add .before .words .ensures)
 
 pub encrypt-spec : {M : Type 1} → statement M
 encrypt-spec =

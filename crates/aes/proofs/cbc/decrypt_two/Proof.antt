@@ -27,9 +27,11 @@ returns c =
     let at-x = at-y .before .before in
     let a = at-x .before .before .before .before in
     let x = at-x .words-from .ensures ∙ loaded (a .args .source .now) (a .args .at) (omega (arith, a .pre .3, a .pre .4)) in
-    let y = at-y .words-from2 .ensures ∙ loaded (a .args .source .now) (a .args .next) (a .pre .4) in
-    (y, rw (at-put2 .put2 .ensures, at-put .put .ensures, at-put .before .bytes-of .ensures, at-add .add .ensures, at-pair .decrypt-pair .ensures .1,
-    at-put2 .before .bytes-of2 .ensures, at-add2 .add2 .ensures, at-pair .decrypt-pair .ensures .0, y, x))
+    let y = at-y .words-from2 .ensures ∙ loaded (a .args .source .now) (a .args .next) (a .pre .4) in (
+      y,
+      rw (at-put2 .put2 .ensures, at-put .put .ensures, at-put .before .bytes-of .ensures, at-add .add .ensures, at-pair .decrypt-pair .ensures .1)
+          (rw (at-put2 .before .bytes-of2 .ensures, at-add2 .add2 .ensures, at-pair .decrypt-pair .ensures .0, y, x)),
+    )
 
 pub decrypt-two-spec : {M : Type 1} → statement M
 decrypt-two-spec =
