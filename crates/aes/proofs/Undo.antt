@@ -14,9 +14,9 @@ use Rattle.aes.proofs.Steps.{add-length, add-block, add-add, sub-block,
 use Rattle.aes.proofs.Steps.{unshift-block, mix-block, unmix-mix, unmix-add}
 use Rattle.aes.proofs.Schedule.{Keys, expandKey-keys}
 
--- ---- a round more
+-- ---- the rounds back
 
--- by a key that InvMixColumns was applied to
+-- one less, by a key that InvMixColumns was applied to
 pub unrounds-less : (ks ds : List (List ℕ)) → InverseKeys ks ds 10 → (k : List ℕ) (n : ℕ) → 0 < n → n ≤ 9 → k ≡ getD ds n [] → (s r : List ℕ)
     → (r ≡ addRoundKey (invMixColumns (invSubBytes (invShiftRows s))) k) × Block s → unrounds ks (n - 1) r ≡ unrounds ks n s
 unfolding unrounds
