@@ -17,11 +17,6 @@ pub record Additive (f : ℕ → ℕ) : Type 0 where
 pub at-zero : (f : ℕ → ℕ) → Additive f → f 0 ≡ 0
 at-zero f add = ap f (sym (self 0)) ∙ add .sum 0 0 (lit< tt) (lit< tt) ∙ self (f 0)
 
--- one after the other
-pub after : (g f : ℕ → ℕ) → Additive g → Additive f → ((x : ℕ) → x < 256 → f x < 256) → Additive (λ x. g (f x))
-after g f ag af bytes =
-    record { sum = λ a b ha hb. ap g (af .sum a b ha hb) ∙ ag .sum (f a) (f b) (bytes a ha) (bytes b hb) }
-
 module _ (f g : ℕ → ℕ) (af : Additive f) (ag : Additive g) (one : (j : ℕ) → j < 8 → f (2 ^ j) ≡ g (2 ^ j)) where
   at-digit : (b j : ℕ) → b < 2 → j < 8 → f (b * 2 ^ j) ≡ g (b * 2 ^ j)
   at-digit zero j hb hj = simp (zero-mul, at-zero f af, at-zero g ag)
