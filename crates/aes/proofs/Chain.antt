@@ -1,13 +1,13 @@
 -- SPDX-License-Identifier: MPL-2.0
 -- Cipher block chaining: lengths, and that decryption undoes encryption for any number of blocks.
-use mathlib.Core.Path.{_≡_, refl, sym, ap, ap₂, _∙_, subst}
-use mathlib.Core.List.{List, [], _∷_, _++_}
+use mathlib.Core.Path.{_≡_, refl, _∙_}
+use mathlib.Core.List.{List}
 use Prim.Native.Nat.{ℕ, zero, suc, _+_, _*_, _/_, _%_, _<_}
 use native.Mathlib.Omega.{arith}
 use lib.ListN.{getD, length, take, drop, length-append, length-drop, take-append-drop}
 use lib.Seq.{take-all, take-at, drop-at, length-take-le, getD-take, getD-drop}
 use Rattle.aes.specs.State.{Block, addRoundKey}
-use Rattle.aes.specs.Cipher.{cipher, invCipher}
+use Rattle.aes.specs.Cipher.{invCipher}
 use Rattle.aes.specs.Cbc.{chain, cbcEncryptBlock, cbcDecryptBlock, cbcEncrypt, cbcDecrypt}
 use Rattle.aes.proofs.Steps.{add-length, add-block, add-add}
 use Rattle.aes.proofs.Schedule.{Keys}

@@ -1,25 +1,18 @@
 -- SPDX-License-Identifier: MPL-2.0
 -- What the public calls of chaining answer, and what they leave in their target.
-use mathlib.Core.Path.{_≡_, refl, sym, ap, ap₂, _∙_}
-use mathlib.Core.List.{List, [], _∷_, _++_, append-nil}
-use Prim.Native.Nat.{ℕ, _+_, _/_, _%_, _≤_, _<_}
+use mathlib.Core.Path.{_≡_, sym, _∙_}
+use mathlib.Core.List.{List, _++_, append-nil}
+use Prim.Native.Nat.{ℕ, _+_, _/_, _%_, _≤_}
 use native.Mathlib.Omega.{arith}
 use mathlib.Core.Bool.{Bool, true, false, cond, not, _&&_}
-use borrow.Author.Tests.{eq-eqb, ne-eqb, eqb-true, leb-true, not-true, not-false}
+use borrow.Author.Tests.{eq-eqb, eqb-true, leb-true, not-false}
 use lib.Dec.{eqb, leb}
 use lib.ListN.{length, take, drop, replicate}
-use lib.Seq.{paste, length-paste, take-all, take-length, take-append-seam, drop-append-seam}
+use lib.Seq.{take-all, take-length, take-append-seam, drop-append-seam}
 use Rattle.laws.proofs.Bools.{and-true}
-use Rattle.aes.specs.declared.columns.State.{State}
-use Rattle.aes.specs.State.{addRoundKey}
-use Rattle.aes.specs.Words.{bytesOf}
 use Rattle.aes.specs.Cipher.{cipher}
 use Rattle.aes.specs.Cbc.{chain, cbcEncryptBlock, cbcEncrypt, fits, written}
 use Rattle.aes.proofs.Steps.{add-zeros}
-
-pub room-after : (x : State) (t t′ o : List ℕ) (a b : ℕ) → a ≤ b → b + 16 ≤ length t → o ≡ bytesOf x → t′ ≡ paste t b o 16 → a + 16 ≤ length t′
-unfolding bytesOf
-room-after x t t′ o a b g h eo et = let n : length o ≡ 16 = rw eo in rw (et, length-paste t b o 16 h (omega arith)) (omega arith)
 
 -- what is known where the code's test of the sizes m and n was passed
 pub roomy : (m n : ℕ) {b : Bool} → b ≡ (eqb (m % 16) 0 && leb m n) → not b ≡ false → (m % 16 ≡ 0) × (m ≤ n)

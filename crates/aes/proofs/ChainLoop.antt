@@ -1,17 +1,16 @@
 -- SPDX-License-Identifier: MPL-2.0
 -- A chain that a loop writes block by block: what its invariant says, how it begins, goes on and ends.
-use mathlib.Core.Path.{_≡_, refl, sym, ap, ap₂, _∙_, subst}
-use mathlib.Core.List.{List, [], _++_, append-assoc, append-nil}
+use mathlib.Core.Path.{_≡_, refl, sym, _∙_}
+use mathlib.Core.List.{List, _++_, append-assoc, append-nil}
 use Prim.Native.Nat.{ℕ, suc, _+_, _*_, _-_, _/_, _%_, _≤_, _<_}
 use native.Mathlib.Omega.{arith}
-use lib.ListN.{getD, length, take, drop, length-drop, take-append-drop}
+use lib.ListN.{length, take, drop, length-drop, take-append-drop}
 use lib.Seq.{paste, length-paste, take-paste, drop-paste, take-append-le, take-take, take-all, drop-drop, drop-at, length-take-le, getD-take}
 use Rattle.laws.proofs.Lists.{part-from}
-use Rattle.aes.specs.State.{addRoundKey, loadBlock}
-use Rattle.aes.specs.Cipher.{cipher, invCipher}
-use Rattle.aes.specs.Cbc.{chain, cbcEncryptBlock, cbcDecryptBlock}
+use Rattle.aes.specs.State.{loadBlock}
+use Rattle.aes.specs.Cbc.{chain, cbcDecryptBlock}
 use Rattle.aes.proofs.Steps.{block-is}
-use Rattle.aes.proofs.Chain.{encrypt-long, decrypt-long}
+use Rattle.aes.proofs.Chain.{decrypt-long}
 
 -- ---- sixteen bytes of a list, from its front and from a place of it
 
@@ -41,10 +40,6 @@ pub begin : (out next : List ℕ → List ℕ → List ℕ) (s t u : List ℕ) �
 begin out next s t u h g = record { left = length s / 16; whole = omega arith; room = g; len = refl; front = refl; rest = refl }
 
 module _ {out next : List ℕ → List ℕ → List ℕ} {s t₀ u₀ u t : List ℕ} {at : ℕ} (b : Chained out next s t₀ u₀ u t at) where
-  -- there is a block left, and room for it
-  pub block-left : at < length s → (at + 16 ≤ length s) × (at + 16 ≤ length t)
-  block-left h = (omega (arith, b .whole), omega (arith, b .whole, b .room, b .len))
-
   pub more : ((v b : List ℕ) → length (out v b) ≡ 16) → at < length s → (v t′ : List ℕ)
       → v ≡ next (take 16 (drop at s)) (out u (take 16 (drop at s))) → t′ ≡ paste t at (out u (take 16 (drop at s))) 16
       → Chained out next s t₀ u₀ v t′ (at + 16)
@@ -52,15 +47,15 @@ module _ {out next : List ℕ → List ℕ → List ℕ} {s t₀ u₀ u t : List
   more long h v t′ ev et =
       let c : List ℕ = out u (take 16 (drop at s)) in
       let lc : length c ≡ 16 = long u (take 16 (drop at s)) in
-      let r = block-left h in
+      let all : take 16 c ≡ c = take-all 16 c (omega arith) in
       let n : b .left ≡ suc (b .left - 1) = omega (arith, b .whole) in
       rw (ev, et)
       (record {
         left = b .left - 1;
         whole = omega (arith, b .whole);
         room = b .room;
-        len = length-paste t at c 16 (r .1) (omega arith) ∙ b .len;
-        front = rw (take-paste t at c 16 (omega arith) (omega arith), take-all 16 c (omega arith), append-assoc, ← drop-drop 16 at s) (rw n at (b .front));
+        len = length-paste t at c 16 (omega arith) (omega arith) ∙ b .len;
+        front = rw (take-paste t at c 16 (omega arith) (omega arith), all, append-assoc, ← drop-drop 16 at s) (rw n at (b .front));
         rest = rw (drop-paste t at c 16 (omega arith) (omega arith), ← drop-drop 16 at t, b .rest) (drop-drop 16 at t₀);
       })
 
@@ -84,34 +79,33 @@ module _ (t c : List ℕ) (b : ℕ) (g : b ≤ length t) where
   drop-from = rw (append-assoc, drop-at (take b t) _ b (length-take-le b t g))
 
 -- of two blocks at one place the later stands
-paste-again : (t c d : List ℕ) (a : ℕ) → a + 16 ≤ length t → 16 ≤ length d → paste (paste t a d 16) a c 16 ≡ paste t a c 16
-paste-again t c d a h hd = rw (take-before t d a (omega arith) a (omega arith), drop-paste t a d 16 (omega arith) hd)
+paste-again : (t c d : List ℕ) (a : ℕ) → a + 16 ≤ length t → length d ≡ 16 → paste (paste t a d 16) a c 16 ≡ paste t a c 16
+paste-again t c d a h hd = rw (take-before t d a (omega arith) a (omega arith), drop-paste t a d 16 (omega arith) (omega arith))
 
 -- of two blocks side by side either may come first
-paste-swap : (t c d : List ℕ) (a : ℕ) → a + 32 ≤ length t → 16 ≤ length c → 16 ≤ length d
+paste-swap : (t c d : List ℕ) (a : ℕ) → a + 32 ≤ length t → length c ≡ 16 → length d ≡ 16
     → paste (paste t (a + 16) d 16) a c 16 ≡ paste (paste t a c 16) (a + 16) d 16
 paste-swap t c d a h hc hd =
-    rw (take-before t d (a + 16) (omega arith) a (omega arith), drop-from t d (a + 16) (omega arith), take-paste t a c 16 (omega arith) hc,
-    ← drop-drop 16 (a + 16) (paste t a c 16), drop-paste t a c 16 (omega arith) hc, drop-drop 16 (a + 16) t)
-    (sym (append-assoc (take a t ++ take 16 c) (take 16 d) (drop (a + 16 + 16) t)))
+    rw (take-before t d (a + 16) (omega arith) a (omega arith), drop-from t d (a + 16) (omega arith), take-paste t a c 16 (omega arith) (omega arith))
+    (rw (← drop-drop 16 (a + 16) (paste t a c 16), drop-paste t a c 16 (omega arith) (omega arith), drop-drop 16 (a + 16) t)
+    (sym (append-assoc (take a t ++ take 16 c) (take 16 d) (drop (a + 16 + 16) t))))
 
 -- the block at `at`, and the one that follows unless it is the last
 module _ (ks : List (List ℕ)) {s t₀ u₀ u t : List ℕ} {at : ℕ} (c : Chained (cbcDecryptBlock ks) (λ b c. b) s t₀ u₀ u t at) where
-  -- the block at a place, and what the code writes: first at the later place, which may be the same
+  -- what the code writes: first at the later place, which may be the same
   pub decrypt-two-more : (next : ℕ) (v t′ : List ℕ) → at ≤ next → next + 16 ≤ length s → (at < next → next ≡ at + 16) → v ≡ take 16 (drop next s)
-      → t′ ≡ paste (paste t next (cbcDecryptBlock ks (take 16 (drop at s)) (take 16 (drop next s))) 16) at (cbcDecryptBlock ks u (take 16 (drop at s))) 16
+      → t′ ≡ paste (paste t next (cbcDecryptBlock ks (take 16 (drop at s)) (take 16 (drop next s))) 16) at
+      (cbcDecryptBlock ks u (take 16 (drop at s))) 16
       → Dec (next ≡ at) → Chained (cbcDecryptBlock ks) (λ b c. b) s t₀ u₀ v t′ (next + 16)
   decrypt-two-more next v t′ h g near ev et (yes p) =
       let x : List ℕ = take 16 (drop at s) in
-      let ld = decrypt-long ks x x in
       rw p (more c (decrypt-long ks) (omega arith) v t′ (rw p at ev)
-      ((rw p at et) ∙ paste-again t (cbcDecryptBlock ks u x) (cbcDecryptBlock ks x x) at (omega (arith, c .room, c .len)) (omega arith)))
+      ((rw p at et) ∙ paste-again t (cbcDecryptBlock ks u x) (cbcDecryptBlock ks x x) at (omega (arith, c .room, c .len)) (decrypt-long ks x x)))
   decrypt-two-more next v t′ h g near ev et (no q) =
       let p : next ≡ at + 16 = near (omega (arith, q)) in
       let x : List ℕ = take 16 (drop at s) in
       let y : List ℕ = take 16 (drop (at + 16) s) in
-      let lc = decrypt-long ks u x in
-      let ld = decrypt-long ks x y in
       let one = more c (decrypt-long ks) (omega arith) x _ refl refl in
       rw p (more one (decrypt-long ks) (omega arith) v t′ (rw p at ev)
-      ((rw p at et) ∙ paste-swap t (cbcDecryptBlock ks u x) (cbcDecryptBlock ks x y) at (omega (arith, c .room, c .len)) (omega arith) (omega arith)))
+      ((rw p at et) ∙ paste-swap t (cbcDecryptBlock ks u x) (cbcDecryptBlock ks x y) at (omega (arith, c .room, c .len))
+      (decrypt-long ks u x) (decrypt-long ks x y)))

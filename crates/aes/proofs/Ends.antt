@@ -1,12 +1,12 @@
 -- SPDX-License-Identifier: MPL-2.0
 -- Each block of a decrypted message by itself, the first and the last above all.
-use mathlib.Core.Path.{_≡_, refl, sym, ap, ap₂, _∙_}
-use mathlib.Core.List.{List, [], _++_, append-nil}
+use mathlib.Core.Path.{_≡_, refl, _∙_}
+use mathlib.Core.List.{List, _++_, append-nil}
 use Prim.Native.Nat.{ℕ, zero, suc, _+_, _*_, _/_, _%_, _≤_, _<_}
 use native.Mathlib.Omega.{arith}
 use borrow.Author.Tests.{eq-eqb, le-leb}
 use lib.ListN.{length, take, drop, length-append, length-drop, drop-of-length-le}
-use lib.Seq.{paste, length-paste, take-paste, take-all, take-at, drop-at, drop-length, drop-drop, drop-append-add}
+use lib.Seq.{paste, length-paste, take-paste, take-all, take-at, drop-at, drop-drop}
 use Rattle.aes.specs.State.{addRoundKey, loadBlock}
 use Rattle.aes.specs.Cipher.{invCipher}
 use Rattle.aes.specs.Cbc.{chain, cbcDecryptBlock, cbcDecrypt, blockBefore, written}
@@ -59,8 +59,8 @@ put-two : (f l z : List ℕ) → length f ≡ 16 → length l ≡ 16 → length 
 put-two f l z ef el e =
     let n : length (paste z 0 f 16) ≡ length z = length-paste z 0 f 16 (omega arith) (omega arith) in
     let g : length (paste z 0 f 16) ≤ 32 = omega arith in
-    rw (take-paste z 0 f 16 (omega arith) (omega arith), drop-of-length-le (paste z 0 f 16) g, append-nil, take-all 16 f (omega arith),
-    take-all 16 l (omega arith))
+    rw (take-paste z 0 f 16 (omega arith) (omega arith), drop-of-length-le (paste z 0 f 16) g, append-nil)
+    (rw (take-all 16 f (omega arith), take-all 16 l (omega arith)))
 
 module _ (ks : List (List ℕ)) (v f l : List ℕ) (ef : length f ≡ 16) (el : length l ≡ 16) where
   abbrev pair : List ℕ

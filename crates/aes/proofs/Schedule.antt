@@ -1,15 +1,12 @@
 -- SPDX-License-Identifier: MPL-2.0
 -- The round keys: each is a block, and the code makes the next.
-use mathlib.Core.Path.{_≡_, sym, ap, _∙_, subst}
+use mathlib.Core.Path.{_≡_}
 use mathlib.Core.List.{List, [], _∷_}
-use Prim.Native.Nat.{ℕ, zero, suc, _+_, _*_, _/_, _%_, _<_}
-use native.Mathlib.Numerals.{add-one}
-use native.Mathlib.Omega.{arith}
+use Prim.Native.Nat.{ℕ, zero, suc, _/_, _%_, _<_}
 use lib.Dec.{lit<}
-use lib.ListN.{getD, length}
+use lib.ListN.{getD}
 use Rattle.laws.specs.Runs.{run}
 use Rattle.field.specs.Xor.{xor}
-use Rattle.field.specs.Field.{xtime}
 use Rattle.field.specs.Sbox.{sbox}
 use Rattle.laws.proofs.Runs.{run-from-zero}
 use Rattle.field.proofs.Xor.{byte}
@@ -20,14 +17,6 @@ use Rattle.aes.specs.Key.{rcon, turnedByte, nextByte, nextKey, roundKey,
 use Rattle.aes.proofs.Steps.{all-bytes, block-of}
 
 -- ---- one round key more
-
-pub rcon-more : (n x y : ℕ) → x ≡ rcon n → y ≡ xtime x → y ≡ rcon (n + 1)
-unfolding rcon
-rcon-more n x y ex ey = rw add-one (cc)
-
-pub key-more : (key : List ℕ) (n x : ℕ) (k r : List ℕ) → k ≡ roundKey key n → x ≡ rcon n → r ≡ nextKey k x → r ≡ roundKey key (n + 1)
-unfolding roundKey
-key-more key n x k r ek ex er = rw add-one (cc)
 
 -- byte i of the round key k added to x; and the sixteen bytes as the code adds them, where p, q, r, s are added to the first word
 abbrev sum : List ℕ → ℕ → ℕ → ℕ

@@ -2,7 +2,7 @@
 -- The state as four words: their bytes, also with the words of a key added, and words that are made of a block's columns.
 use mathlib.Core.Path.{_≡_, refl, ap, _∙_}
 use mathlib.Core.List.{List, [], _∷_, _++_}
-use Prim.Native.Nat.{ℕ, _+_, _/_, _%_, _<_, _≤_}
+use Prim.Native.Nat.{ℕ, _+_, _/_, _%_, _<_}
 use native.Mathlib.Omega.{arith}
 use lib.Bits.{xor-mod, xor-shr}
 use lib.ListN.{getD}

@@ -1,7 +1,7 @@
 -- SPDX-License-Identifier: MPL-2.0
 -- The steps of a round: each takes a block to a block, and each is undone by its inverse.
-use mathlib.Core.Path.{_≡_, refl, sym, ap, _∙_, subst}
-use mathlib.Core.List.{List, [], _∷_, _++_}
+use mathlib.Core.Path.{_≡_, refl, sym, _∙_, subst}
+use mathlib.Core.List.{List}
 use Prim.Native.Nat.{ℕ, _+_, _*_, _/_, _%_, _<_, _≤_}
 use native.Mathlib.Nat.{add-mod-mod}
 use native.Mathlib.Omega.{arith}
@@ -9,10 +9,7 @@ use lib.Dec.{lit<}
 use mathlib.Core.Logic.{⊎-elim}
 use lib.ListN.{getD, length, replicate, getD-replicate, List·getD-eq-default}
 use Rattle.laws.proofs.Order.{lt-or-ge}
-use Rattle.laws.specs.Runs.{run}
-use Rattle.field.specs.Xor.{xor}
-use Rattle.field.specs.Sbox.{invSbox}
-use Rattle.field.specs.Mix.{row, mixed, unmixed}
+use Rattle.field.specs.Mix.{unmixed}
 use Rattle.laws.proofs.Below.{agree, bounded}
 use Rattle.laws.proofs.Runs.{run-length, run-from-zero, run-is}
 use Rattle.field.proofs.Xor.{byte, cancel, zero-r}
@@ -128,16 +125,9 @@ unmix-block s b = block-of _ (λ i h. unmixed-byte _ _ _ _ (all-bytes b _) (all-
 
 pub unmix-mix : (s : List ℕ) → Block s → invMixColumns (mixColumns s) ≡ s
 unfolding invMixColumns mixColumns
-unmix-mix s b =
-    block-is _ s (b .len)
-    (λ i h. simp (block-at, down-lt, down-down)
-    (unmixed-mixed _ _ _ _ (all-bytes b _) (all-bytes b _) (all-bytes b _) (all-bytes b _) ∙ ap (λ (k : ℕ). getD s k 0) (down-zero i)))
+unmix-mix s b = block-is _ s (b .len) (λ i h. simp (block-at, down-lt, down-down, down-zero, unmixed-mixed, all-bytes b))
 
 -- InvMixColumns of a sum is the sum of both
 pub unmix-add : (s k : List ℕ) → Block s → Block k → invMixColumns (addRoundKey s k) ≡ addRoundKey (invMixColumns s) (invMixColumns k)
 unfolding addRoundKey invMixColumns unmixed
-unmix-add s k bs bk =
-    block-same _ _
-    (λ i h. simp (block-at, down-lt)
-    (row-xor 14 11 13 9 _ _ _ _ _ _ _ _ (all-bytes bs _) (all-bytes bs _) (all-bytes bs _) (all-bytes bs _)
-    (all-bytes bk _) (all-bytes bk _) (all-bytes bk _) (all-bytes bk _)))
+unmix-add s k bs bk = block-same _ _ (λ i h. simp (block-at, down-lt, row-xor, all-bytes bs, all-bytes bk))

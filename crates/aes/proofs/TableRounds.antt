@@ -1,11 +1,10 @@
 -- SPDX-License-Identifier: MPL-2.0
 -- A round by its tables, one law for both directions: what differs is the substitution, the coefficients and the order in which the words of
 -- the state are read. The cipher reads them as they stand, a b c d, its inverse turned, a d c b.
-use mathlib.Core.Path.{_≡_, ap, _∙_}
+use mathlib.Core.Path.{_≡_, _∙_}
 use mathlib.Core.List.{List}
 use Prim.Native.Nat.{ℕ, _/_, _%_, _<_}
 use native.Mathlib.Omega.{arith}
-use lib.ListN.{getD}
 use Rattle.laws.specs.Runs.{run, table}
 use Rattle.field.specs.Xor.{xor}
 use Rattle.field.specs.Sbox.{sbox, invSbox}
@@ -13,13 +12,14 @@ use Rattle.field.specs.Mix.{mixed, unmixed}
 use Rattle.field.specs.Words.{word, column, Mixes}
 use Rattle.laws.proofs.Runs.{table-at}
 use Rattle.field.proofs.Sbox.{sbox-byte, invSbox-byte, invSbox-sbox}
+use lib.ListN.{getD}
 use Rattle.field.proofs.Words.{words, byte0, byte1, byte2, byte3, looked-up}
 use Rattle.aes.specs.declared.columns.State.{State}
 use Rattle.aes.specs.State.{block, Block, subBytes, shifted, shiftRows, down, mixColumns, addRoundKey}
 use Rattle.aes.specs.State.{unshifted, invShiftRows, invSubBytes, invMixColumns}
 use Rattle.aes.specs.Words.{bytesOf, lookedUp, lookedUpBytes}
 use Rattle.aes.proofs.Steps.{sub-block, shift-block, mix-block, unsub-block, unshift-block, unmix-block}
-use Rattle.aes.proofs.StateWords.{Columns, bytesOf-block, columns-added}
+use Rattle.aes.proofs.StateWords.{bytesOf-block, columns-added}
 
 -- what a lookup by one byte of each of four words answers, and that the last is a word
 abbrev Looked : (ℕ → ℕ → ℕ → ℕ → ℕ) → ℕ → ℕ → ℕ → ℕ → ℕ → Type 0
@@ -39,8 +39,8 @@ module _ (f : ℕ → ℕ) (t : List ℕ) where
   by-bytes : t ≡ table f → (w a b c d : ℕ) → Looked (lookedUpBytes t) w a b c d → w ≡ taken word f a b c d
   unfolding lookedUpBytes
   by-bytes et w a b c d (e, h) =
-      let q : d / 16777216 < 256 = omega arith in
-      e ∙ rw (et, table-at f (a % 256) (omega arith), table-at f (b / 256 % 256) (omega arith), table-at f (c / 65536 % 256) (omega arith), table-at f _ q)
+      let at : (x : ℕ) → x < 256 → getD t x 0 ≡ f x = λ x h. rw et (table-at f x h) in
+      e ∙ words (at _ (omega arith)) (at _ (omega arith)) (at _ (omega arith)) (at _ (omega arith))
 
 -- the rounds, forth and back, with MixColumns and without: the columns looked up, with the words of a key added
 module _ (s k : State) (t : List ℕ) (p q r u : ℕ) where

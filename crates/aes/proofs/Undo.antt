@@ -1,16 +1,12 @@
 -- SPDX-License-Identifier: MPL-2.0
 -- Decryption undoes encryption, for every key and block; and the rounds as the code counts them.
-use mathlib.Core.Path.{_≡_, sym, ap, ap₂, _∙_, subst}
+use mathlib.Core.Path.{_≡_}
 use mathlib.Core.List.{List, []}
-use Prim.Native.Nat.{ℕ, zero, suc, _+_, _-_, _≤_, _<_}
-use native.Mathlib.Nat.{le-trans, le-suc}
-use native.Mathlib.Numerals.{add-one}
-use native.Mathlib.Decide.{ℕ-discrete}
+use Prim.Native.Nat.{ℕ, zero, suc, _-_, _≤_, _<_}
 use native.Mathlib.Omega.{arith}
 use lib.Dec.{lit<}
-use lib.ListN.{getD, length, set}
-use lib.Seq.{getD-set-same, getD-set-other}
-use Rattle.aes.specs.State.{Block, subBytes, shiftRows, mixColumns, addRoundKey, invShiftRows, invSubBytes, invMixColumns}
+use lib.ListN.{getD, length}
+use Rattle.aes.specs.State.{Block, subBytes, shiftRows, addRoundKey, invShiftRows, invSubBytes, invMixColumns}
 use Rattle.aes.specs.Words.{InverseKeys}
 use Rattle.aes.specs.Key.{expandKey}
 use Rattle.aes.specs.Cipher.{rounds, cipher, unrounds, invCipher}
@@ -18,19 +14,9 @@ use Rattle.aes.proofs.Steps.{add-length, add-block, add-add, sub-block,
 use Rattle.aes.proofs.Steps.{unshift-block, mix-block, unmix-mix, unmix-add}
 use Rattle.aes.proofs.Schedule.{Keys, expandKey-keys}
 
--- ---- a round more
+-- ---- the rounds back
 
-pub rounds-more : (ks : List (List ℕ)) (s₀ s k r : List ℕ) (n : ℕ) → s ≡ rounds ks s₀ n → k ≡ getD ks (n + 1) []
-    → r ≡ addRoundKey (mixColumns (shiftRows (subBytes s))) k → r ≡ rounds ks s₀ (n + 1)
-unfolding rounds
-rounds-more ks s₀ s k r n es ek er = rw (er, es, ek, add-one)
-
-pub cipher-whole : (ks : List (List ℕ)) (b k s₀ s l r : List ℕ) → k ≡ getD ks 0 [] → s₀ ≡ addRoundKey b k → s ≡ rounds ks s₀ 9
-    → l ≡ getD ks 10 [] → r ≡ addRoundKey (shiftRows (subBytes s)) l → r ≡ cipher ks b
-unfolding cipher
-cipher-whole ks b k s₀ s l r ek e₀ es el er = cc
-
--- by a key that InvMixColumns was applied to
+-- one less, by a key that InvMixColumns was applied to
 pub unrounds-less : (ks ds : List (List ℕ)) → InverseKeys ks ds 10 → (k : List ℕ) (n : ℕ) → 0 < n → n ≤ 9 → k ≡ getD ds n [] → (s r : List ℕ)
     → (r ≡ addRoundKey (invMixColumns (invSubBytes (invShiftRows s))) k) × Block s → unrounds ks (n - 1) r ≡ unrounds ks n s
 unfolding unrounds

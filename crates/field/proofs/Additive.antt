@@ -1,6 +1,6 @@
 -- SPDX-License-Identifier: MPL-2.0
 -- What keeps sums is known by its values at the eight binary digits: two such functions that agree there agree at every byte.
-use mathlib.Core.Path.{_≡_, sym, ap, ap₂, _∙_, subst}
+use mathlib.Core.Path.{_≡_, sym, ap, _∙_, subst}
 use Prim.Native.Nat.{ℕ, zero, suc, _+_, _*_, _/_, _%_, _^_, _≤_, _<_}
 use native.Mathlib.Nat.{mod-lt, zero-mul, one-mul, div-lt-iff-lt-mul, pow-suc, mul-comm}
 use native.Mathlib.Omega.{arith}
@@ -16,11 +16,6 @@ pub record Additive (f : ℕ → ℕ) : Type 0 where
 
 pub at-zero : (f : ℕ → ℕ) → Additive f → f 0 ≡ 0
 at-zero f add = ap f (sym (self 0)) ∙ add .sum 0 0 (lit< tt) (lit< tt) ∙ self (f 0)
-
--- one after the other
-pub after : (g f : ℕ → ℕ) → Additive g → Additive f → ((x : ℕ) → x < 256 → f x < 256) → Additive (λ x. g (f x))
-after g f ag af bytes =
-    record { sum = λ a b ha hb. ap g (af .sum a b ha hb) ∙ ag .sum (f a) (f b) (bytes a ha) (bytes b hb) }
 
 module _ (f g : ℕ → ℕ) (af : Additive f) (ag : Additive g) (one : (j : ℕ) → j < 8 → f (2 ^ j) ≡ g (2 ^ j)) where
   at-digit : (b j : ℕ) → b < 2 → j < 8 → f (b * 2 ^ j) ≡ g (b * 2 ^ j)

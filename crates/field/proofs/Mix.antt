@@ -1,13 +1,13 @@
 -- SPDX-License-Identifier: MPL-2.0
 -- InvMixColumns undoes MixColumns: the inverse row times the row, turned four times, has the coefficients 1, 0, 0, 0.
-use mathlib.Core.Path.{_≡_, refl, sym, ap, _∙_}
+use mathlib.Core.Path.{_≡_, refl, sym, _∙_}
 use Prim.Native.Nat.{ℕ, _+_, _<_}
 use native.Mathlib.Omega.{arith}
 use lib.Dec.{lit<}
 use Rattle.field.specs.Xor.{xor}
 use Rattle.field.specs.Field.{xtime, times, mul}
 use Rattle.field.specs.Mix.{xor4, row, mixed, unmixed}
-use Rattle.field.proofs.Xor.{comm, zero-r, zero-l, byte, assoc, swap4}
+use Rattle.field.proofs.Xor.{comm, zero-r, byte, assoc, swap4}
 use Rattle.field.proofs.Linear.{mul-byte, mul-xor, xor-mul}
 use Rattle.field.proofs.Product.{one-times, zero-times, times-assoc}
 
@@ -19,8 +19,7 @@ xor4-byte a b c d ha hb hc hd = byte a (xor b (xor c d)) ha (byte b (xor c d) hb
 
 pub turn : (a b c d : ℕ) → xor4 a b c d ≡ xor4 d a b c
 unfolding xor4
-turn a b c d =
-    ap (xor a) (sym (assoc b c d)) ∙ sym (assoc a (xor b c) d) ∙ comm (xor a (xor b c)) d
+turn a b c d = rw (← assoc b c d, ← assoc a (xor b c) d, comm (xor a (xor b c)) d)
 
 -- two sums, term by term
 zip : (a b c d e f g h : ℕ) → xor (xor4 a b c d) (xor4 e f g h) ≡ xor4 (xor a e) (xor b f) (xor c g) (xor d h)

@@ -9,7 +9,7 @@ use borrow.Author.Tests.{eqb-true}
 use Rattle.field.specs.Xor.{xor}
 use Rattle.field.specs.Field.{xtime, times, mul}
 use Rattle.field.proofs.Linear.{mul-byte, mul-xor, xor-mul}
-use Rattle.field.proofs.Additive.{Additive, at-zero, after, additive-same}
+use Rattle.field.proofs.Additive.{Additive, at-zero, additive-same}
 use Rattle.laws.proofs.Below.{every, below, agree, bounded}
 
 -- in the second factor, and in the first
@@ -62,16 +62,15 @@ digits-associate i j k hi hj hk =
 
 pub times-assoc : (a b c : ℕ) → a < 256 → b < 256 → c < 256 → mul (mul a b) c ≡ mul a (mul b c)
 times-assoc a b c ha hb hc =
-    additive-same (λ x. mul (mul x b) c) (λ x. mul x (mul b c)) (after (λ x. mul x c) (λ x. mul x b) (of c hc) (of b hb) (λ x h. mul-byte x b hb))
+    additive-same (λ x. mul (mul x b) c) (λ x. mul x (mul b c)) (record { sum = λ p q hp hq. simp xor-mul })
     (of (mul b c) (mul-byte b c hc)) one a ha
   where
     two : (i j : ℕ) → i < 8 → j < 8 → mul (mul (2 ^ i) (2 ^ j)) c ≡ mul (2 ^ i) (mul (2 ^ j) c)
     two i j hi hj =
         additive-same (mul (mul (2 ^ i) (2 ^ j))) (λ x. mul (2 ^ i) (mul (2 ^ j) x)) (by (mul (2 ^ i) (2 ^ j)))
-        (after (mul (2 ^ i)) (mul (2 ^ j)) (by (2 ^ i)) (by (2 ^ j)) (mul-byte (2 ^ j))) (λ k hk. digits-associate i j k hi hj hk) c hc
+        (record { sum = λ p q hp hq. simp (mul-xor, mul-byte) }) (λ k hk. digits-associate i j k hi hj hk) c hc
 
     one : (i : ℕ) → i < 8 → mul (mul (2 ^ i) b) c ≡ mul (2 ^ i) (mul b c)
     one i hi =
-        additive-same (λ x. mul (mul (2 ^ i) x) c) (λ x. mul (2 ^ i) (mul x c))
-        (after (λ x. mul x c) (mul (2 ^ i)) (of c hc) (by (2 ^ i)) (mul-byte (2 ^ i)))
-        (after (mul (2 ^ i)) (λ x. mul x c) (by (2 ^ i)) (of c hc) (λ x h. mul-byte x c hc)) (λ j hj. two i j hi hj) b hb
+        additive-same (λ x. mul (mul (2 ^ i) x) c) (λ x. mul (2 ^ i) (mul x c)) (record { sum = λ p q hp hq. simp (mul-xor, xor-mul) })
+        (record { sum = λ p q hp hq. simp (xor-mul, mul-xor, mul-byte) }) (λ j hj. two i j hi hj) b hb

@@ -69,25 +69,17 @@ only-sbox-substitutes (suc k) s h r =
 
 -- ---- bytes to bytes, and back
 
-affine-byte : (b : ℕ) → affine b < 256
-unfolding affine
-affine-byte b = omega arith
-
-unaffine-byte : (b : ℕ) → unaffine b < 256
-unfolding unaffine
-unaffine-byte b = omega arith
-
 unaffine-affine : (b : ℕ) → b < 256 → unaffine (affine b) ≡ b
 unfolding unaffine affine
 unaffine-affine = agree (λ b. unaffine (affine b)) (λ b. b) 256 refl
 
 pub sbox-byte : (b : ℕ) → b < 256 → sbox b < 256
-unfolding sbox
-sbox-byte b h = affine-byte (inverse b)
+unfolding sbox affine
+sbox-byte b h = omega arith
 
 pub invSbox-byte : (b : ℕ) → b < 256 → invSbox b < 256
-unfolding invSbox
-invSbox-byte b h = inverse-byte (unaffine b) (unaffine-byte b)
+unfolding invSbox unaffine
+invSbox-byte b h = inverse-byte (unaffine b) (omega arith)
 
 pub invSbox-sbox : (b : ℕ) → b < 256 → invSbox (sbox b) ≡ b
 unfolding invSbox sbox

@@ -1,6 +1,6 @@
 -- SPDX-License-Identifier: MPL-2.0
 -- Four looked-up words, added, are the column: the rows of their sum are the rows of the matrix, turned.
-use mathlib.Core.Path.{_≡_, refl, sym, ap, _∙_}
+use mathlib.Core.Path.{_≡_, refl, sym, _∙_}
 use Prim.Native.Nat.{ℕ, _+_, _*_, _/_, _%_, _<_}
 use native.Mathlib.Nat.{mul-add-div-right, div-eq-of-lt}
 use native.Mathlib.Omega.{arith}

@@ -1,6 +1,6 @@
 -- SPDX-License-Identifier: MPL-2.0
 -- The laws of `xor`.
-use mathlib.Core.Path.{_≡_, refl, sym, ap, ap₂, _∙_}
+use mathlib.Core.Path.{_≡_, refl, sym}
 use Prim.Native.Nat.{ℕ, _*_, _/_, _%_, _<_}
 use native.Mathlib.Nat.{add-zero}
 use lib.Bits.{bitXor, xor-comm, xor-self, xor-zero-r, xor-zero-l, xor-shr, xor-mod, xor-lt, xor-block}
@@ -47,9 +47,7 @@ swap4 a b c d = rw (assoc a b, ← assoc b c d, comm b c, assoc c b d, ← assoc
 -- a sum doubled and halved, its lowest digit and its eighth
 pub double : (a b : ℕ) → xor a b * 2 ≡ xor (a * 2) (b * 2)
 unfolding xor
-double a b =
-    sym (add-zero (bitXor a b * 2)) ∙ sym (xor-block 1 a b 0 0 (lit< tt) (lit< tt))
-    ∙ ap₂ bitXor (add-zero (a * 2)) (add-zero (b * 2))
+double a b = simp add-zero at (sym (xor-block 1 a b 0 0 (lit< tt) (lit< tt)))
 
 pub half : (a b : ℕ) → xor a b / 2 ≡ xor (a / 2) (b / 2)
 unfolding xor

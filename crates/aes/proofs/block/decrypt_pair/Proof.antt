@@ -23,9 +23,10 @@ loop-again : tie.Need-loop-again Inv-loop μ-loop
 loop-again c =
     let at-loop = c .before .before .before .before .before in
     let start = at-loop .before .before .before .before .before in
+    let a = start .args in
     let inv = at-loop .loop .inv in
     let test = c .before .before .before .before .loop-test .taken in
-    let less = unrounds-less (start .args .keys .now) (start .args .inverse .now) (start .pre .2) _ _ test (inv .0) (c .before .before .words2 .ensures) in
+    let less = unrounds-less (a .keys .now) (a .inverse .now) (start .pre .2) _ _ test (inv .0) (c .before .before .words2 .ensures) in
     (search needs, less _ _ (c .before .inv-round .ensures) ∙ inv .1, less _ _ (c .inv-round2 .ensures) ∙ inv .2)
 
 returns : tie.Need-returns Inv-loop μ-loop

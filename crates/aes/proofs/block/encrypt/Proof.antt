@@ -4,8 +4,8 @@ use native.Mathlib.Omega.{arith}
 use mathlib.Core.Path.{_≡_}
 use Prim.Native.Nat.{_≤_, _-_}
 use Rattle.aes.specs.Words.{bytesOf}
-use Rattle.aes.specs.Cipher.{rounds}
-use Rattle.aes.proofs.Undo.{rounds-more, cipher-whole}
+use Rattle.aes.specs.Cipher.{rounds, cipher}
+use native.Mathlib.Numerals.{add-one}
 use borrow.Author.Needs.{needs}
 use Rattle.aes.proofs.block.encrypt.Statement.{statement}
 use Rattle.aes.proofs.block.encrypt.Tie as tie
@@ -21,17 +21,16 @@ unfolding rounds
 loop-holds c = search needs
 
 loop-again : tie.Need-loop-again Inv-loop μ-loop
-loop-again c = (
-  search needs,
-  rounds-more _ _ _ _ _ _ (c .before .before .before .before .loop .inv .1) (c .before .words2 .ensures) (c .round .ensures),
-)
+unfolding rounds
+loop-again c = (search needs, rw (c .round .ensures, c .before .words2 .ensures, c .before .before .before .before .loop .inv .1, add-one))
 
 returns : tie.Need-returns Inv-loop μ-loop
+unfolding cipher
 returns c =
     let at-loop = c .before .before .before .before in
     let e : at-loop .loop .n ≡ 9 = omega arith in
-    cipher-whole _ _ _ _ _ _ _ (at-loop .before .before .words .ensures) (at-loop .before .add .ensures) (rw e at (at-loop .loop .inv .1))
-    (c .before .words3 .ensures) (c .last-round .ensures)
+    let at-add = at-loop .before in
+    rw (c .last-round .ensures, c .before .words3 .ensures, at-loop .loop .inv .1, e, at-add .add .ensures, at-add .before .words .ensures)
 
 pub encrypt-spec : {M : Type 1} → statement M
 encrypt-spec =

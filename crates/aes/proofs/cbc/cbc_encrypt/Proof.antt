@@ -4,7 +4,6 @@ use native.Mathlib.Omega.{arith}
 use mathlib.Core.Path.{refl, sym, _∙_}
 use Prim.Native.Nat.{_-_}
 use lib.ListN.{length}
-use Rattle.aes.specs.Cbc.{cbcEncrypt}
 use Rattle.aes.proofs.ChainCalls.{roomy, encrypted-copy}
 use borrow.Author.Tests.{not-true, not-false}
 use borrow.Author.Needs.{needs}

@@ -1,13 +1,12 @@
 -- SPDX-License-Identifier: MPL-2.0
 -- Two blocks at a time, or the one that is left.
 use native.Mathlib.Decide.{ℕ-discrete}
-use native.Mathlib.Omega.{arith}
 use Prim.Native.Nat.{_-_}
 use borrow.Author.Needs.{needs}
 use lib.ListN.{length}
 use Rattle.aes.specs.Words.{bytesOf}
 use Rattle.aes.specs.Cbc.{cbcDecryptBlock, cbcDecrypt}
-use Rattle.aes.proofs.ChainLoop.{Chained, begin, block-left, done, decrypt-two-more}
+use Rattle.aes.proofs.ChainLoop.{Chained, begin, done, decrypt-two-more}
 use Rattle.aes.proofs.cbc.decrypt_blocks.Statement.{statement}
 use Rattle.aes.proofs.cbc.decrypt_blocks.Tie as tie
 

@@ -1,10 +1,11 @@
 -- SPDX-License-Identifier: MPL-2.0
 -- By the contracts of what it calls.
 use native.Mathlib.Omega.{arith}
-use mathlib.Core.Path.{_∙_}
+use mathlib.Core.Path.{_≡_, _∙_}
 use Rattle.aes.specs.Cbc.{cbcDecryptBlock}
 use Rattle.aes.proofs.ChainLoop.{loaded}
-use Rattle.aes.proofs.ChainCalls.{room-after}
+use lib.ListN.{length}
+use lib.Seq.{length-paste}
 use borrow.Author.Needs.{needs}
 use Rattle.aes.proofs.cbc.decrypt_two.Statement.{statement}
 use Rattle.aes.proofs.cbc.decrypt_two.Tie as tie
@@ -13,7 +14,9 @@ put-requires-2 : tie.Need-put-requires-2
 put-requires-2 c κs =
     let at-put = c .before .before .before .before .before in
     let known = at-put .before .before .before .before .before .before .before .before .before .before .before .pre in
-    room-after _ _ _ _ _ _ (known .3) (known .5) (at-put .before .bytes-of .ensures) (at-put .put .ensures)
+    let b = at-put .before .bytes-of .result in
+    let n : length b ≡ 16 = search needs in
+    rw (at-put .put .ensures, length-paste _ _ b 16 (known .5) (omega arith)) (omega (arith, known .3, known .5))
 
 returns : tie.Need-returns
 unfolding cbcDecryptBlock
@@ -27,9 +30,11 @@ returns c =
     let at-x = at-y .before .before in
     let a = at-x .before .before .before .before in
     let x = at-x .words-from .ensures ∙ loaded (a .args .source .now) (a .args .at) (omega (arith, a .pre .3, a .pre .4)) in
-    let y = at-y .words-from2 .ensures ∙ loaded (a .args .source .now) (a .args .next) (a .pre .4) in
-    (y, rw (at-put2 .put2 .ensures, at-put .put .ensures, at-put .before .bytes-of .ensures, at-add .add .ensures, at-pair .decrypt-pair .ensures .1,
-    at-put2 .before .bytes-of2 .ensures, at-add2 .add2 .ensures, at-pair .decrypt-pair .ensures .0, y, x))
+    let y = at-y .words-from2 .ensures ∙ loaded (a .args .source .now) (a .args .next) (a .pre .4) in (
+      y,
+      rw (at-put2 .put2 .ensures, at-put .put .ensures, at-put .before .bytes-of .ensures, at-add .add .ensures, at-pair .decrypt-pair .ensures .1)
+          (rw (at-put2 .before .bytes-of2 .ensures, at-add2 .add2 .ensures, at-pair .decrypt-pair .ensures .0, y, x)),
+    )
 
 pub decrypt-two-spec : {M : Type 1} → statement M
 decrypt-two-spec =

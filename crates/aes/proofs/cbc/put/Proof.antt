@@ -2,10 +2,9 @@
 -- Byte by byte.
 use native.Mathlib.Omega.{arith}
 use native.Mathlib.Numerals.{add-one}
-use mathlib.Core.Path.{_≡_, refl, sym, ap, _∙_}
-use mathlib.Core.List.{List}
-use Prim.Native.Nat.{ℕ, _+_, _-_, _≤_}
-use lib.ListN.{getD, length, set, length-set}
+use mathlib.Core.Path.{_≡_, refl}
+use Prim.Native.Nat.{_-_, _≤_}
+use lib.ListN.{length, length-set}
 use lib.Seq.{paste, paste-zero, paste-suc}
 use borrow.Author.Needs.{needs}
 use Rattle.aes.proofs.cbc.put.Statement.{statement}
@@ -24,9 +23,11 @@ loop-again : tie.Need-loop-again Inv-loop μ-loop
 loop-again c =
     let l = c .before .loop in
     let a = c .before .before .args in
-    let n : length (a .t3) ≡ 16 = search needs in
-    (omega arith, rw (l .inv .1, add-one, paste-suc (a .s .now) (a .at) (a .t3) (l .i) 0 (omega arith) (omega arith)),
-    simp length-set (l .inv .2))
+    let n : length (a .t3) ≡ 16 = search needs in (
+      omega arith,
+      rw (l .inv .1, add-one, paste-suc (a .s .now) (a .at) (a .t3) (l .i) 0 (omega arith) (omega arith)),
+      simp length-set (l .inv .2),
+    )
 
 returns : tie.Need-returns Inv-loop μ-loop
 returns c = let e : c .before .loop .i ≡ 16 = omega arith in rw e at (c .before .loop .inv .1)

@@ -6,7 +6,7 @@ use mathlib.Core.List.{[]}
 use Prim.Native.Nat.{_+_, _-_, _≤_}
 use Rattle.laws.proofs.Runs.{Filled, fill-more, fill-all}
 use Rattle.aes.specs.Key.{rcon, roundKey, expandKey}
-use Rattle.aes.proofs.Schedule.{rcon-more, key-more}
+use native.Mathlib.Numerals.{add-one}
 use borrow.Author.Needs.{needs}
 use Rattle.aes.proofs.key.expand_key.Statement.{statement}
 use Rattle.aes.proofs.key.expand_key.Tie as tie
@@ -22,10 +22,11 @@ unfolding roundKey rcon
 loop-holds c = (search needs, record { len = refl; done = λ i h. (let z : i ≡ 0 = omega arith in rw z) }, refl, refl)
 
 loop-again : tie.Need-loop-again Inv-loop μ-loop
+unfolding roundKey rcon
 loop-again c =
     let v = c .before .before .before .before .loop .inv in
-    let key = key-more _ _ _ _ _ (v .2) (v .3) (c .before .next-key .ensures) in
-    (search needs, fill-more _ _ _ _ _ _ (v .1) (omega arith) key, key, rcon-more _ _ _ (v .3) (c .double .ensures))
+    let key = rw (v .2, v .3) at (c .before .next-key .ensures) in
+    (search needs, fill-more _ _ _ _ _ _ (v .1) (omega arith) (rw add-one key), rw add-one key, rw (c .double .ensures, v .3, add-one))
 
 returns : tie.Need-returns Inv-loop μ-loop
 unfolding expandKey

@@ -1,7 +1,6 @@
 -- SPDX-License-Identifier: MPL-2.0
 -- What the tables undo, the substitution did.
 use Rattle.aes.proofs.TableRounds.{unmixed-word}
-use borrow.Author.Needs.{needs}
 use Rattle.aes.proofs.rounds.unmix_word.Statement.{statement}
 use Rattle.aes.proofs.rounds.unmix_word.Tie as tie
 
