@@ -1,7 +1,7 @@
 -- SPDX-License-Identifier: MPL-2.0
 -- What is remembered of the expected message is which indexes were accepted, and each count that is answered is theirs: of any pieces whatever.
 use Prim.Native.Nat.{ℕ, _≤_, _<_}
-use mathlib.Core.Path.{_≡_, refl, sym, ap, _∙_}
+use mathlib.Core.Path.{_≡_, refl, sym, _∙_}
 use mathlib.Core.List.{List, [], _∷_}
 use mathlib.Core.Bool.{Bool, true, false, not, true≢false}
 use native.Mathlib.Omega.{arith}

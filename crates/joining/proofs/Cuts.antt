@@ -5,7 +5,7 @@ use mathlib.Core.Path.{_≡_, refl, ap}
 use mathlib.Core.List.{List, [], _∷_}
 use mathlib.Core.Bool.{false, _||_}
 use native.Mathlib.Omega.{arith}
-use native.Mathlib.Nat.{div-lt-iff-lt-mul, le-div-iff-mul-le, div-eq-of-lt-le, mul-le-mul, le-of-lt}
+use native.Mathlib.Nat.{div-lt-iff-lt-mul, le-div-iff-mul-le, mul-le-mul, le-of-lt}
 use lib.Dec.{eqb, ltb, leb, eqb·suc-zero}
 use lib.ListN.{length, length-take, length-drop}
 use borrow.Author.Tests.{eqb-false, ltb-false, leb-false}
@@ -95,14 +95,3 @@ module _ {F N n : ℕ} (R : List ℕ) (c : Cut F N n (length R)) (i : ℕ) (l : 
   not-empty m k =
       let e : i ≡ i - 1 + 1 = omega arith in
       omega (arith, remainder m, c .full (i - 1) (omega arith), ap (λ (k : ℕ). F * k) e)
-
--- The piece that a place belongs to.
-module _ (F i k : ℕ) (p : 0 < F) where
-  pub piece-at : F * i ≤ k → k < F * i + F → k / F ≡ i
-  piece-at lo hi = div-eq-of-lt-le F (omega arith) (omega arith)
-
-  pub places-of : k / F ≡ i → (F * i ≤ k) × (k < F * i + F)
-  places-of e = (
-    omega (arith, le-div-iff-mul-le {k = F} {x = i} {y = k} p .0 (omega arith)),
-    omega (arith, div-lt-iff-lt-mul {k = F} {x = k} {y = i + 1} p .0 (omega arith)),
-  )

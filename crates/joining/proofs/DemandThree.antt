@@ -23,8 +23,8 @@ use Rattle.joining.specs.declared.Arrival.the-variants.{Refused, Taken, 
 use Rattle.joining.specs.Heard.{most, tally, has, mark, none}
 use Rattle.joining.specs.Join.{expecting, join, reportAfter}
 use Rattle.joining.proofs.HeardLaws.{full, not-full, full-has, has-full, has-none, mark-has}
-use Rattle.joining.proofs.Snapshot.{Start, Startable, pieceOf, pieceBytes, heldAt, byteAt, bufferAt, listed-length}
-use Rattle.joining.proofs.Snapshot.{held-none, buffer-none, whole}
+use Rattle.joining.proofs.Snapshot.{Start, Startable, pieceOf, pieceBytes, heldAt, bufferAt}
+use Rattle.joining.proofs.Snapshot.{held-none, buffer-length, buffer-none, whole}
 use Rattle.joining.proofs.SnapshotBuffer.{in-set}
 use Rattle.joining.proofs.PieceArrives.{answerAt, arrives}
 use Rattle.joining.specs.Events.{Event, piece, between, came, LastMissing}
@@ -155,7 +155,7 @@ module _ (s : Start) (f : Startable s) (m : Machine (s .size)) where
         bufferAt s (mark S i),
         here .0 ∙ ap (λ (q : Progress). m .seat q (bufferAt s (mark S i))) (rw (all-come d)),
         whole s f (mark S i) (all-come d),
-        listed-length (length (s .buffer)) (byteAt s (mark S i)),
+        buffer-length s f (mark S i),
       )
 
       -- "at no other"

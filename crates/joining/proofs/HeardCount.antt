@@ -9,7 +9,7 @@ use borrow.Author.Tests.{eqb-true, ne-eqb}
 use Rattle.laws.specs.Courses.{final}
 use Rattle.joining.specs.declared.Arrival.the-variants.{Taken, Repeat}
 use Rattle.joining.specs.Heard.{tally, come, has, mark}
-use Rattle.joining.proofs.HeardLaws.{full, not-full}
+use Rattle.joining.proofs.HeardLaws.{not-full}
 use Rattle.joining.proofs.Snapshot.{Start, Startable, pieceOf, pieceBytes}
 use Rattle.joining.proofs.EventSet.{setOf, come-came, tally-came}
 use Rattle.joining.proofs.DemandThree.{Machine, CourseOf, began, came-past, has-came, with-came, all-come, here}
