@@ -78,9 +78,6 @@ module _ {F N n : ℕ} (R : List ℕ) (c : Cut F N n (length R)) (i : ℕ) (l : 
   pub part-length : length (part R (F * i) F) ≡ min F (length R - F * i)
   part-length = simp (length-take, length-drop)
 
-  pub inside : F * i + length (part R (F * i) F) ≤ length R
-  inside = omega (arith, part-length, begins c i l)
-
   pub not-over : length (part R (F * i) F) ≤ F
   not-over = omega (arith, part-length)
 

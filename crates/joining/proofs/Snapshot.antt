@@ -42,9 +42,6 @@ pieceOf s i = record { sequence = s .held .expected; channel = s .channel; count
 abbrev pub pieceBytes : Start → ℕ → List ℕ
 pieceBytes s i = part (s .report) (s .size * i) (s .size)
 
-abbrev pub lastSize : Start → ℕ
-lastSize s = length (s .report) - s .size * (s .count - 1)
-
 -- While pieces are missing.
 abbrev pub partHeld : Start → List Bool → Progress
 partHeld s S =
@@ -53,7 +50,7 @@ partHeld s S =
       heard = S;
       count = cond (eqb (tally S) 0) (s .held .count) (s .count);
       channel = cond (eqb (tally S) 0) (s .held .channel) (s .channel);
-      last = cond (has S (s .count - 1)) (lastSize s) (s .held .last);
+      last = cond (has S (s .count - 1)) (length (pieceBytes s (s .count - 1))) (s .held .last);
     }
 
 -- What is remembered once the pieces of S have come.

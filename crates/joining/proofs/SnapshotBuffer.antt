@@ -14,7 +14,7 @@ use Rattle.joining.specs.Heard.{most, has, mark}
 use Rattle.joining.specs.Report.{put}
 use Rattle.joining.proofs.HeardLaws.{mark-known}
 use Rattle.joining.proofs.Places.{put-over, part-put}
-use Rattle.joining.proofs.Cuts.{begins, inside}
+use Rattle.joining.proofs.Cuts.{begins}
 use Rattle.joining.proofs.Snapshot.{Start, Startable, pieceBytes, over, laid, bufferAt, part-over, laid-length, buffer-length}
 
 module _ (s : Start) (f : Startable s) (S : List Bool) (w : length S ≡ most) (i : ℕ) (l : i < s .count) where
@@ -25,7 +25,7 @@ module _ (s : Start) (f : Startable s) (S : List Bool) (w : length S ≡ most) (
   at = s .size * i
 
   pub room : at + length bytes ≤ length (bufferAt s S)
-  room = rw (buffer-length s f S) (omega (arith, inside (s .report) (f .cut) i l, f .room))
+  room = rw (buffer-length s f S) (omega (arith, part-over s f true i, begins (f .cut) i l, f .room))
 
   pub in-set : i < length S
   in-set = omega (arith, f .cut .most)
