@@ -145,7 +145,7 @@ module _ (s : Start) (f : Startable s) (m : Machine (s .size)) where
       pub handed-out : LastMissing (s .count) i es → m .says (final (m .next) began xs) x ≡ m .answer (Complete (length (s .report)) (s .count))
       handed-out d =
           let a : has S i ≡ false = has-came r i ∙ d .0 in
-          here .1 ∙ ap (m .answer) (rw (not-full (s .count) S i l a, a, all-come d))
+          rw (here .1, not-full (s .count) S i l a, a, all-come d)
 
       -- "whole, exactly as sent"; what is remembered is then that nothing is heard of the next number
       pub as-sent : LastMissing (s .count) i es
@@ -177,4 +177,4 @@ module _ (s : Start) (f : Startable s) (m : Machine (s .size)) where
 
       -- "later copies get 17"
       pub late-copy : ((j : ℕ) → j < s .count → came j es ≡ true) → m .says (final (m .next) began xs) x ≡ m .answer (Refused 17)
-      late-copy d = here .1 ∙ ap (m .answer) (rw (has-full (s .count) S (λ j k. has-came r j ∙ d j k)))
+      late-copy d = rw (here .1, has-full (s .count) S (λ j k. has-came r j ∙ d j k))
