@@ -1,7 +1,7 @@
 -- SPDX-License-Identifier: MPL-2.0
 -- What is remembered of the expected message is which indexes were accepted, and each count that is answered is theirs: of any pieces whatever.
 use Prim.Native.Nat.{ℕ, _≤_, _<_}
-use mathlib.Core.Path.{_≡_, refl, sym, ap, _∙_}
+use mathlib.Core.Path.{_≡_, refl, sym, _∙_}
 use mathlib.Core.List.{List, [], _∷_}
 use mathlib.Core.Bool.{Bool, true, false, not, true≢false}
 use native.Mathlib.Omega.{arith}
@@ -43,13 +43,11 @@ module _ (F : ℕ) (h : Progress) (p : Piece) (bytes report : List ℕ) (es : Li
   fit : Fitting F h p (length bytes)
   fit = fitting F h p bytes report e .0
 
-  like : unlike h p ≡ false
-  unfolding joinRefusal
-  like = row-false unlikeFirstPiece (joinRows F h p bytes report) refl e
-
   -- Where something is heard, this piece has its count.
   same-count : (j : ℕ) → came j es ≡ true → h .count ≡ p .count
+  unfolding joinRefusal
   same-count j c =
+      let like : unlike h p ≡ false = row-false unlikeFirstPiece (joinRows F h p bytes report) refl e in
       let some = ne-eqb (tally (h .heard)) 0 (λ z. omega (arith, tally-some (h .heard) j (w .alike j ∙ c))) in
       eqb-true (h .count) (p .count) (not-false _ (or-false (not (eqb (h .count) (p .count))) _ (rw some at like) .0))
 

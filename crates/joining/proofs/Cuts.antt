@@ -2,19 +2,20 @@
 -- What the rules of cutting come to: places and lengths of the pieces, over any number of them.
 use Prim.Native.Nat.{ℕ, zero, suc, _+_, _-_, _*_, _/_, _≤_, _<_, min}
 use mathlib.Core.Path.{_≡_, refl, ap}
-use mathlib.Core.List.{List, [], _∷_}
-use mathlib.Core.Bool.{false, _||_}
+use mathlib.Core.List.{List, _++_}
+use mathlib.Core.Bool.{false}
 use native.Mathlib.Omega.{arith}
-use native.Mathlib.Nat.{div-lt-iff-lt-mul, le-div-iff-mul-le, div-eq-of-lt-le, mul-le-mul, le-of-lt}
+use native.Mathlib.Nat.{div-lt-iff-lt-mul, le-div-iff-mul-le, mul-le-mul, le-of-lt}
 use lib.Dec.{eqb, ltb, leb, eqb·suc-zero}
 use lib.ListN.{length, length-take, length-drop}
 use borrow.Author.Tests.{eqb-false, ltb-false, leb-false}
 use Rattle.laws.specs.Parts.{part}
 use Rattle.laws.proofs.Bools.{or-false}
-use Rattle.laws.proofs.Firsts.{first-quiet}
+use Rattle.laws.proofs.Firsts.{row-false}
 use Rattle.wire.specs.Fields.{mostPieces}
+use Rattle.wire.specs.Refusals.{wrongFragmentSize, wrongPiece}
 use Rattle.joining.specs.Heard.{most}
-use Rattle.joining.specs.Cut.{badSize, pieceCount, cutRefusal}
+use Rattle.joining.specs.Cut.{badSize, pieceCount, sizeRows, pieceRows, cutRefusal}
 
 -- L bytes cut into n pieces of F, n at most N: there is a piece, a byte follows each but the last, and the last is not over F.
 pub record Cut (F N n L : ℕ) : Type 0 where
@@ -51,9 +52,9 @@ good-size F e =
 pub uncut : (F L i : ℕ) → cutRefusal F L i ≡ 0 → (badSize F ≡ false) × (ltb (F * most) L ≡ false) × (leb (pieceCount F L) i ≡ false)
 unfolding cutRefusal
 uncut F L i e =
-    let q = first-quiet ((24, badSize F) ∷ (7, ltb (F * most) L || leb (pieceCount F L) i) ∷ []) refl e in
-    let n = or-false (ltb (F * most) L) (leb (pieceCount F L) i) (q .1 .0) in
-    (q .0, n .0, n .1)
+    let rows = sizeRows F ++ pieceRows F L i in
+    let n = or-false (ltb (F * most) L) (leb (pieceCount F L) i) (row-false wrongPiece rows refl e) in
+    (row-false wrongFragmentSize rows refl e, n .0, n .1)
 
 -- It is cut by the rules, and the piece asked for is one of them.
 pub record Cuttable (F L i : ℕ) : Type 0 where
@@ -78,9 +79,6 @@ module _ {F N n : ℕ} (R : List ℕ) (c : Cut F N n (length R)) (i : ℕ) (l : 
   pub part-length : length (part R (F * i) F) ≡ min F (length R - F * i)
   part-length = simp (length-take, length-drop)
 
-  pub inside : F * i + length (part R (F * i) F) ≤ length R
-  inside = omega (arith, part-length, begins c i l)
-
   pub not-over : length (part R (F * i) F) ≤ F
   not-over = omega (arith, part-length)
 
@@ -95,14 +93,3 @@ module _ {F N n : ℕ} (R : List ℕ) (c : Cut F N n (length R)) (i : ℕ) (l : 
   not-empty m k =
       let e : i ≡ i - 1 + 1 = omega arith in
       omega (arith, remainder m, c .full (i - 1) (omega arith), ap (λ (k : ℕ). F * k) e)
-
--- The piece that a place belongs to.
-module _ (F i k : ℕ) (p : 0 < F) where
-  pub piece-at : F * i ≤ k → k < F * i + F → k / F ≡ i
-  piece-at lo hi = div-eq-of-lt-le F (omega arith) (omega arith)
-
-  pub places-of : k / F ≡ i → (F * i ≤ k) × (k < F * i + F)
-  places-of e = (
-    omega (arith, le-div-iff-mul-le {k = F} {x = i} {y = k} p .0 (omega arith)),
-    omega (arith, div-lt-iff-lt-mul {k = F} {x = k} {y = i + 1} p .0 (omega arith)),
-  )

@@ -23,8 +23,8 @@ use Rattle.joining.specs.declared.Arrival.the-variants.{Refused, Taken, 
 use Rattle.joining.specs.Heard.{most, tally, has, mark, none}
 use Rattle.joining.specs.Join.{expecting, join, reportAfter}
 use Rattle.joining.proofs.HeardLaws.{full, not-full, full-has, has-full, has-none, mark-has}
-use Rattle.joining.proofs.Snapshot.{Start, Startable, pieceOf, pieceBytes, heldAt, byteAt, bufferAt, listed-length}
-use Rattle.joining.proofs.Snapshot.{held-none, buffer-none, whole}
+use Rattle.joining.proofs.Snapshot.{Start, Startable, pieceOf, pieceBytes, heldAt, bufferAt}
+use Rattle.joining.proofs.Snapshot.{held-none, buffer-length, buffer-none, whole}
 use Rattle.joining.proofs.SnapshotBuffer.{in-set}
 use Rattle.joining.proofs.PieceArrives.{answerAt, arrives}
 use Rattle.joining.specs.Events.{Event, piece, between, came, LastMissing}
@@ -145,7 +145,7 @@ module _ (s : Start) (f : Startable s) (m : Machine (s .size)) where
       pub handed-out : LastMissing (s .count) i es → m .says (final (m .next) began xs) x ≡ m .answer (Complete (length (s .report)) (s .count))
       handed-out d =
           let a : has S i ≡ false = has-came r i ∙ d .0 in
-          here .1 ∙ ap (m .answer) (rw (not-full (s .count) S i l a, a, all-come d))
+          rw (here .1, not-full (s .count) S i l a, a, all-come d)
 
       -- "whole, exactly as sent"; what is remembered is then that nothing is heard of the next number
       pub as-sent : LastMissing (s .count) i es
@@ -155,7 +155,7 @@ module _ (s : Start) (f : Startable s) (m : Machine (s .size)) where
         bufferAt s (mark S i),
         here .0 ∙ ap (λ (q : Progress). m .seat q (bufferAt s (mark S i))) (rw (all-come d)),
         whole s f (mark S i) (all-come d),
-        listed-length (length (s .buffer)) (byteAt s (mark S i)),
+        buffer-length s f (mark S i),
       )
 
       -- "at no other"
@@ -177,4 +177,4 @@ module _ (s : Start) (f : Startable s) (m : Machine (s .size)) where
 
       -- "later copies get 17"
       pub late-copy : ((j : ℕ) → j < s .count → came j es ≡ true) → m .says (final (m .next) began xs) x ≡ m .answer (Refused 17)
-      late-copy d = here .1 ∙ ap (m .answer) (rw (has-full (s .count) S (λ j k. has-came r j ∙ d j k)))
+      late-copy d = rw (here .1, has-full (s .count) S (λ j k. has-came r j ∙ d j k))

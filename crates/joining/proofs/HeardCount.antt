@@ -1,15 +1,15 @@
 -- SPDX-License-Identifier: MPL-2.0
 -- The heard count over any course: it is the number of different pieces that have come.
 use Prim.Native.Nat.{ℕ, _<_}
-use mathlib.Core.Path.{_≡_, sym, ap, _∙_}
+use mathlib.Core.Path.{_≡_, sym, _∙_}
 use mathlib.Core.List.{List, _∷_}
 use mathlib.Core.Bool.{Bool, true, false}
 use native.Mathlib.Omega.{arith}
 use borrow.Author.Tests.{eqb-true, ne-eqb}
 use Rattle.laws.specs.Courses.{final}
 use Rattle.joining.specs.declared.Arrival.the-variants.{Taken, Repeat}
-use Rattle.joining.specs.Heard.{tally, come, has, mark}
-use Rattle.joining.proofs.HeardLaws.{full, not-full}
+use Rattle.joining.specs.Heard.{tally, come, mark}
+use Rattle.joining.proofs.HeardLaws.{not-full}
 use Rattle.joining.proofs.Snapshot.{Start, Startable, pieceOf, pieceBytes}
 use Rattle.joining.proofs.EventSet.{setOf, come-came, tally-came}
 use Rattle.joining.proofs.DemandThree.{Machine, CourseOf, began, came-past, has-came, with-came, all-come, here}
@@ -37,14 +37,12 @@ module _ (s : Start) (f : Startable s) (m : Machine (s .size)) {xs : List (m .X)
     pub told-again : came i es ≡ true → (j : ℕ) → j < s .count → came j es ≡ false
         → m .says (final (m .next) (began s f m) xs) x ≡ m .answer (Repeat (howMany (s .count) (piece i ∷ es)))
     told-again a j k c =
-        here s f m r i l x h .1
-        ∙ ap (m .answer) (rw (not-full (s .count) S j k (has-came s f m r j ∙ c), has-came s f m r i, a, tally-here))
+        rw (here s f m r i l x h .1, not-full (s .count) S j k (has-came s f m r j ∙ c), has-came s f m r i, a, tally-here)
 
     -- A piece that had not, while another is missing.
     pub told-taken : came i es ≡ false → (j : ℕ) → j < s .count → (j ≡ i → ⊥) → came j es ≡ false
         → m .says (final (m .next) (began s f m) xs) x ≡ m .answer (Taken (howMany (s .count) (piece i ∷ es)))
     told-taken a j k n c =
-        let o : has (mark S i) j ≡ false = rw (with-came s f m r i l j, ne-eqb j i n) c in
-        here s f m r i l x h .1
-        ∙ ap (m .answer)
-        (rw (not-full (s .count) S j k (has-came s f m r j ∙ c), has-came s f m r i, a, not-full (s .count) (mark S i) j k o, tally-here))
+        let u = not-full (s .count) S j k (has-came s f m r j ∙ c) in
+        let v = not-full (s .count) (mark S i) j k (rw (with-came s f m r i l j, ne-eqb j i n) c) in
+        rw (here s f m r i l x h .1, u, has-came s f m r i, a, v, tally-here)

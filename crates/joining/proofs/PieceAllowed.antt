@@ -13,7 +13,7 @@ use Rattle.laws.proofs.Sames.{same-refl}
 use Rattle.joining.specs.Heard.{most, tally, has}
 use Rattle.joining.specs.Cut.{badSize}
 use Rattle.joining.specs.Join.{badIndex, unlike, isLast, misfit, conflict, joinRefusal, expecting}
-use Rattle.joining.proofs.Cuts.{not-over, filled, remainder, not-empty}
+use Rattle.joining.proofs.Cuts.{not-over, filled, not-empty}
 use Rattle.joining.proofs.Snapshot.{Start, Startable, pieceOf, pieceBytes, partHeld, bufferAt}
 use Rattle.joining.proofs.SnapshotBuffer.{room, there}
 
@@ -47,13 +47,10 @@ module _ (s : Start) (f : Startable s) (S : List Bool) (w : length S ≡ most) (
       (λ k. rw (e, o, k) (and-false (eqb (length bytes) 0))))
       (λ e. rw (e, eq-eqb (length bytes) (s .size) (filled (s .report) (f .cut) i l (omega (arith, eqb-false)))))
 
-  -- The length that was taken, where the piece is in a set T: the remainder for the last piece, else F.
+  -- The length that was taken, where the piece is in a set T: that of the last piece is remembered, any other is F.
   pub due : (T : List Bool) → has T i ≡ true → length bytes ≡ cond (isLast (pieceOf s i)) (partHeld s T .last) (s .size)
   due T h =
-      on (eqb (i + 1) (s .count))
-      (λ e.
-      let p : s .count - 1 ≡ i = omega (arith, eqb-true) in
-      rw (e, p, h) (remainder (s .report) (f .cut) i l (omega (arith, eqb-true))))
+      on (eqb (i + 1) (s .count)) (λ e. let p : s .count - 1 ≡ i = omega (arith, eqb-true) in rw (e, p, h))
       (λ e. rw e (filled (s .report) (f .cut) i l (omega (arith, eqb-false))))
 
   agreed : conflict (s .size) (partHeld s S) (pieceOf s i) bytes (bufferAt s S) ≡ false

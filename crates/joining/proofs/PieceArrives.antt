@@ -15,7 +15,7 @@ use Rattle.joining.specs.declared.Arrival.the-variants.{Refused, Taken, 
 use Rattle.joining.specs.Heard.{most, tally, has, mark}
 use Rattle.joining.specs.Join.{lastOf, join, reportAfter}
 use Rattle.joining.proofs.HeardLaws.{full, mark-known, tally-some, full-has}
-use Rattle.joining.proofs.Cuts.{begins}
+use Rattle.joining.proofs.Cuts.{begins, remainder}
 use Rattle.joining.proofs.Snapshot.{Start, Startable, pieceOf, pieceBytes, partHeld, heldAt, bufferAt}
 use Rattle.joining.proofs.SnapshotBuffer.{in-set, put-buffer}
 use Rattle.joining.proofs.PieceAllowed.{due, unrefused, late}
@@ -42,7 +42,8 @@ module _ (s : Start) (f : Startable s) (S : List Bool) (w : length S ≡ most) (
       → s .size * (s .count - 1) + lastOf (partHeld s S) (pieceOf s i) (length (pieceBytes s i)) ≡ length (s .report)
   whole-length e =
       rw (last-more, full-has (s .count) (mark S i) e (s .count - 1) (omega arith))
-      (omega (arith, begins (f .cut) (s .count - 1) (omega arith)))
+      (let m : s .count - 1 < s .count = omega arith in
+      omega (arith, begins (f .cut) (s .count - 1) m, remainder (s .report) (f .cut) (s .count - 1) m (omega arith)))
 
   -- One piece more: what is remembered, the answer, and the report buffer.
   pub arrives : (join (s .size) (heldAt s S) (pieceOf s i) (pieceBytes s i) (bufferAt s S)

@@ -1,17 +1,16 @@
 -- SPDX-License-Identifier: MPL-2.0
 -- What is remembered, and what the report buffer holds, once a set of the pieces of one report has come: they depend on the set and on how
 -- they began, and on nothing else.
-use Prim.Native.Nat.{ℕ, zero, suc, _+_, _-_, _*_, _/_, _≤_, _<_}
-use mathlib.Core.Path.{_≡_, refl, sym, ap, _∙_}
-use mathlib.Core.List.{List, [], _∷_}
+use Prim.Native.Nat.{ℕ, zero, suc, _+_, _-_, _*_, _≤_, _<_, min}
+use mathlib.Core.Path.{_≡_, refl, sym}
+use mathlib.Core.List.{List, [], _++_}
 use mathlib.Core.Bool.{Bool, true, false, cond}
 use native.Mathlib.Omega.{arith}
-use native.Mathlib.Nat.{div-lt-iff-lt-mul}
+use native.Mathlib.Nat.{mul-zero}
 use lib.Dec.{eqb}
-use lib.ListN.{length, getD, take}
-use lib.Seq.{ext-getD}
+use lib.ListN.{length, take, drop, length-append, length-take, length-drop, take-append-drop}
+use lib.Seq.{length-take-le, take-all, take-add, take-append-seam}
 use Rattle.laws.specs.Parts.{part}
-use Rattle.laws.proofs.Lists.{getD-any}
 use Rattle.joining.specs.declared.Progress.{Progress}
 use Rattle.joining.specs.declared.Piece.{Piece}
 use Rattle.joining.specs.Heard.{most, tally, has, none}
@@ -43,9 +42,6 @@ pieceOf s i = record { sequence = s .held .expected; channel = s .channel; count
 abbrev pub pieceBytes : Start → ℕ → List ℕ
 pieceBytes s i = part (s .report) (s .size * i) (s .size)
 
-abbrev pub lastSize : Start → ℕ
-lastSize s = length (s .report) - s .size * (s .count - 1)
-
 -- While pieces are missing.
 abbrev pub partHeld : Start → List Bool → Progress
 partHeld s S =
@@ -54,44 +50,25 @@ partHeld s S =
       heard = S;
       count = cond (eqb (tally S) 0) (s .held .count) (s .count);
       channel = cond (eqb (tally S) 0) (s .held .channel) (s .channel);
-      last = cond (has S (s .count - 1)) (lastSize s) (s .held .last);
+      last = cond (has S (s .count - 1)) (length (pieceBytes s (s .count - 1))) (s .held .last);
     }
 
 -- What is remembered once the pieces of S have come.
 abbrev pub heldAt : Start → List Bool → Progress
 heldAt s S = cond (full (s .count) S) (expecting (s .held .expected + 1)) (partHeld s S)
 
--- The byte at place k: the report's where its piece has come, else and past the report what was there.
-abbrev pub byteAt : Start → List Bool → ℕ → ℕ
-byteAt s S k = cond (has S (k / s .size)) (getD (s .report) k (getD (s .buffer) k 0)) (getD (s .buffer) k 0)
+-- Where the report's bytes stand in the buffer: the report where a piece has come, else what was there.
+abbrev pub over : Start → Bool → List ℕ
+over s came = cond came (s .report) (take (length (s .report)) (s .buffer))
 
--- A list by a rule for each place.
-abbrev pub listed : ℕ → (ℕ → ℕ) → List ℕ
-listed zero f = []
-listed (suc n) f = f zero ∷ listed n (λ k. f (suc k))
+-- The first n pieces in the buffer once those of S have come.
+abbrev pub laid : Start → List Bool → ℕ → List ℕ
+laid s S zero = []
+laid s S (suc n) = laid s S n ++ part (over s (has S n)) (s .size * n) (s .size)
 
 -- The report buffer once the pieces of S have come.
 abbrev pub bufferAt : Start → List Bool → List ℕ
-bufferAt s S = listed (length (s .buffer)) (byteAt s S)
-
-pub listed-length : (n : ℕ) (f : ℕ → ℕ) → length (listed n f) ≡ n
-listed-length zero f = refl
-listed-length (suc n) f = ap suc (listed-length n (λ k. f (suc k)))
-
-pub listed-at : (n : ℕ) (f : ℕ → ℕ) (k : ℕ) → k < n → getD (listed n f) k 0 ≡ f k
-listed-at zero f k l = absurd (omega arith)
-listed-at (suc n) f zero l = refl
-listed-at (suc n) f (suc k) l = listed-at n (λ k. f (suc k)) k (omega arith)
-
-pub listed-take : (n N : ℕ) (f : ℕ → ℕ) → n ≤ N → take n (listed N f) ≡ listed n f
-listed-take zero N f l = refl
-listed-take (suc n) zero f l = absurd (omega arith)
-listed-take (suc n) (suc N) f l = ap (λ (b : List ℕ). f zero ∷ b) (listed-take n N (λ k. f (suc k)) (omega arith))
-
--- A list whose bytes follow the rule.
-pub listed-is : (b : List ℕ) (n : ℕ) (f : ℕ → ℕ) → length b ≡ n → ((k : ℕ) → k < n → getD b k 0 ≡ f k) → b ≡ listed n f
-listed-is b n f e g =
-    ext-getD 0 b (listed n f) (e ∙ sym (listed-length n f)) (λ k l. g k (omega arith) ∙ sym (listed-at n f k (omega arith)))
+bufferAt s S = laid s S (s .count) ++ drop (length (s .report)) (s .buffer)
 
 module _ (s : Start) (f : Startable s) where
   -- The empty set: all is as it began.
@@ -99,15 +76,35 @@ module _ (s : Start) (f : Startable s) where
   held-none =
       rw (not-full (s .count) (none most) 0 (f .cut .some) (has-none most 0), tally-none most, has-none most (s .count - 1), ← f .fresh)
 
+  over-length : (came : Bool) → length (over s came) ≡ length (s .report)
+  over-length true = refl
+  over-length false = length-take-le (length (s .report)) (s .buffer) (f .room)
+
+  pub part-over : (came : Bool) (n : ℕ) → length (part (over s came) (s .size * n) (s .size)) ≡ min (s .size) (length (s .report) - s .size * n)
+  part-over came n = simp (length-take, length-drop, over-length came)
+
+  pub laid-length : (S : List Bool) (n : ℕ) → length (laid s S n) ≡ min (s .size * n) (length (s .report))
+  laid-length S zero = omega arith
+  laid-length S (suc n) = rw (length-append, part-over (has S n) n) (omega (arith, laid-length S n))
+
+  pub buffer-length : (S : List Bool) → length (bufferAt s S) ≡ length (s .buffer)
+  buffer-length S = simp (length-append, length-drop) (omega (arith, laid-length S (s .count), f .cut .enough, f .room))
+
+  -- The first n pieces, where all or none of them have come.
+  laid-as : (S : List Bool) (came : Bool) (n : ℕ) → ((j : ℕ) → j < n → has S j ≡ came) → laid s S n ≡ take (s .size * n) (over s came)
+  laid-as S came zero h = rw (mul-zero (s .size))
+  laid-as S came (suc n) h =
+      let e : s .size * suc n ≡ s .size * n + s .size = omega arith in
+      rw (laid-as S came n (λ j l. h j (omega arith)), h n (omega arith), e) (sym (take-add (s .size * n) (s .size) (over s came)))
+
   pub buffer-none : bufferAt s (none most) ≡ s .buffer
-  buffer-none = sym (listed-is (s .buffer) (length (s .buffer)) (byteAt s (none most)) refl (λ k l. rw (has-none most (k / s .size))))
+  buffer-none =
+      let n = over-length false in
+      rw (laid-as (none most) false (s .count) (λ j l. has-none most j), take-all (s .size * s .count) (over s false) (omega (arith, f .cut .enough)))
+      (take-append-drop (length (s .report)) (s .buffer))
 
   -- The full set: the buffer begins with the report.
   pub whole : (S : List Bool) → full (s .count) S ≡ true → take (length (s .report)) (bufferAt s S) ≡ s .report
   whole S e =
-      listed-take (length (s .report)) (length (s .buffer)) (byteAt s S) (f .room)
-      ∙ sym
-      (listed-is (s .report) (length (s .report)) (byteAt s S) refl
-      (λ k l.
-      let d = div-lt-iff-lt-mul {k = s .size} {x = k} {y = s .count} (f .cut .pos) .1 (omega (arith, f .cut .enough)) in
-      rw (full-has (s .count) S e (k / s .size) d) (getD-any (s .report) k 0 (getD (s .buffer) k 0) l)))
+      rw (laid-as S true (s .count) (full-has (s .count) S e), take-all (s .size * s .count) (s .report) (f .cut .enough))
+      (take-append-seam (s .report) (drop (length (s .report)) (s .buffer)))

@@ -16,54 +16,50 @@ use Rattle.joining.proofs.Refusals.{Expected, is-expected}
 use Rattle.joining.proofs.refusal.Statement.{statement}
 use Rattle.joining.proofs.refusal.Tie as tie
 
+-- The tables, and what was asked, by where the first has answered.
 abbrev entry : tie.After-sequence-refusal → tie.Start
-entry c = c .before .before .before
+entry t = t .before .before .before
 
-abbrev sequences : tie.Start → List (ℕ × Bool)
-sequences s = let a = s .args in sequenceRows (a .size) (a .held .expected) (a .piece)
+abbrev sequences : tie.After-sequence-refusal → List (ℕ × Bool)
+sequences t = let a = entry t .args in sequenceRows (a .size) (a .held .expected) (a .piece)
 
-abbrev places : tie.Start → List (ℕ × Bool)
-places s = let a = s .args in placeRows (a .size) (a .held) (a .piece) (length (a .payload .now)) (length (a .report .now))
+abbrev places : tie.After-sequence-refusal → List (ℕ × Bool)
+places t = let a = entry t .args in placeRows (a .size) (a .held) (a .piece) (length (a .payload .now)) (length (a .report .now))
 
-abbrev repeats : tie.Start → List (ℕ × Bool)
-repeats s = let a = s .args in repeatRows (a .size) (a .held) (a .piece) (a .payload .now) (a .report .now)
+abbrev repeats : tie.After-sequence-refusal → List (ℕ × Bool)
+repeats t = let a = entry t .args in repeatRows (a .size) (a .held) (a .piece) (a .payload .now) (a .report .now)
 
 -- The piece is one of the expected message.
 known : (c : tie.Else1) → let a = entry (c .before) .args in Expected (a .size) (a .held .expected) (a .piece)
 known c = is-expected _ _ _ (sym (c .before .sequence-refusal .ensures) ∙ c .if1 .left)
 
 -- What the first two tables answered.
-two : (c : tie.After-place) → let s = entry (c .before .before) in c .place .result ≡ first (sequences s ++ places s)
+two : (c : tie.After-place) → let t = c .before .before in c .place .result ≡ first (sequences t ++ places t)
 two c =
     let t = c .before .before in
-    onward (sequences (entry t)) (places (entry t)) refl (t .sequence-refusal .ensures) (c .before .if1 .left) (c .place .ensures)
+    onward (sequences t) (places t) refl (t .sequence-refusal .ensures) (c .before .if1 .left) (c .place .ensures)
 
 returns : tie.Need-returns
 unfolding joinRefusal
-returns c =
-    let s = entry (c .before) in
-    above (sequences s) (places s ++ repeats s) refl (c .before .sequence-refusal .ensures) (c .if1 .taken)
+returns c = let t = c .before in above (sequences t) (places t ++ repeats t) refl (t .sequence-refusal .ensures) (c .if1 .taken)
 
 returns-2 : tie.Need-returns-2
 unfolding joinRefusal
-returns-2 c =
-    let t = c .before in
-    let s = entry (t .before .before) in
-    above (sequences s ++ places s) (repeats s) refl (two t) (c .if2 .taken)
+returns-2 c = let t = c .before .before .before in above (sequences t ++ places t) (repeats t) refl (two (c .before)) (c .if2 .taken)
 
 conflict-requires : tie.Need-conflict-requires
 conflict-requires c κs =
-    let t = c .before in
-    let s = entry (t .before .before) in
-    let k = known (t .before) in
-    (s .pre .0, k .under, k .few, ltb-false _ _ (row-false noRoom (sequences s ++ places s) refl (sym (two t) ∙ c .if2 .left)))
+    let t = c .before .before .before in
+    let k = known (c .before .before) in
+    let none = row-false noRoom (sequences t ++ places t) refl (sym (two (c .before)) ∙ c .if2 .left) in
+    (entry t .pre .0, k .under, k .few, ltb-false _ _ none)
 
 returns-3 : tie.Need-returns-3
 unfolding joinRefusal
 returns-3 c =
-    let t = c .before .before .before in
-    let s = entry (t .before .before) in
-    below (sequences s ++ places s) (repeats s) refl (two t) refl (cc)
+    let p = c .before .before .before in
+    let t = p .before .before in
+    below (sequences t ++ places t) (repeats t) refl (two p) refl (cc)
 
 pub refusal-spec : {M : Type 1} → statement M
 refusal-spec =

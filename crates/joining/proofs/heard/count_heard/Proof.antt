@@ -1,7 +1,7 @@
 -- SPDX-License-Identifier: MPL-2.0
 -- The count so far is that of the indexes passed.
-use Prim.Native.Nat.{ℕ, _≤_, _-_}
-use mathlib.Core.Path.{_≡_, ap, _∙_}
+use Prim.Native.Nat.{_≤_, _-_}
+use mathlib.Core.Path.{_≡_}
 use native.Mathlib.Omega.{arith}
 use native.Mathlib.Numerals.{add-one}
 use borrow.Author.Needs.{needs}
@@ -31,9 +31,8 @@ loop-again c =
 
 returns : tie.Need-returns Inv-loop μ-loop
 returns c =
-    let s = c .before in
-    let e : s .loop .i ≡ s .before .args .count = omega arith in
-    s .loop .inv .0 ∙ ap (λ (k : ℕ). come k (s .before .args .heard .now)) e
+    let e : c .before .loop .i ≡ c .before .before .args .count = omega arith in
+    rw (← e) (c .before .loop .inv .0)
 
 pub count-heard-spec : {M : Type 1} → statement M
 unfolding mostPieces
