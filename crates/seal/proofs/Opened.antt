@@ -5,7 +5,6 @@ use mathlib.Core.Path.{_≡_, refl, sym}
 use mathlib.Core.List.{List, _++_}
 use mathlib.Core.Bool.{Bool, false}
 use native.Mathlib.Omega.{arith}
-use borrow.Rule.Slice.PartMut.{mid-len}
 use lib.ListN.{length, take, drop, length-drop}
 use lib.Seq.{take-all}
 use lib.Dec.{leb}
@@ -39,8 +38,8 @@ module _ (keys : List (List ℕ)) (v sealed : List ℕ) (some : 16 ≤ length se
       (cbcDecryptBlock keys (blockBefore (length sealed / 16 - 1) v sealed) (take 16 (drop (length sealed - 16) sealed)))
       ≡ badPlain (cbcDecrypt keys v sealed)
   part-judged =
-      let l = cbcDecrypt-length keys v sealed blocks in
-      rw (← cbcDecrypt-first keys v sealed some, last-decrypted, ← l) (sym (badPlain-blocks (cbcDecrypt keys v sealed) (omega arith)))
+      rw (← cbcDecrypt-first keys v sealed some, last-decrypted, ← cbcDecrypt-length keys v sealed blocks)
+      (sym (badPlain-blocks (cbcDecrypt keys v sealed)))
 
 -- What the rows before the tag leave.
 pub record Placed (given start keys : ℕ) : Type 0 where
@@ -62,12 +61,6 @@ placed given start keys e =
       blocks = eqb-true _ 0 (not-false _ (nine .1));
       keys64 = eqb-true keys 64 (not-false _ (at wrongKeys));
     }
-
--- The sealed part of a message that is placed: whole blocks, and not none.
-pub part-blocks : (m : List ℕ) (start keys : ℕ) → Placed (length m) start keys
-    → (16 ≤ length (sealedPart m start)) × (length (sealedPart m start) % 16 ≡ 0)
-unfolding sealedPart
-part-blocks m start keys p = rw (mid-len start (length m - 32) m (omega arith)) (omega arith, p .blocks)
 
 -- The rows from the tag on, and the table of which they are the end.
 module _ (keys m : List ℕ) (start room : ℕ) where
