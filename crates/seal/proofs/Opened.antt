@@ -62,19 +62,15 @@ placed given start keys e =
       keys64 = eqb-true keys 64 (not-false _ (at wrongKeys));
     }
 
--- The rows from the tag on, and the table of which they are the end.
+-- The rows of all that is tested, as one table.
 module _ (keys m : List ℕ) (start room : ℕ) where
-  abbrev pub lateRows : List (ℕ × Bool)
-  lateRows = partRows keys m (sealedPart m start) room
-
   abbrev pub openRows : List (ℕ × Bool)
-  openRows = earlyRows (length m) start (length keys) ++ (tagRows keys m ++ lateRows)
+  openRows = earlyRows (length m) start (length keys) ++ (tagRows keys m ++ partRows keys m (sealedPart m start) room)
 
   pub one-table : first openRows ≡ openRefusal keys m start room
   unfolding openRefusal noPart partRefusal
   one-table =
-      let rest = keyRows (length keys) ++ tagRows keys m in
-      rw (first-append (noPartRows (length m) start) (rest ++ lateRows) refl, first-append rest lateRows refl)
+      rw (first-append (noPartRows (length m) start) _ refl, first-append (keyRows (length keys) ++ tagRows keys m) _ refl)
 
 -- The way through `open`: a refusal leaves the working buffer alone, and else it holds what opening the part left.
 module _ (keys m : List ℕ) (start : ℕ) (working : List ℕ) where

@@ -10,8 +10,8 @@ use borrow.Author.Needs.{needs}
 use borrow.Rule.Slice.PartMut.{mid-len}
 use Rattle.laws.specs.Rows.{first}
 use Rattle.laws.proofs.Nexts.{above, below, onward}
-use Rattle.seal.specs.Opening.{earlyRows, tagRows, partRefusal, sealedPart}
-use Rattle.seal.proofs.Opened.{Placed, placed, lateRows, refused, opened}
+use Rattle.seal.specs.Opening.{earlyRows, tagRows, partRows, partRefusal, sealedPart}
+use Rattle.seal.proofs.Opened.{Placed, placed, refused, opened}
 use Rattle.seal.proofs.opening.open.Statement.{statement}
 use Rattle.seal.proofs.opening.open.Tie as tie
 
@@ -22,7 +22,7 @@ abbrev tags : tie.Start → List (ℕ × Bool)
 tags s = let a = s .args in tagRows (a .keys .now) (a .message .now)
 
 abbrev late : tie.Start → List (ℕ × Bool)
-late s = let a = s .args in lateRows (a .keys .now) (a .message .now) (a .start) (length (a .working .now))
+late s = let a = s .args in partRows (a .keys .now) (a .message .now) (sealedPart (a .message .now) (a .start)) (length (a .working .now))
 
 abbrev start : tie.Else1 → tie.Start
 start c = c .before .before .before .before .before
