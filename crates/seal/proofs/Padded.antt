@@ -73,8 +73,7 @@ told-plainText payload h = simp div-add-mod'
 pub plainText-accepted : (payload : List ℕ) → length payload < 2 ^ 32 → badPlain (plainText payload) ≡ false
 unfolding badPlain
 plainText-accepted payload h =
-    rw (told-plainText payload h, length-plainText, eq-eqb (sealedSize (length payload)) _ refl, after-payload)
-    (ap not (same-refl (paddingBytes (length payload))))
+    rw (told-plainText payload h, length-plainText, eq-eqb (sealedSize (length payload)) _ refl, after-payload, same-refl)
 
 -- and its payload is handed out again.
 pub payload-plainText : (payload : List ℕ) → length payload < 2 ^ 32 → payloadOf (plainText payload) ≡ payload
