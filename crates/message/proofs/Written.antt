@@ -6,8 +6,8 @@ use mathlib.Core.List.{List, _++_}
 use mathlib.Core.Bool.{true, false}
 use native.Mathlib.Omega.{arith}
 use borrow.Author.Tests.{ltb-false, ne-eqb, eqb-true, not-false}
-use lib.ListN.{length, take, drop, length-append, length-drop}
-use lib.Seq.{sets, take-at, drop-at, drop-drop}
+use lib.ListN.{length, drop, length-append, length-drop}
+use lib.Seq.{sets, take-append-seam, drop-append-add, drop-drop}
 use Rattle.laws.specs.Rows.{testOf}
 use Rattle.laws.proofs.Bools.{and-false-right}
 use Rattle.laws.proofs.ByteLists.{AllBytes}
@@ -22,8 +22,7 @@ use Rattle.writer.specs.Header.{headerBytes}
 use Rattle.writer.specs.declared.Written.{Written}
 use Rattle.writer.specs.declared.Written.the-variants.{Refused, Bytes}
 use Rattle.seal.specs.Padding.{sealedSize}
-use Rattle.seal.specs.Sealed.{sealRefusal, sealedInto}
-use Rattle.seal.proofs.Padded.{sizes}
+use Rattle.seal.specs.Sealed.{sealedInto}
 use Rattle.seal.proofs.Seals.{put-after, fit-allowed}
 use Rattle.message.specs.Writing.{lengthOf, writeRows, writeRefusal, beforePayload, messageBytes, writeAnswer, writtenInto}
 use Rattle.message.proofs.WrittenSizes.{chain-short, payload-short}
@@ -110,13 +109,9 @@ module _ (h : Header) (chain payload keys out : List ℕ) where
         let (bytes, number) = sealed-is h chain payload keys s in
         let l = length-before h chain payload in
         let bound = b in
-        let part = sealedSize (length payload) in
         let keyed = allowed h chain payload (length keys) (length out) good .keyed s in
         let long : length m ≡ length out = rw (is, length-append, l, length-drop) (omega arith) in
-        let fits : sealRefusal (length keys) start (length payload) (length m) ≡ 0 =
-        fit-allowed (length keys) start (length payload) (length m) (omega arith) in
-        let kept : take start m ≡ before = rw is (take-at before (drop start out) start l) in
-        let end : start + part + 32 ≡ start + (part + 32) = omega arith in
-        let rest : drop (start + (part + 32)) m ≡ drop (start + (part + 32)) out =
-        rw (← drop-drop (part + 32) start m, is, drop-at before (drop start out) start l) (drop-drop (part + 32) start out) in
-        answer (q ∙ rw (fits, kept, end, rest, bytes, number))
+        let fits = fit-allowed (length keys) start (length payload) (length m) (omega arith) in
+        let sum : start + sealedSize (length payload) + 32 ≡ start + (sealedSize (length payload) + 32) = omega arith in
+        let total : length before + (sealedSize (length payload) + 32) ≡ lengthOf h chain payload = omega arith in
+        answer (q ∙ rw (fits, bytes, sum, is, ← l, take-append-seam, drop-append-add, drop-drop, total))

@@ -59,6 +59,9 @@ chain-short given w b =
     let z : leaves (readChain given) ≡ 0 = eqb-true _ 0 (not-false _ (t .1)) in
     omega (arith, chain-few 8 given w (t .0))
 
+both : {A B : Type 0} → A → B → A × B
+both a b = (a, b)
+
 module _ (p : List ℕ) where
   exchange-size : exchanges p ≡ true → length p ≡ 86
   unfolding exchanges
@@ -90,11 +93,11 @@ module _ (p : List ℕ) where
   each-short : Short shapes
   unfolding isPresenceRequest isConnectionRequest isDoneRequest isDoneResponse
   each-short =
-      (λ e. omega (arith, eqb-true (length p) 1 (and-true (eqb (length p) 1) _ e .0)),
-      (λ e. omega (arith, exchange-size (and-true (starts 0 p && eqb (be8 p 3) 0) _ e .1)),
-      (response-short, (device-short 2, (device-short 3,
-      (λ e. omega (arith, eqb-true (length p) 3 (and-true (starts 6 p) _ e .1)),
-      (λ e. omega (arith, eqb-true (length p) 4 (and-true (starts 7 p && leb (be8 p 3) 4) _ e .1)), tt)))))))
+      both (λ e. omega (arith, eqb-true (length p) 1 (and-true (eqb (length p) 1) _ e .0)))
+      (both (λ e. omega (arith, exchange-size (and-true (starts 0 p && eqb (be8 p 3) 0) _ e .1)))
+      (both response-short (both (device-short 2) (both (device-short 3)
+      (both (λ e. omega (arith, eqb-true (length p) 3 (and-true (starts 6 p) _ e .1)))
+      (both (λ e. omega (arith, eqb-true (length p) 4 (and-true (starts 7 p && leb (be8 p 3) 4) _ e .1))) tt))))))
 
   shape-short : (kind : ℕ) (sealed : Bool) (rows : List (ℕ × Bool × (List ℕ → Bool))) → Short rows → hasShape kind sealed p rows ≡ true
       → length p ≤ 16384

@@ -2,7 +2,7 @@
 -- What holds of a message whose sealed part was opened: its tag is right, its plain text is as the padding rule gives, and that plain text stands
 -- at the start of the working buffer.
 use Prim.Native.Nat.{ℕ, _+_, _≤_}
-use mathlib.Core.Path.{_≡_, refl, sym, _∙_}
+use mathlib.Core.Path.{_≡_, refl, _∙_}
 use mathlib.Core.List.{List, _++_}
 use mathlib.Core.Bool.{true, false, not}
 use native.Mathlib.Omega.{arith}
@@ -14,19 +14,16 @@ use Rattle.laws.specs.Bytes.{be32}
 use Rattle.laws.specs.Rows.{testOf}
 use Rattle.laws.specs.Same.{same}
 use Rattle.laws.proofs.Bools.{or-false}
-use Rattle.laws.proofs.Firsts.{first-append, neither, row-false}
-use Rattle.wire.specs.Refusals.{wrongTag, shortWorking, wrongPadding}
-use Rattle.aes.specs.Key.{expandKey}
-use Rattle.aes.proofs.Chain.{cbcDecrypt-length}
-use Rattle.seal.specs.Keys.{encryptionKey, vector, tagOf}
+use Rattle.laws.proofs.Firsts.{row-false}
+use Rattle.wire.specs.Refusals.{wrongKeys, wrongTag, shortWorking, wrongPadding}
+use Rattle.seal.specs.Keys.{tagOf}
 use Rattle.seal.specs.Padding.{sealedSize, badPlain, payloadOf}
-use Rattle.seal.specs.Opening.{bodyOf, tagIn, sealedPart, plainOf, intoUnless, openedInto, earlyRows, tagRows, openRefusal}
+use Rattle.seal.specs.Opening.{bodyOf, tagIn, sealedPart, plainOf, intoUnless, openedInto, openRefusal}
 use Rattle.seal.proofs.Padded.{sizes, told-append}
-use Rattle.seal.proofs.Opened.{Placed, placed, part-blocks, lateRows, one-table}
+use Rattle.seal.proofs.Opened.{openRows, one-table}
 
 -- Nothing of 10 to 13 applies.
 pub record Accepted (keys m : List ℕ) (start room : ℕ) : Type 0 where
-  pub place : Placed (length m) start (length keys)
   pub keys64 : length keys ≡ 64
   pub tag : same (tagOf keys (bodyOf m)) (tagIn m) ≡ true
   pub roomy : length (sealedPart m start) ≤ room
@@ -34,13 +31,10 @@ pub record Accepted (keys m : List ℕ) (start room : ℕ) : Type 0 where
 
 pub accepted : (keys m : List ℕ) (start room : ℕ) → openRefusal keys m start room ≡ 0 → Accepted keys m start room
 accepted keys m start room e =
-    let late = tagRows keys m ++ lateRows keys m start room in
-    let z = neither _ _ (sym (first-append (earlyRows (length m) start (length keys)) late refl) ∙ one-table keys m start room ∙ e) in
-    let at : (n : ℕ) → testOf n late ≡ false = λ n. row-false n late refl (z .1) in
-    let place = placed (length m) start (length keys) (z .0) in
+    let rows = openRows keys m start room in
+    let at : (n : ℕ) → testOf n rows ≡ false = λ n. row-false n rows refl (one-table keys m start room ∙ e) in
     record {
-      place = place;
-      keys64 = place .keys64;
+      keys64 = eqb-true (length keys) 64 (not-false _ (at wrongKeys));
       tag = not-false _ (at wrongTag);
       roomy = ltb-false room (length (sealedPart m start)) (at shortWorking);
       ruled = at wrongPadding;
@@ -53,9 +47,9 @@ pub record Held (plain after : List ℕ) : Type 0 where
   pub payload : take (be32 plain 0) (drop 4 after) ≡ payloadOf plain
 
 -- That of any plain text as the padding rule gives.
-held : (plain rest : List ℕ) → 16 ≤ length plain → badPlain plain ≡ false → Held plain (plain ++ rest)
+held : (plain rest : List ℕ) → badPlain plain ≡ false → Held plain (plain ++ rest)
 unfolding badPlain
-held plain rest some ruled =
+held plain rest ruled =
     let size = or-false (not (eqb (length plain) (sealedSize (be32 plain 0)))) _ ruled .0 in
     let l = eqb-true (length plain) (sealedSize (be32 plain 0)) (not-false _ size) in
     let s = sizes (be32 plain 0) in
@@ -68,9 +62,5 @@ held plain rest some ruled =
 
 pub opened-held : (keys m : List ℕ) (start : ℕ) (working : List ℕ) → openRefusal keys m start (length working) ≡ 0
     → Held (plainOf keys m (sealedPart m start)) (openedInto keys m start working)
-unfolding openedInto intoUnless plainOf
-opened-held keys m start working e =
-    let ok = accepted keys m start (length working) e in
-    let b = part-blocks m start (length keys) (ok .place) in
-    let l = cbcDecrypt-length (expandKey (encryptionKey keys)) (vector keys m) (sealedPart m start) (b .1) in
-    rw e (held _ _ (omega arith) (ok .ruled))
+unfolding openedInto intoUnless
+opened-held keys m start working e = rw e (held _ _ (accepted keys m start (length working) e .ruled))

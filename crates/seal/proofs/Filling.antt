@@ -9,14 +9,15 @@ use lib.Seq.{sets, take-at, drop-length}
 use Rattle.laws.proofs.Stores.{sets-start, sets-cut}
 use Rattle.laws.specs.Bytes.{bytes32}
 use Rattle.seal.specs.Padding.{padding, sealedSize, paddingBytes, plainText}
-use Rattle.seal.proofs.Padded.{padding-le, length-plainText}
+use Rattle.seal.proofs.Padded.{sizes, length-plainText}
 
 module _ (payload room : List ℕ) (count : ℕ) (fits : length room ≡ sealedSize (length payload)) (pads : count ≡ padding (length payload)) where
   -- Sixteen padding bytes are those of the plain text, and more.
   plain-first : (bytes32 (length payload) ++ payload) ++ replicate 16 count ≡ plainText payload ++ replicate (16 - count) count
   unfolding plainText paddingBytes
   plain-first =
-      let k : count + (16 - count) ≡ 16 = omega (arith, padding-le (length payload)) in
+      let s = sizes (length payload) in
+      let k : count + (16 - count) ≡ 16 = omega arith in
       let r : replicate 16 count ≡ replicate count count ++ replicate (16 - count) count =
       sym (replicate-append-replicate count (16 - count) count ∙ ap (λ (n : ℕ). replicate n count) k) in
       rw (r, ← pads)

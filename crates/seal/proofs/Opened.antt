@@ -5,7 +5,6 @@ use mathlib.Core.Path.{_≡_, refl, sym}
 use mathlib.Core.List.{List, _++_}
 use mathlib.Core.Bool.{Bool, false}
 use native.Mathlib.Omega.{arith}
-use borrow.Rule.Slice.PartMut.{mid-len}
 use lib.ListN.{length, take, drop, length-drop}
 use lib.Seq.{take-all}
 use lib.Dec.{leb}
@@ -39,8 +38,8 @@ module _ (keys : List (List ℕ)) (v sealed : List ℕ) (some : 16 ≤ length se
       (cbcDecryptBlock keys (blockBefore (length sealed / 16 - 1) v sealed) (take 16 (drop (length sealed - 16) sealed)))
       ≡ badPlain (cbcDecrypt keys v sealed)
   part-judged =
-      let l = cbcDecrypt-length keys v sealed blocks in
-      rw (← cbcDecrypt-first keys v sealed some, last-decrypted, ← l) (sym (badPlain-blocks (cbcDecrypt keys v sealed) (omega arith)))
+      rw (← cbcDecrypt-first keys v sealed some, last-decrypted, ← cbcDecrypt-length keys v sealed blocks)
+      (sym (badPlain-blocks (cbcDecrypt keys v sealed)))
 
 -- What the rows before the tag leave.
 pub record Placed (given start keys : ℕ) : Type 0 where
@@ -63,25 +62,15 @@ placed given start keys e =
       keys64 = eqb-true keys 64 (not-false _ (at wrongKeys));
     }
 
--- The sealed part of a message that is placed: whole blocks, and not none.
-pub part-blocks : (m : List ℕ) (start keys : ℕ) → Placed (length m) start keys
-    → (16 ≤ length (sealedPart m start)) × (length (sealedPart m start) % 16 ≡ 0)
-unfolding sealedPart
-part-blocks m start keys p = rw (mid-len start (length m - 32) m (omega arith)) (omega arith, p .blocks)
-
--- The rows from the tag on, and the table of which they are the end.
+-- The rows of all that is tested, as one table.
 module _ (keys m : List ℕ) (start room : ℕ) where
-  abbrev pub lateRows : List (ℕ × Bool)
-  lateRows = partRows keys m (sealedPart m start) room
-
   abbrev pub openRows : List (ℕ × Bool)
-  openRows = earlyRows (length m) start (length keys) ++ (tagRows keys m ++ lateRows)
+  openRows = earlyRows (length m) start (length keys) ++ (tagRows keys m ++ partRows keys m (sealedPart m start) room)
 
   pub one-table : first openRows ≡ openRefusal keys m start room
   unfolding openRefusal noPart partRefusal
   one-table =
-      let rest = keyRows (length keys) ++ tagRows keys m in
-      rw (first-append (noPartRows (length m) start) (rest ++ lateRows) refl, first-append rest lateRows refl)
+      rw (first-append (noPartRows (length m) start) _ refl, first-append (keyRows (length keys) ++ tagRows keys m) _ refl)
 
 -- The way through `open`: a refusal leaves the working buffer alone, and else it holds what opening the part left.
 module _ (keys m : List ℕ) (start : ℕ) (working : List ℕ) where

@@ -114,10 +114,12 @@ module _ (keys payload out : List ℕ) (start end : ℕ) (f : Fit (length keys) 
       rw (vector-front keys out start (omega arith), ← first, ← sealed, post-is start end out (omega arith))
       (sym (append-assoc (take start out) part (drop end out)))
 
-  pub sealed-into : tagged ≡ sealedInto keys start payload out
+  pub sealed-into : (0 ≡ sealRefusal (length keys) start (length payload) (length out)) × (tagged ≡ sealedInto keys start payload out)
   unfolding sealedInto sealedMessage
   sealed-into =
+      let allowed = fit-allowed (length keys) start (length payload) (length out) f in
       let front : take end written ≡ body = rw written-is (take-at body (drop end out) end body-long) in
-      let t = length-tag keys body in
-      put-after body (tagOf keys body) out end body-long (omega arith) written-is (rw front at behind)
-      ∙ rw (fit-allowed _ _ _ _ f, t, ends)
+      let t = length-tag keys body in (
+        sym allowed,
+        put-after body (tagOf keys body) out end body-long (omega arith) written-is (rw front at behind) ∙ rw (allowed, t, ends),
+      )

@@ -20,7 +20,7 @@ use Rattle.seal.specs.Padding.{padding, sealedSize, paddingBytes, plainT
 use Rattle.seal.specs.Opening.{bodyOf, tagIn, sealedPart, plainOf, noPart, partRefusal, openRefusal}
 use Rattle.seal.specs.Sealed.{sealedBody, sealedMessage}
 use Rattle.laws.proofs.ByteLists.{AllBytes, append-bytes, take-bytes, drop-bytes, replicate-bytes, bytesAt-bytes, bytes32-bytes}
-use Rattle.seal.proofs.Padded.{padding-le, sizes, length-plainText, plainText-accepted}
+use Rattle.seal.proofs.Padded.{sizes, length-plainText, plainText-accepted}
 use Rattle.seal.proofs.Seals.{vector-front, length-sealed, length-body, length-tag}
 
 -- The parts of a sealed message, each found again where it was put.
@@ -52,7 +52,7 @@ module _ (keys before payload : List ℕ) where
   pub length-part : length (cbcEncrypt (expandKey (encryptionKey keys)) (vector keys before) (plainText payload)) ≡ sealedSize (length payload)
   length-part = length-sealed (expandKey (encryptionKey keys)) (vector keys before) payload
 
-  pub part-back : sealedPart (sealedMessage keys before payload) (length before) ≡ sealed
+  part-back : sealedPart (sealedMessage keys before payload) (length before) ≡ sealed
   unfolding sealedPart
   part-back =
       let n : length message - 32 - length before ≡ length sealed = omega (arith, length-part, length-sealedMessage) in
@@ -80,7 +80,7 @@ plain-blocks : (payload : List ℕ) → length payload < 4294967296 → AllBytes
 unfolding plainText paddingBytes
 plain-blocks payload small w =
     let s = sizes (length payload) in
-    let pads : padding (length payload) < 256 = omega (arith, padding-le (length payload)) in
+    let pads : padding (length payload) < 256 = omega arith in
     let all : AllBytes (plainText payload) =
     append-bytes (bytes32-bytes (length payload) small) (append-bytes w (replicate-bytes (padding (length payload)) (padding (length payload)) pads)) in
     record { len = length-plainText payload ∙ omega arith; bytes = λ i k. all .at i }

@@ -1,12 +1,19 @@
 -- SPDX-License-Identifier: MPL-2.0
 -- By what the header's reader answered.
-use mathlib.Core.Path.{refl, sym, _∙_}
+use mathlib.Core.Path.{_≡_, refl, sym, _∙_}
 use native.Mathlib.Omega.{arith}
+use Rattle.wire.specs.Reader.{readHeader}
+use Rattle.wire.specs.declared.header.HeaderRead.the-variants.{Read}
 use Rattle.wire.proofs.Sound.{read-sound}
 use Rattle.message.specs.Reading.{readMessage, workingAfter}
 use borrow.Author.Needs.{needs}
 use Rattle.message.proofs.reading.read.Statement.{statement}
 use Rattle.message.proofs.reading.read.Tie as tie
+
+-- Header, start and size, as the match binds them, are what the header's reader answered.
+bound : (c : tie.After-header) → let b = c .header .given .0 in
+    readHeader (c .before .before .before .before .before .before .args .message .now) ≡ Read (b .0) (b .1 .0) (b .1 .1 .0)
+bound c = sym (c .before .before .read-header .ensures) ∙ c .header .given .1
 
 returns : tie.Need-returns
 unfolding readMessage workingAfter
@@ -14,18 +21,10 @@ returns c =
     let at-read-sealed = c .before .before in
     let at-if1 = at-read-sealed .before .before in
     let at-is-sealed = at-if1 .before in
-    let at-header = at-is-sealed .before .before in
-    rw (
-      sym (at-header .before .before .read-header .ensures) ∙ at-header .header .given .1,
-      sym (at-is-sealed .is-sealed .ensures) ∙ at-if1 .if1 .taken,
-    )
-    (at-read-sealed .read-sealed .ensures)
+    rw (bound (at-is-sealed .before .before), sym (at-is-sealed .is-sealed .ensures) ∙ at-if1 .if1 .taken) (at-read-sealed .read-sealed .ensures)
 
 read-plain-requires : tie.Need-read-plain-requires
-read-plain-requires c κs =
-    let at-header = c .before .before .before in
-    let sound = read-sound _ _ _ _ (sym (at-header .before .before .read-header .ensures) ∙ at-header .header .given .1) in
-    omega (arith, sound .spans)
+read-plain-requires c κs = let sound = read-sound _ _ _ _ (bound (c .before .before .before)) in omega (arith, sound .spans)
 
 returns-2 : tie.Need-returns-2
 unfolding readMessage workingAfter
@@ -36,13 +35,8 @@ returns-2 c =
 returns-3 : tie.Need-returns-3
 unfolding readMessage workingAfter
 returns-3 c =
-    let at-if1 = c .before in
-    let at-header = at-if1 .before .before .before in
-    rw (
-      sym (at-header .before .before .read-header .ensures) ∙ at-header .header .given .1,
-      sym (at-if1 .before .is-sealed .ensures) ∙ at-if1 .if1 .left,
-    )
-    (c .read-plain .ensures, refl)
+    let at-is-sealed = c .before .before in
+    rw (bound (at-is-sealed .before .before), sym (at-is-sealed .is-sealed .ensures) ∙ c .before .if1 .left) (c .read-plain .ensures, refl)
 
 pub read-spec : {M : Type 1} → statement M
 read-spec = tie.close (tie.spec _ (λ c. search needs) (λ c. search needs) _ _ (λ c. search needs) returns read-plain-requires returns-2 returns-3)

@@ -1,7 +1,13 @@
 -- SPDX-License-Identifier: MPL-2.0
 -- What was opened stands in the working buffer, and its payload is judged there.
+use mathlib.Core.Bool.{true}
+use mathlib.Core.Path.{_≡_}
 use native.Mathlib.Omega.{arith}
+use lib.ListN.{length}
 use borrow.Author.Tests.{eq-eqb, ne-eqb}
+use Rattle.message.specs.Reading.{unless, sealedRead}
+use Rattle.message.specs.declared.reading.MessageRead.{MessageRead}
+use Rattle.message.specs.declared.reading.MessageRead.the-variants.{Read}
 use Rattle.message.proofs.Readers.{not-opened, is-held, judged}
 use borrow.Author.Needs.{needs}
 use Rattle.message.proofs.reading.read_sealed.Statement.{statement}
@@ -20,27 +26,23 @@ part-bad-shape-end c =
     let held = is-held _ _ _ _ (o .0) (o .1) (at-if1 .if1 .left) in
     omega (arith, held .fits, held .told, at-number32 .number32 .ensures)
 
+abbrev at-open : tie.After-bad-shape → tie.After-open
+at-open c = c .before .before .before .before .before .before .before .before
+
+-- What is answered by the number of the payload's refusal.
+answered : (c : tie.After-bad-shape) {r : MessageRead} → let a = at-open c .before .before .before .before .before .args in
+    r ≡ unless (c .bad-shape .result) (Read (a .header) true 4 (c .before .before .before .number32 .result))
+    → r ≡ sealedRead (a .message .now) (a .keys .now) (a .header) (a .start) (length (a .working .now))
+answered c =
+    let at-number32 = c .before .before .before in
+    let o = at-open c .«open» .ensures in
+    judged _ _ _ _ (o .0) (o .1) (at-number32 .before .before .if1 .left) _ (at-number32 .number32 .ensures) (c .bad-shape .ensures)
+
 returns-2 : tie.Need-returns-2
-returns-2 c =
-    let at-bad-shape = c .before in
-    let at-number32 = at-bad-shape .before .before .before in
-    let at-if1 = at-number32 .before .before in
-    let o = at-if1 .before .before .before .«open» .ensures in (
-      judged _ _ _ _ (o .0) (o .1) (at-if1 .if1 .left) _ (at-number32 .number32 .ensures) (at-bad-shape .bad-shape .ensures)
-          (rw (ne-eqb _ 0 (c .if2 .taken))),
-      o .1,
-    )
+returns-2 c = (answered (c .before) (rw (ne-eqb _ 0 (c .if2 .taken))), at-open (c .before) .«open» .ensures .1)
 
 returns-3 : tie.Need-returns-3
-returns-3 c =
-    let at-bad-shape = c .before in
-    let at-number32 = at-bad-shape .before .before .before in
-    let at-if1 = at-number32 .before .before in
-    let o = at-if1 .before .before .before .«open» .ensures in (
-      judged _ _ _ _ (o .0) (o .1) (at-if1 .if1 .left) _ (at-number32 .number32 .ensures) (at-bad-shape .bad-shape .ensures)
-          (rw (eq-eqb _ 0 (c .if2 .left))),
-      o .1,
-    )
+returns-3 c = (answered (c .before) (rw (eq-eqb _ 0 (c .if2 .left))), at-open (c .before) .«open» .ensures .1)
 
 pub read-sealed-spec : {M : Type 1} → statement M
 read-sealed-spec =

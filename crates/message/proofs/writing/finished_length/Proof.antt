@@ -19,6 +19,5 @@ pub finished-length-spec : {M : Type 1} → statement M
 finished-length-spec =
     tie.close (tie.spec
     (λ c. search needs) (λ c. search needs) _
-    (λ c. let s = sizes (c .before .before .args .payload) in rw (c .sealed-size .ensures) (omega arith))
-    (λ c. let s = sizes (c .before .before .args .payload) in rw (c .sealed-size .ensures) (omega arith)) returns (λ c. search needs) (λ c. search needs)
-    returns-2)
+    (λ c. let s = sizes (c .before .before .args .payload) in omega arith) (λ c. let s = sizes (c .before .before .args .payload) in omega arith)
+    returns (λ c. search needs) (λ c. search needs) returns-2)

@@ -37,20 +37,18 @@ returns-2 c =
     let at-if = c .before .before .before .before in
     let at-front = at-if .before .before .before in
     let at-length = at-front .before .before in
-    let at-sealed = at-length .before in
-    let row = at-sealed .before in
+    let row = at-length .before .before in
     wrote-sealed _ _ _ _ _ (passed row) (of-chain row) (whole at-length) (at-front .put-front .ensures)
-    (sym (at-sealed .is-sealed .ensures) ∙ at-if .if2 .taken) (c .before .before .seal .ensures .1)
+    (sym (at-length .before .is-sealed .ensures) ∙ at-if .if2 .taken) (c .before .before .seal .ensures .1)
 
 returns-3 : tie.Need-returns-3
 returns-3 c =
     let at-if = c .before .before .before .before in
     let at-front = at-if .before .before .before in
     let at-length = at-front .before .before in
-    let at-sealed = at-length .before in
-    let row = at-sealed .before in
+    let row = at-length .before .before in
     wrote-plain _ _ _ _ _ (passed row) (of-chain row) (whole at-length) (at-front .put-front .ensures)
-    (sym (at-sealed .is-sealed .ensures) ∙ at-if .if2 .left) (c .before .before .store-bytes .ensures)
+    (sym (at-length .before .is-sealed .ensures) ∙ at-if .if2 .left) (c .before .before .store-bytes .ensures)
 
 pub write-spec : {M : Type 1} → statement M
 write-spec =

@@ -1,16 +1,17 @@
 -- SPDX-License-Identifier: MPL-2.0
 -- The tables one after the other: the tag is judged where the part and the keys are there, the part is opened where the tag is right.
-use Prim.Native.Nat.{ℕ}
+use Prim.Native.Nat.{ℕ, _-_}
 use mathlib.Core.Bool.{Bool}
 use mathlib.Core.List.{List, _++_}
 use mathlib.Core.Path.{_≡_, refl, sym, _∙_}
 use native.Mathlib.Omega.{arith}
 use lib.ListN.{length}
 use borrow.Author.Needs.{needs}
+use borrow.Rule.Slice.PartMut.{mid-len}
 use Rattle.laws.specs.Rows.{first}
 use Rattle.laws.proofs.Nexts.{above, below, onward}
-use Rattle.seal.specs.Opening.{earlyRows, tagRows, partRefusal, sealedPart}
-use Rattle.seal.proofs.Opened.{Placed, placed, part-blocks, lateRows, refused, opened}
+use Rattle.seal.specs.Opening.{earlyRows, tagRows, partRows, partRefusal, sealedPart}
+use Rattle.seal.proofs.Opened.{Placed, placed, refused, opened}
 use Rattle.seal.proofs.opening.open.Statement.{statement}
 use Rattle.seal.proofs.opening.open.Tie as tie
 
@@ -21,7 +22,7 @@ abbrev tags : tie.Start → List (ℕ × Bool)
 tags s = let a = s .args in tagRows (a .keys .now) (a .message .now)
 
 abbrev late : tie.Start → List (ℕ × Bool)
-late s = let a = s .args in lateRows (a .keys .now) (a .message .now) (a .start) (length (a .working .now))
+late s = let a = s .args in partRows (a .keys .now) (a .message .now) (sealedPart (a .message .now) (a .start)) (length (a .working .now))
 
 abbrev start : tie.Else1 → tie.Start
 start c = c .before .before .before .before .before
@@ -47,11 +48,12 @@ returns-2 c =
     refused _ _ _ _ (c .if2 .taken) (above (early s ++ tags s) (late s) refl (tagged (c .before)) (c .if2 .taken))
 
 open-part-requires : tie.Need-open-part-requires
-unfolding sealedPart
 open-part-requires c κs =
     let at-if1 = c .before .before .before .before .before in
+    let a = start at-if1 .args in
     let p = known at-if1 in
-    ((p .keys64, p .long), part-blocks (start at-if1 .args .message .now) _ _ p)
+    let part = mid-len (a .start) (length (a .message .now) - 32) (a .message .now) (omega arith) in
+    omega arith
 
 returns-3 : tie.Need-returns-3
 unfolding sealedPart partRefusal

@@ -32,9 +32,9 @@ returns c = let s = c .before .before in above (lengths s) (rooms s) refl (c .be
 returns-2 : tie.Need-returns-2
 unfolding sealRefusal
 returns-2 c =
-    let at-if1 = c .before .before in
-    let s = at-if1 .before .before in
-    below (lengths s) (rooms s) refl (at-if1 .before .unsealable .ensures) refl (cc)
+    let at-unsealable = c .before .before .before in
+    let s = at-unsealable .before in
+    below (lengths s) (rooms s) refl (at-unsealable .unsealable .ensures) refl (cc)
 
 pub refused-spec : {M : Type 1} → statement M
 refused-spec =

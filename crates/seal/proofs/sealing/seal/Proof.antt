@@ -1,12 +1,10 @@
 -- SPDX-License-Identifier: MPL-2.0
 -- The part is encrypted in its room and the tag put after it, where none of the rows applies.
-use Prim.Native.Nat.{ℕ, _+_, _-_}
-use mathlib.Core.Path.{_≡_, _∙_, sym, ap}
+use Prim.Native.Nat.{ℕ, _+_}
+use mathlib.Core.Path.{_∙_, sym, ap}
 use native.Mathlib.Omega.{arith}
 use borrow.Rule.Slice.PartMut.{mid-len}
 use lib.ListN.{length}
-use Rattle.seal.specs.Padding.{sealedSize}
-use Rattle.seal.specs.Sealed.{sealRefusal}
 use Rattle.seal.proofs.Seals.{Fit, fit, refused-into, sealed-into}
 use borrow.Author.Needs.{needs}
 use Rattle.seal.proofs.sealing.seal.Statement.{statement}
@@ -15,22 +13,17 @@ use Rattle.seal.proofs.sealing.seal.Tie as tie
 abbrev entry : tie.Else1 → tie.Start
 entry c = c .before .before .before .before .before
 
-allowed : (c : tie.Else1) → let a = entry c .args in
-    sealRefusal (length (a .keys .now)) (a .start) (length (a .payload .now)) (length (a .out .now)) ≡ 0
-allowed c = sym (c .before .refused .ensures) ∙ c .if1 .left
-
--- What the rows leave, and where the sealed part ends.
+-- What the rows leave.
 fits : (c : tie.Else1) → let a = entry c .args in Fit (length (a .keys .now)) (a .start) (length (a .payload .now)) (length (a .out .now))
-fits c = fit _ _ _ _ (allowed c)
+fits c = fit _ _ _ _ (sym (c .before .refused .ensures) ∙ c .if1 .left)
 
 encrypt-part-requires : tie.Need-encrypt-part-requires
 encrypt-part-requires c κs =
     let at-sealed-size = c .before .before .before in
     let a = entry (at-sealed-size .before) .args in
     let f = fits (at-sealed-size .before) in
-    let e = at-sealed-size .sealed-size .ensures in
     let room = mid-len (a .start) (a .start + at-sealed-size .sealed-size .result) (a .out .now) (omega arith) in
-    (f .keys64, (omega arith, room ∙ omega arith))
+    omega arith
 
 returns-2 : tie.Need-returns-2
 returns-2 c =
@@ -38,11 +31,9 @@ returns-2 c =
     let at-encrypt-part = at-put-tag .before .before .before .before in
     let at-vector = at-encrypt-part .before .before in
     let at-sealed-size = at-vector .before .before in
-    let at-if1 = at-sealed-size .before in (
-      sym (allowed at-if1),
-      sealed-into _ _ _ _ _ (fits at-if1) (ap (λ (n : ℕ). entry at-if1 .args .start + n) (at-sealed-size .sealed-size .ensures)) _ _ _
-          (at-vector .vector .ensures) (at-encrypt-part .encrypt-part .ensures) (at-put-tag .put-tag .ensures),
-    )
+    let at-if1 = at-sealed-size .before in
+    sealed-into _ _ _ _ _ (fits at-if1) (ap (λ (n : ℕ). entry at-if1 .args .start + n) (at-sealed-size .sealed-size .ensures)) _ _ _
+    (at-vector .vector .ensures) (at-encrypt-part .encrypt-part .ensures) (at-put-tag .put-tag .ensures)
 
 pub seal-spec : {M : Type 1} → statement M
 seal-spec =
