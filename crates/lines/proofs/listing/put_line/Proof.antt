@@ -10,7 +10,7 @@ use borrow.Author.Needs.{needs}
 use Rattle.lines.proofs.listing.put_line.Statement.{statement}
 use Rattle.lines.proofs.listing.put_line.Tie as tie
 
-at-room : (c : tie.Else1) → c .before .before .before .args .at + 64 ≤ length (c .before .before .before .args .out .now)
+at-room : (c : tie.Else1) → let a = c .before .before .before .args in a .at + 64 ≤ length (a .out .now)
 at-room c = fitting (c .if1 .left) _ _ (c .before .lacks .ensures)
 
 pub put-line-spec : {M : Type 1} → statement M
