@@ -6,6 +6,7 @@ use mathlib.Core.List.{List, [], _∷_, map}
 use Prim.Native.Nat.{ℕ, zero, suc, _-_, _*_, _/_, _%_, _^_, _<_}
 use native.Mathlib.Nat.{mod-lt, zero-lt-suc, pow-suc}
 use native.Mathlib.Omega.{arith}
+use lib.Arith.{lt-one}
 use lib.Bits.{bitAnd, bitXor, and-shr, xor-shr, and-mod, xor-mod}
 use lib.ListN.{getD, List·getD-map}
 
@@ -57,11 +58,8 @@ module _ (s t : Term) where
 
     on-words : (k x n y z : ℕ) → x < 2 ^ k → y < 2 ^ k → z < 2 ^ k → n ≡ (2 ^ k - 1) - x → Same x n y z
     on-words zero x n y z hx hy hz p =
-        let ex : x ≡ 0 = omega arith in
-        let en : n ≡ 0 = omega arith in
-        let ey : y ≡ 0 = omega arith in
-        let ez : z ≡ 0 = omega arith in
-        rw (ex, en, ey, ez) none
+        let m : n ≡ 0 = omega arith in
+        rw (lt-one hx, m, lt-one hy, lt-one hz) none
     on-words (suc k) x n y z hx hy hz p =
         let w = x ∷ n ∷ y ∷ z ∷ [] in
         let q : 2 ^ suc k ≡ 2 ^ k * 2 = pow-suc 2 k in

@@ -1,5 +1,5 @@
 -- SPDX-License-Identifier: MPL-2.0
--- Turns of a listing: each by its case, and one after the other.
+-- Turns of a listing, one after the other: what they take, and where they lead.
 use Prim.Native.Nat.{ℕ, zero, suc, _+_, _-_, _/_, _≤_, _<_}
 use mathlib.Core.Path.{_≡_, refl}
 use mathlib.Core.List.{List}
@@ -48,9 +48,6 @@ module _ (stream : List ℕ) (ended : Bool) (out₀ : List ℕ) where
   reached-first = record { so = begun; is = refl; holds = refl; leads = refl; within = omega arith }
 
   module _ {run : Listed} {out : List ℕ} {turns : ℕ} (r : Reached stream ended out₀ run out turns) where
-    pub reached-within : run .read ≤ length stream
-    reached-within = rw (r .is) (r .within)
-
     pub reached-more : (run′ : Listed) (out′ : List ℕ) → length out ≡ length out₀ → 0 < turns → run .going ≡ true
         → run′ ≡ turned run (turnAt (drop (run .read) stream) ended (length out) (run .written))
         → out′ ≡ sets out (run .written) (turnAt (drop (run .read) stream) ended (length out) (run .written) .line)

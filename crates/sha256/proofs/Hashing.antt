@@ -1,6 +1,6 @@
 -- SPDX-License-Identifier: MPL-2.0
 -- A block's words, the blocks of a message, and of a message after a block that was hashed already.
-use mathlib.Core.Path.{_≡_, _∙_, ap, refl}
+use mathlib.Core.Path.{_≡_, ap, refl}
 use mathlib.Core.List.{List, [], _++_}
 use Prim.Native.Nat.{ℕ, zero, suc, _+_, _*_, _/_, _<_}
 use native.Mathlib.Numerals.{add-one}
@@ -17,12 +17,12 @@ use Rattle.sha256.proofs.Laying.{bytesAt-past}
 pub words-more : (block w : List ℕ) (n r : ℕ) → n < length w → take n w ≡ words block n → r ≡ be32 block (4 * n)
     → take (n + 1) (set w n r) ≡ words block (n + 1)
 unfolding words
-words-more block w n r h p e = rw add-one (take-suc-set w n r h ∙ cc)
+words-more block w n r h p e = rw (add-one, take-suc-set w n r h, p, e)
 
 -- one block more
 pub blocks-more : (v x r : Vars) (m : List ℕ) (n : ℕ) → x ≡ blocks v m n → r ≡ afterBlock x (bytesAt m (64 * n) 64) → r ≡ blocks v m (n + 1)
 unfolding blocks
-blocks-more v x r m n p q = rw add-one (cc)
+blocks-more v x r m n p q = rw (add-one, q, p)
 
 blocks-after : (v : Vars) (b m : List ℕ) → length b ≡ 64 → (n : ℕ) → blocks v (b ++ m) (suc n) ≡ blocks (afterBlock v b) m n
 unfolding blocks
@@ -34,4 +34,4 @@ pub hashed-after : (v : Vars) (b m : List ℕ) → length b ≡ 64 → hashed v 
 unfolding hashed
 hashed-after v b m l =
     let e : length (b ++ m) / 64 ≡ suc (length m / 64) = rw length-append (omega arith) in
-    ap (blocks v (b ++ m)) e ∙ blocks-after v b m l (length m / 64)
+    rw e (blocks-after v b m l (length m / 64))

@@ -50,12 +50,12 @@ module _ (connect mode : ℕ) (c t : List ℕ) where
     shaped =
         let d = device connect mode c t good in
         rw (
-          starts-back mode connect (drop 3 bytes-device) (d .modes),
+          starts-back mode connect (drop 3 bytes-device) (omega arith),
           certificate-length,
           thumbprint-length,
-          le-leb 1 (length c) (d .some),
-          le-leb (length c) 2048 (d .certificates),
-          le-leb (length t) 512 (d .thumbprints),
+          le-leb 1 (length c) (omega arith),
+          le-leb (length c) 2048 (omega arith),
+          le-leb (length t) 512 (omega arith),
           eq-eqb (length bytes-device) (7 + length c + length t) (length-device connect mode c t),
         )
 
@@ -64,4 +64,4 @@ module _ (connect mode : ℕ) (c t : List ℕ) where
     device-good =
         on (eqb connect 2) (λ p. rw (← eqb-true connect 2 p, shaped)) λ p.
         on (eqb connect 3) (λ q. rw (← eqb-true connect 3 q, shaped, or-true)) λ q.
-        absurd (true≢false (rw (p, q) at (device connect mode c t good .kinds)))
+        absurd (true≢false (rw (p, q) at (device connect mode c t good .0)))

@@ -20,22 +20,10 @@ module _ (connect mode : ℕ) (certificate thumbprint : List ℕ) where
   other = not (eqb connect 2) && not (eqb connect 3)
 
   -- The tests of `badDevice` as facts.
-  pub record Device : Type 0 where
-    pub kinds : other ≡ false
-    pub modes : mode ≤ 2
-    pub some : 1 ≤ length certificate
-    pub certificates : length certificate ≤ 2048
-    pub thumbprints : length thumbprint ≤ 512
-
-  pub device : badDevice connect mode certificate thumbprint ≡ false → Device
+  pub device : badDevice connect mode certificate thumbprint ≡ false
+      → (other ≡ false) × (mode ≤ 2) × (1 ≤ length certificate) × (length certificate ≤ 2048) × (length thumbprint ≤ 512)
   device e =
       let t = or-false (other || badMode mode || eqb (length certificate) 0 || ltb 2048 (length certificate)) (ltb 512 (length thumbprint)) e in
       let c = or4-false other (badMode mode) (eqb (length certificate) 0) (ltb 2048 (length certificate)) (t .0) in
       let n = eqb-false (length certificate) 0 (c .2) in
-      record {
-        kinds = c .0;
-        modes = ltb-false 2 mode (c .1);
-        some = omega arith;
-        certificates = ltb-false 2048 (length certificate) (c .3);
-        thumbprints = ltb-false 512 (length thumbprint) (t .1);
-      }
+      (c .0, ltb-false 2 mode (c .1), omega arith, ltb-false 2048 (length certificate) (c .3), ltb-false 512 (length thumbprint) (t .1))

@@ -1,11 +1,11 @@
 -- SPDX-License-Identifier: MPL-2.0
 -- Laws of `written` and `output`: by the refusal, and for a writer whose stores make one run from the start of its output.
 use Prim.Native.Nat.{ℕ, _≤_, _<_}
-use mathlib.Core.Path.{_≡_, refl, sym, ap, _∙_}
-use mathlib.Core.List.{List, [], _∷_, _++_}
+use mathlib.Core.Path.{_≡_, refl, sym, _∙_}
+use mathlib.Core.List.{List, [], _∷_}
 use mathlib.Core.Bool.{Bool, true, false}
 use borrow.Author.Tests.{eq-eqb, ne-eqb, ltb-false, lt-ltb, le-ltb}
-use lib.ListN.{length, drop}
+use lib.ListN.{length}
 use lib.Seq.{sets}
 use lib.Dec.{ltb}
 use Rattle.laws.proofs.Firsts.{first-quiet}
@@ -31,7 +31,7 @@ module _ {bad : Bool} (size room : ℕ) where
 module _ (bad : Bool) (size : ℕ) (bytes out : List ℕ) (n : ℕ) (told : n ≡ putRefusal bad size (length out)) where
   pub refused : (n ≡ 0 → ⊥) → (Refused n ≡ written bad size out) × (out ≡ output bad size bytes out)
   unfolding written output
-  refused p = (rw (← told, ne-eqb n 0 p), rw (← told, ne-eqb n 0 p))
+  refused p = rw (← told, ne-eqb n 0 p) (refl, refl)
 
   pub roomy : n ≡ 0 → size ≤ length out
   unfolding putRefusal
@@ -40,7 +40,4 @@ module _ (bad : Bool) (size : ℕ) (bytes out : List ℕ) (n : ℕ) (told : n �
   pub wrote : n ≡ 0 → length bytes ≡ size → {l : List ℕ} → l ≡ sets out 0 bytes
       → (Bytes size ≡ written bad size out) × (l ≡ output bad size bytes out)
   unfolding written output
-  wrote z e p = (
-    rw (← told, eq-eqb n 0 z),
-    rw (← told, eq-eqb n 0 z, p) (sets-start bytes out (rw e (roomy z)) ∙ ap (λ (k : ℕ). bytes ++ drop k out) e),
-  )
+  wrote z e p = rw (← told, eq-eqb n 0 z, p, ← e) (refl, sets-start bytes out (rw e (roomy z)))

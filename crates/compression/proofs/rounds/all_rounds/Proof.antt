@@ -19,12 +19,8 @@ Inv-loop w₀ x₀ t₀ w x t =
 abbrev μ-loop : tie.MeasureT-loop
 μ-loop w₀ x₀ t₀ w x t = 64 - t
 
-pub all-rounds-spec : {M : Type 1} → statement M
-unfolding schedule rounds
-all-rounds-spec =
-    tie.close (tie.spec
-    Inv-loop μ-loop (λ c. search needs) (λ c κs. search needs) (λ c κs. search needs) (λ c. search needs) (λ c. search needs)
-    (λ c.
+loop-again : tie.Need-loop-again Inv-loop μ-loop
+loop-again c =
     let b = c .before .before .before .before .before in
     let l = b .loop in
     let w = b .before .args .w .now in
@@ -38,7 +34,11 @@ all-rounds-spec =
       stands,
       c .four-rounds .ensures (schedule m 48)
           (λ i h. schedule-words m _ (min (l .t + 4) 48) i sixteen (omega arith) stands (omega arith)) _ (l .inv .4),
-    ))
-    λ c.
-    let e : c .before .loop .t ≡ 64 = omega arith in
-    rw e at (c .before .loop .inv .4))
+    )
+
+pub all-rounds-spec : {M : Type 1} → statement M
+unfolding schedule rounds
+all-rounds-spec =
+    tie.close (tie.spec
+    Inv-loop μ-loop (λ c. search needs) (λ c κs. search needs) (λ c κs. search needs) (λ c. search needs) (λ c. search needs) loop-again
+    λ c. let e : c .before .loop .t ≡ 64 = omega arith in rw e at (c .before .loop .inv .4))

@@ -3,7 +3,7 @@
 use mathlib.Core.Path.{_≡_, refl}
 use native.Mathlib.Omega.{arith}
 use lib.ListN.{length}
-use Rattle.lines.proofs.Turns.{Reached, reached-first, reached-within, reached-more, reached-stop, reached-last}
+use Rattle.lines.proofs.Turns.{Reached, reached-first, reached-more, reached-stop, reached-last}
 use borrow.Author.Needs.{needs}
 use Rattle.lines.proofs.listing.list.Statement.{statement}
 use Rattle.lines.proofs.listing.list.Tie as tie
@@ -27,7 +27,8 @@ loop-again c =
 pub list-spec : {M : Type 1} → statement M
 list-spec =
     tie.close (tie.spec
-    Inv-loop μ-loop (λ c. search needs) (λ c. (reached-first _ _ _, refl)) (λ c κs. reached-within _ _ _ (c .before .before .before .loop .inv .0))
+    Inv-loop μ-loop (λ c. search needs) (λ c. (reached-first _ _ _, refl))
+    (λ c κs. let r = c .before .before .before .loop .inv .0 in rw (r .is) (r .within))
     (λ c. search needs) (λ c. search needs) loop-again
     (λ c. search needs) (λ c. reached-stop _ _ _ (c .before .before .loop .inv .0) (c .if1 .left))
     (λ c. search needs) λ c. reached-last _ _ _ (c .before .loop .inv .0) (omega arith))

@@ -42,9 +42,10 @@ returns-2 : tie.Need-returns-2
 returns-2 c =
     let told = c .before .before in
     let found = told .before .before .before .before in
-    let read = found .before .before .before .before .before .before .before .before .args .run .read in
+    let seen = found .before .before in
+    let read = seen .before .before .before .before .before .before .args .run .read in
     let k : read + found .found .given .0 .0 - read ≡ found .found .given .0 .0 = omega arith in
-    rw (at-ahead (found .before .before), found .found .given .1) (rw k at (told .tell .ensures))
+    rw (at-ahead seen, found .found .given .1) (rw k at (told .tell .ensures))
 
 pub turn-spec : {M : Type 1} → statement M
 turn-spec =

@@ -19,18 +19,19 @@ Inv-loop block₀ part ahead at from to i₀ block i =
 abbrev μ-loop : tie.MeasureT-loop
 μ-loop block₀ part ahead at from to i₀ block i = to - i
 
+loop-again : tie.Need-loop-again Inv-loop μ-loop
+loop-again c =
+    let l = c .before .before .loop in (
+      search needs,
+      search needs,
+      λ front n e. laid-more front _ _ _ n (l .block) (l .i) (omega arith) (omega arith) (omega arith) (omega arith) (l .inv .2 front n e),
+    )
+
 pub lay-spec : {M : Type 1} → statement M
 lay-spec =
     tie.close (tie.spec
     Inv-loop μ-loop (λ c. (search needs, search needs, λ front l e. e ∙ laid-first front _ _ _ l _ (omega arith) (c .pre .3)))
     (λ c. search needs) (λ c. search needs) (λ c. search needs) (λ c. search needs) (λ c. search needs) (λ c. search needs)
-    (λ c.
-    let l = c .before .before .loop in (
-      search needs,
-      search needs,
-      λ front n e. laid-more front _ _ _ n (l .block) (l .i) (omega arith) (omega arith) (omega arith) (omega arith) (l .inv .2 front n e),
-    ))
-    (λ c. search needs)
-    λ c.
+    loop-again (λ c. search needs) λ c.
     let l = c .before .loop in
     (search needs, λ front n e. l .inv .2 front n e ∙ laid-last front _ _ _ n (l .i) _ (omega arith) (c .before .before .pre .6)))
