@@ -54,17 +54,13 @@ module _ (c : Connection) (low : 1 ≤ c .state) (high : c .state ≤ 3) where
       (λ j f. kept (j .progress))
 
 -- Failure is named by one row, whose verdict is 0.
-module _ (c : Connection) (v : ℕ) where
-  abbrev Judged : Stepped → Type 0
-  Judged s = s .answer ≡ Failure → v ≡ 0
-
-  connect-judged : (session : ℕ) (p : List ℕ) → Judged (connect c session p v)
-  connect-judged session p =
-      connect-cases c session p v Judged (λ n e. apart (cc)) (λ t e. apart (cc)) (λ t s e. apart (cc)) (λ t s e. apart (cc)) (λ z e. z)
-      (λ t s e. apart (cc))
-
 pub only-by-zero : OnlyByZero
 only-by-zero p x =
+    let c = p .connection in
     let v = x .verdict in
-    step-has (p .connection) (x .message) (x .keys) (x .working) (p .report) v (Judged (p .connection) v) (λ n e. apart (cc))
-    (connect-judged (p .connection) v) (λ j e. absurd (arrival-apart (j .answer) .1 e))
+    let Judged : Stepped → Type 0 = λ s. s .answer ≡ Failure → v ≡ 0 in
+    step-has c (x .message) (x .keys) (x .working) (p .report) v Judged (λ n e. apart (cc))
+    (λ session q.
+    connect-cases c session q v Judged (λ n e. apart (cc)) (λ t e. apart (cc)) (λ t s e. apart (cc)) (λ t s e. apart (cc)) (λ z e. z)
+    (λ t s e. apart (cc)))
+    (λ j e. absurd (arrival-apart (j .answer) .1 e))
