@@ -5,8 +5,7 @@ use mathlib.Core.Path.{_≡_, sym, ap, _∙_}
 use mathlib.Core.List.{List, []}
 use mathlib.Core.Bool.{Bool, true, cond}
 use lib.ListN.{length}
-use lib.Dec.{eqb}
-use borrow.Author.Tests.{eqb-true, le-ltb}
+use borrow.Author.Tests.{le-ltb}
 use Rattle.laws.proofs.Cases.{on}
 use Rattle.laws.proofs.Firsts.{neither}
 use Rattle.wire.specs.Chain.{leaves}
@@ -23,7 +22,7 @@ use Rattle.message.specs.declared.reading.MessageRead.the-variants.{Refused, Re
 use Rattle.message.proofs.HandedBack.{handed-opened}
 use Rattle.promises.specs.Refusals.{sealed, start}
 use Rattle.promises.specs.Written.{ReadAs}
-use Rattle.promises.proofs.Apart.{apart}
+use Rattle.promises.proofs.Apart.{apart, unrefused}
 use Rattle.promises.proofs.ReaderNumber.{whatIsRead, early, readerNumber, read-by-number}
 
 -- What the choosing function hands out by what the reader answered.
@@ -35,10 +34,7 @@ module _ (m keys : List ℕ) where
   -- Where a message was read, nothing was refused.
   read-none : (room : ℕ) (h : Header) (s : Bool) (from size : ℕ) → readMessage m keys room ≡ Read h s from size
       → (readerNumber m keys room ≡ 0) × (whatIsRead m keys ≡ Read h s from size)
-  read-none room h s from size r =
-      let n = readerNumber m keys room in
-      let q = sym (read-by-number m keys room) ∙ r in
-      on (eqb n 0) (λ e. (eqb-true n 0 e, rw e at q)) (λ e. let k = rw e at q in apart (cc))
+  read-none room h s from size r = unrefused (readerNumber m keys room) _ _ (sym (read-by-number m keys room) ∙ r) (λ e. apart (cc))
 
   -- Nor is anything with another working buffer that is long enough.
   other-none : (room other : ℕ) → readerNumber m keys room ≡ 0 → (sealed m ≡ true → length (sealedPart m (start m)) ≤ other)
