@@ -2,7 +2,11 @@
 -- Two answers of different kinds are not the same: `cc` makes 0 ≡ 1 of an equation between them, and from that anything follows.
 use Prim.Native.Nat.{ℕ}
 use mathlib.Core.Path.{_≡_}
+use mathlib.Core.Bool.{cond}
 use native.Mathlib.Omega.{arith}
+use lib.Dec.{eqb}
+use borrow.Author.Tests.{eqb-true}
+use Rattle.laws.proofs.Cases.{on}
 use Rattle.joining.specs.declared.Arrival.{Arrival}
 use Rattle.joining.specs.declared.Arrival.the-variants.{Refused, Taken, Repeat, Complete}
 use Rattle.hub.specs.declared.Answer.the-variants.{Reply, Failure}
@@ -10,6 +14,11 @@ use Rattle.hub.specs.Answers.{answerOf}
 
 pub apart : {A : Type 0} → _≡_ {A = ℕ} 0 1 → A
 apart z = absurd (omega arith)
+
+-- What was answered is no refusal, so nothing was refused.
+pub unrefused : {A : Type 0} (n : ℕ) (done refused : A) {answer : A} → cond (eqb n 0) done refused ≡ answer → (refused ≡ answer → ⊥)
+    → (n ≡ 0) × (done ≡ answer)
+unrefused n done refused e f = on (eqb n 0) (λ z. (eqb-true n 0 z, rw z at e)) (λ z. absurd (f (rw z at e)))
 
 -- What a piece is answered is no reply and no Failure.
 pub arrival-apart : (a : Arrival) → ((t : ℕ) → answerOf a ≡ Reply t → ⊥) × (answerOf a ≡ Failure → ⊥)

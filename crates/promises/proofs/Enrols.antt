@@ -56,11 +56,6 @@ passed F = withDigestAndState (waiting F) (digest (certificate deviceBytes)) 2
 abbrev ready : ℕ → Connection
 ready F = withDigestAndState (passed F) (passed F .digest) 3
 
--- A Connect message leaves the report buffer alone.
-unjoined : (c : Connection) (flags : ℕ) (bytes report : List ℕ) → reportHeard c (header flags) bytes report ≡ report
-unfolding reportHeard
-unjoined c flags bytes report = rw (and-false (not (isForeign c (header flags))))
-
 module _ (F : ℕ) (keys report : List ℕ) (sized : badSize F ≡ false) (of-keys : AreBytes keys) (whole : length keys ≡ 64) where
   abbrev callWith : ℕ → List ℕ → Call
   callWith flags bytes = record { message = messageBytes (header flags) end bytes keys; keys = keys; working = replicate 96 0; verdict = 1 }
@@ -72,11 +67,11 @@ module _ (F : ℕ) (keys report : List ℕ) (sized : badSize F ≡ false) (of-ke
   abbrev Steps : Connection → Connection → ℕ → List ℕ → ℕ → Type 0
   Steps c d flags bytes t = (answer (at c) (callWith flags bytes) ≡ Reply t) × (after (at c) (callWith flags bytes) ≡ at d)
 
-  -- A message whose flags and payload are not refused is written, and what is heard is what the step does.
+  -- A message whose flags and payload are not refused is written, and what is heard is what the step does; the report buffer is left alone.
   steps : (c d : Connection) (flags : ℕ) (bytes : List ℕ) (t : ℕ) → badSize (c .size) ≡ false → flags < 65536 → AreBytes bytes
       → badFlags 2 flags ≡ false → badPayload 2 (isSealed flags) bytes ≡ false → sealedSize (length bytes) ≤ 96
       → hear c (header flags) bytes report 1 ≡ stepped d (Reply t) → Steps c d flags bytes t
-  unfolding writeRefusal badType badPiece mostPieces
+  unfolding writeRefusal badType badPiece mostPieces reportHeard
   steps c d flags bytes t z l b f p n e =
       let h = header flags in
       let k = lengthOf h end bytes in
@@ -85,8 +80,8 @@ module _ (F : ℕ) (keys report : List ℕ) (sized : badSize F ≡ false) (of-ke
       (rw (f, end-allowed, whole, and-false (isSealed flags), p, le-ltb k k (omega arith))) in
       let s = steps-by-state c h end bytes keys (messageBytes h end bytes keys) w (replicate 96 0) report 1 (λ o. n) (omega arith) z in
       let q = s .0 ∙ e in
-      let r = s .1 ∙ unjoined c flags bytes report in
-      (ap (λ (s : Stepped). s .answer) q, λ i. record { connection = q i .connection; report = r i })
+      let r : reportHeard c h bytes report ≡ report = rw (and-false (not (isForeign c h))) in
+      (ap (λ (s : Stepped). s .answer) q, λ i. record { connection = q i .connection; report = (s .1 ∙ r) i })
 
   requests : Steps (blank F) (waiting F) 0 requestBytes 1
   unfolding hear connect host badFlags isSealed badPayload isShaped isConnectionRequest starts exchanges padding sealedSize

@@ -5,8 +5,7 @@ use mathlib.Core.Path.{_≡_, sym, ap, _∙_}
 use mathlib.Core.List.{List, []}
 use mathlib.Core.Bool.{Bool, true, cond}
 use lib.ListN.{length}
-use lib.Dec.{eqb}
-use borrow.Author.Tests.{eqb-true, le-ltb}
+use borrow.Author.Tests.{le-ltb}
 use Rattle.laws.proofs.Cases.{on}
 use Rattle.laws.proofs.Firsts.{neither}
 use Rattle.wire.specs.Chain.{leaves}
@@ -14,7 +13,7 @@ use Rattle.wire.specs.Reader.{headerOf, chainOf, refusalOf}
 use Rattle.wire.specs.declared.header.Header.{Header}
 use Rattle.wire.proofs.Reading.{read-good}
 use Rattle.seal.specs.Padding.{payloadOf}
-use Rattle.seal.specs.Opening.{sealedPart, noPart, partRefusal, openRefusal}
+use Rattle.seal.specs.Opening.{sealedPart, partRefusal, openRefusal}
 use Rattle.seal.proofs.Accepted.{accepted}
 use Rattle.message.specs.Reading.{opened, readMessage, workingAfter}
 use Rattle.message.specs.Handed.{partOf, payload}
@@ -23,16 +22,8 @@ use Rattle.message.specs.declared.reading.MessageRead.the-variants.{Refused, Re
 use Rattle.message.proofs.HandedBack.{handed-opened}
 use Rattle.promises.specs.Refusals.{sealed, start}
 use Rattle.promises.specs.Written.{ReadAs}
-use Rattle.promises.proofs.Apart.{apart}
+use Rattle.promises.proofs.Apart.{apart, unrefused}
 use Rattle.promises.proofs.ReaderNumber.{whatIsRead, early, readerNumber, read-by-number}
-
--- What opens with one working buffer opens with another that is long enough.
-room-only : (keys m : List ℕ) (at room other : ℕ) → openRefusal keys m at room ≡ 0 → length (sealedPart m at) ≤ other
-    → openRefusal keys m at other ≡ 0
-unfolding openRefusal partRefusal
-room-only keys m at room other e l =
-    let ok = accepted keys m at room e in
-    rw (neither (noPart (length m) at) _ e .0, ok .keys64, ok .tag, le-ltb other (length (sealedPart m at)) l, ok .ruled)
 
 -- What the choosing function hands out by what the reader answered.
 abbrev handedBy : List ℕ → List ℕ → MessageRead → List ℕ
@@ -43,19 +34,18 @@ module _ (m keys : List ℕ) where
   -- Where a message was read, nothing was refused.
   read-none : (room : ℕ) (h : Header) (s : Bool) (from size : ℕ) → readMessage m keys room ≡ Read h s from size
       → (readerNumber m keys room ≡ 0) × (whatIsRead m keys ≡ Read h s from size)
-  read-none room h s from size r =
-      let n = readerNumber m keys room in
-      let q = sym (read-by-number m keys room) ∙ r in
-      on (eqb n 0) (λ e. (eqb-true n 0 e, rw e at q)) (λ e. let k = rw e at q in apart (cc))
+  read-none room h s from size r = unrefused (readerNumber m keys room) _ _ (sym (read-by-number m keys room) ∙ r) (λ e. apart (cc))
 
   -- Nor is anything with another working buffer that is long enough.
   other-none : (room other : ℕ) → readerNumber m keys room ≡ 0 → (sealed m ≡ true → length (sealedPart m (start m)) ≤ other)
       → readerNumber m keys other ≡ 0
+  unfolding openRefusal partRefusal
   other-none room other e l =
+      let n = length (sealedPart m (start m)) in
       on (sealed m)
       (λ s.
       let z : openRefusal keys m (start m) room ≡ 0 = rw s at (neither (refusalOf m) _ (neither (early m keys room) _ e .0) .1) in
-      rw (s, room-only keys m (start m) room other z (l s)) (rw (s, z) at e))
+      rw (s, le-ltb other n (l s)) (rw (s, le-ltb room n (accepted keys m (start m) room z .roomy)) at e))
       (λ s. rw s (rw s at e))
 
   -- The payload is that of the plain text or a part of the message, whatever the working buffer held.

@@ -6,8 +6,7 @@ use mathlib.Core.List.{List}
 use mathlib.Core.Bool.{true, false}
 use lib.ListN.{length, drop}
 use lib.Seq.{take-at}
-use lib.Dec.{eqb}
-use borrow.Author.Tests.{eqb-true, le-ltb}
+use borrow.Author.Tests.{le-ltb}
 use Rattle.laws.proofs.Cases.{on}
 use Rattle.wire.specs.Fields.{isSealed}
 use Rattle.wire.specs.declared.header.Header.{Header}
@@ -21,7 +20,7 @@ use Rattle.hub.specs.declared.Connection.{Connection}
 use Rattle.hub.specs.Hear.{hear, reportHeard}
 use Rattle.hub.specs.Step.{step, reportStepped}
 use Rattle.promises.specs.Refusals.{AreBytes}
-use Rattle.promises.proofs.Apart.{apart}
+use Rattle.promises.proofs.Apart.{apart, unrefused}
 use Rattle.promises.specs.Written.{Wrote, ReadAs, ReadsBack, StepsByState}
 
 pub all-bytes : {m : List ℕ} → AreBytes m → AllBytes m
@@ -32,8 +31,8 @@ module _ (h : Header) (chain bytes keys message : List ℕ) (w : Wrote h chain b
   passed : (writeRefusal h chain bytes (length keys) (length (w .output)) ≡ 0) × (lengthOf h chain bytes ≡ w .size)
   unfolding writeAnswer
   passed =
-      on (eqb (writeRefusal h chain bytes (length keys) (length (w .output))) 0)
-      (λ e. let k = rw e at (w .answered) in (eqb-true _ 0 e, cc)) (λ e. let k = rw e at (w .answered) in apart (cc))
+      let k = unrefused (writeRefusal h chain bytes (length keys) (length (w .output))) _ _ (w .answered) (λ e. apart (cc)) in
+      (k .0, cc)
 
   is-message : message ≡ messageBytes h chain bytes keys
   unfolding writtenInto

@@ -3,18 +3,17 @@
 -- read, and what the working buffer then holds, follow from it.
 use Prim.Native.Nat.{ℕ}
 use mathlib.Core.Path.{_≡_}
-use mathlib.Core.List.{List, [], _∷_}
-use mathlib.Core.Bool.{Bool, cond}
+use mathlib.Core.List.{List}
+use mathlib.Core.Bool.{cond}
 use lib.ListN.{length}
 use lib.Dec.{eqb}
 use Rattle.laws.specs.Bytes.{be8, be32}
 use Rattle.laws.specs.Rows.{first, orElse}
 use Rattle.laws.proofs.Cases.{on}
 use Rattle.wire.specs.Chain.{leaves}
-use Rattle.wire.specs.Payload.{badPayload}
 use Rattle.wire.specs.Reader.{headerOf, chainOf, refusalOf, readHeader}
 use Rattle.seal.specs.Opening.{openRefusal, intoUnless, openedInto}
-use Rattle.message.specs.Reading.{opened, unless, plainRead, sealedRead, readMessage, workingAfter}
+use Rattle.message.specs.Reading.{opened, unless, payloadRows, plainRead, sealedRead, readMessage, workingAfter}
 use Rattle.message.specs.declared.reading.MessageRead.{MessageRead}
 use Rattle.message.specs.declared.reading.MessageRead.the-variants.{Read}
 use Rattle.promises.specs.Refusals.{sealed, start, payloadIn}
@@ -25,10 +24,6 @@ module _ (m keys : List ℕ) where
   whatIsRead =
       Read (headerOf m) (sealed m) (cond (sealed m) 4 (start m)) (cond (sealed m) (be32 (opened m keys (start m)) 0) (leaves (chainOf m)))
 
-  -- The row of 14.
-  abbrev pub payloadRow : List (ℕ × Bool)
-  payloadRow = (14, badPayload (be8 m 5) (sealed m) (payloadIn m keys)) ∷ []
-
   module _ (room : ℕ) where
     -- 1 to 13.
     abbrev pub early : ℕ
@@ -36,7 +31,7 @@ module _ (m keys : List ℕ) where
 
     -- 1 to 14.
     abbrev pub readerNumber : ℕ
-    readerNumber = orElse early (first payloadRow)
+    readerNumber = orElse early (first (payloadRows (be8 m 5) (sealed m) (payloadIn m keys)))
 
     pub read-by-number : readMessage m keys room ≡ unless readerNumber whatIsRead
     unfolding readMessage readHeader plainRead sealedRead

@@ -8,7 +8,7 @@ use native.Mathlib.Omega.{arith}
 use lib.ListN.{length}
 use lib.Dec.{eqb}
 use borrow.Author.Tests.{eqb-true, ne-eqb, le-ltb, lt-leb}
-use Rattle.laws.specs.Bytes.{be16}
+use Rattle.laws.specs.Bytes.{be8, be16}
 use Rattle.laws.specs.Rows.{first, orElse}
 use Rattle.laws.proofs.Cases.{on}
 use Rattle.laws.proofs.Firsts.{first-append, first-leads, leads-first}
@@ -18,14 +18,14 @@ use Rattle.wire.specs.declared.header.Header.{Header}
 use Rattle.wire.proofs.Reading.{read-good}
 use Rattle.wire.proofs.Sound as wire
 use Rattle.seal.specs.Opening.{sealedPart, noPart, keyRows, tagRows, partRows, partRefusal, openRefusal}
-use Rattle.message.specs.Reading.{unless, readMessage}
+use Rattle.message.specs.Reading.{unless, payloadRows, readMessage}
 use Rattle.message.specs.Writing.{writeRefusal}
 use Rattle.message.specs.declared.reading.MessageRead.the-variants.{Read}
 use Rattle.joining.specs.Cut.{cutRefusal}
 use Rattle.promises.specs.Examples.{numberOf}
-use Rattle.promises.specs.Refusals.{AreBytes, sealed, start, headerTable, sealedTable, readerTable, ReaderExact}
+use Rattle.promises.specs.Refusals.{AreBytes, sealed, start, headerTable, payloadIn, sealedTable, readerTable, ReaderExact}
 use Rattle.promises.specs.Refusals.{cutTable, CutterExact, writerTable, WriterExact}
-use Rattle.promises.proofs.ReaderNumber.{whatIsRead, payloadRow, early, readerNumber, read-by-number}
+use Rattle.promises.proofs.ReaderNumber.{whatIsRead, early, readerNumber, read-by-number}
 
 pub cutter-exact : CutterExact
 unfolding cutRefusal
@@ -68,8 +68,8 @@ module _ (m keys : List ℕ) (room : ℕ) (bytes : AreBytes m) where
 
   pub reader-first : first (readerTable m keys room) ≡ readerNumber m keys room
   reader-first =
-      first-append (headerTable m ++ sealedTable m keys room) (payloadRow m keys) refl
-      ∙ ap (λ (n : ℕ). orElse n (first (payloadRow m keys))) early-first
+      let row = payloadRows (be8 m 5) (sealed m) (payloadIn m keys) in
+      first-append (headerTable m ++ sealedTable m keys room) row refl ∙ ap (λ (n : ℕ). orElse n (first row)) early-first
 
 number-unless : (n : ℕ) (h : Header) (s : Bool) (from size : ℕ) → numberOf (unless n (Read h s from size)) ≡ n
 number-unless n h s from size = on (eqb n 0) (λ e. rw e (sym (eqb-true n 0 e))) (λ e. rw e)

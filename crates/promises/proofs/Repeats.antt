@@ -51,14 +51,12 @@ known-since h bytes t p w (x ∷ xs) n =
 pub repeated-step : RepeatedStep
 repeated-step p x t e xs n y o =
     let l = replied p x t e in
-    let h = l .header in
-    let bytes = l .bytes in
     let q = afterAll (after p x) xs in
-    let w = known-since h bytes t (after p x) (l .known) xs n in
-    let r : ReadAs h bytes (y .message) (y .keys) (y .working) =
-    rw (o .message, o .keys) (read-again h bytes (x .message) (x .keys) (x .working) (y .working) (l .reads) (o .room)) in
+    let w = known-since _ _ t (after p x) (l .known) xs n in
+    let r : ReadAs (l .header) (l .bytes) (y .message) (y .keys) (y .working) =
+    rw (o .message, o .keys) (read-again _ _ (x .message) (x .keys) (x .working) (y .working) (l .reads) (o .room)) in
     let a : answer q y ≡ Again t =
     ap (λ (s : Stepped). s .answer)
-    (step-hears (q .connection) h bytes (y .message) (y .keys) (y .working) (q .report) (y .verdict) (w .sized) (o .verdict) r .0
-    ∙ again (q .connection) h bytes (q .report) (y .verdict) t w) in
+    (step-hears (q .connection) _ _ (y .message) (y .keys) (y .working) (q .report) (y .verdict) (w .sized) (o .verdict) r .0
+    ∙ again (q .connection) _ _ (q .report) (y .verdict) t w) in
     (a, still q y (ap isQuiet a))

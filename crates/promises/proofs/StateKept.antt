@@ -10,7 +10,7 @@ use Rattle.hub.specs.declared.Connection.{Connection}
 use Rattle.hub.specs.declared.Stepped.{Stepped}
 use Rattle.hub.specs.declared.Answer.the-variants.{Failure}
 use Rattle.hub.specs.Host.{withDigestAndState}
-use Rattle.hub.specs.Hear.{certificate, connect, withProgress}
+use Rattle.hub.specs.Hear.{certificate, withProgress}
 use Rattle.hub.specs.Step.{step}
 use Rattle.hub.specs.Calls.{Call}
 use Rattle.hub.proofs.HostWays.{connect-cases}
@@ -41,30 +41,24 @@ module _ (c : Connection) (low : 1 ≤ c .state) (high : c .state ≤ 3) where
   kept : (q : Progress) → Keeps c (withProgress c q)
   kept q = moved (c .digest) (c .state) q (omega arith) high (λ l. refl)
 
-  connect-kept : (v session : ℕ) (p : List ℕ) → Kept (connect c session p v)
-  connect-kept v session p =
-      connect-cases c session p v Kept (λ n f. kept (c .progress)) (λ t f. kept (c .progress)) (λ t z f. absurd (omega arith))
-      (λ t z f. moved (digest (certificate p)) 2 (c .progress) (omega arith) (omega arith) (λ l. absurd (omega arith)))
-      (λ z f. absurd (f refl))
-      (λ t z f. moved (c .digest) 3 (c .progress) (omega arith) (omega arith) (λ l. refl))
-
   pub step-kept : (b : List ℕ) (x : Call) → Kept (step c (x .message) (x .keys) (x .working) b (x .verdict))
   step-kept b x =
-      step-has c (x .message) (x .keys) (x .working) b (x .verdict) Kept (λ n f. kept (c .progress)) (connect-kept (x .verdict))
+      step-has c (x .message) (x .keys) (x .working) b (x .verdict) Kept (λ n f. kept (c .progress))
+      (λ session p.
+      connect-cases c session p (x .verdict) Kept (λ n f. kept (c .progress)) (λ t f. kept (c .progress)) (λ t z f. absurd (omega arith))
+      (λ t z f. moved (digest (certificate p)) 2 (c .progress) (omega arith) (omega arith) (λ l. absurd (omega arith)))
+      (λ z f. absurd (f refl))
+      (λ t z f. moved (c .digest) 3 (c .progress) (omega arith) (omega arith) (λ l. refl)))
       (λ j f. kept (j .progress))
 
 -- Failure is named by one row, whose verdict is 0.
-module _ (c : Connection) (v : ℕ) where
-  abbrev Judged : Stepped → Type 0
-  Judged s = s .answer ≡ Failure → v ≡ 0
-
-  connect-judged : (session : ℕ) (p : List ℕ) → Judged (connect c session p v)
-  connect-judged session p =
-      connect-cases c session p v Judged (λ n e. apart (cc)) (λ t e. apart (cc)) (λ t s e. apart (cc)) (λ t s e. apart (cc)) (λ z e. z)
-      (λ t s e. apart (cc))
-
 pub only-by-zero : OnlyByZero
 only-by-zero p x =
+    let c = p .connection in
     let v = x .verdict in
-    step-has (p .connection) (x .message) (x .keys) (x .working) (p .report) v (Judged (p .connection) v) (λ n e. apart (cc))
-    (connect-judged (p .connection) v) (λ j e. absurd (arrival-apart (j .answer) .1 e))
+    let Judged : Stepped → Type 0 = λ s. s .answer ≡ Failure → v ≡ 0 in
+    step-has c (x .message) (x .keys) (x .working) (p .report) v Judged (λ n e. apart (cc))
+    (λ session q.
+    connect-cases c session q v Judged (λ n e. apart (cc)) (λ t e. apart (cc)) (λ t s e. apart (cc)) (λ t s e. apart (cc)) (λ z e. z)
+    (λ t s e. apart (cc)))
+    (λ j e. absurd (arrival-apart (j .answer) .1 e))

@@ -54,13 +54,6 @@ loud-first (row ∷ rows) other l =
 
 module _ (c : Connection) (h : Header) (p b : List ℕ) (v : ℕ) (sized : badSize (c .size) ≡ false)
     (indexed : badIndex (h .count) (h .index) ≡ false) where
-  abbrev rows : List (Bool × Stepped)
-  rows = hostRows c (connectType p) (h .session) (readRequest p) (digest (certificate p)) v
-
-  connect-number : number (connect c (h .session) p v) ≡ cond (not (anyOf rows)) 15 0
-  unfolding connect host
-  connect-number = loud-first rows (refuse c 15) refl
-
   -- Joining's refusal is the step's.
   join-number : number (joined c (join (c .size) (c .progress) (pieceIn h) p b)) ≡ joinRefusal (c .size) (c .progress) (pieceIn h) p b
   join-number =
@@ -68,9 +61,11 @@ module _ (c : Connection) (h : Header) (p b : List ℕ) (v : ℕ) (sized : badSi
       (λ z. refl) (λ z k. sym z) (λ z k d. sym z) (λ z k d. sym z)
 
   hear-number : number (hear c h p b v) ≡ first (hostTable c h p b v)
-  unfolding joinRefusal
+  unfolding connect host joinRefusal
   hear-number =
-      hear-cases c h p b v (λ s b′. number s ≡ first (hostTable c h p b v)) (λ f. rw f) (λ f k. rw (f, k, connect-apart c h k) connect-number)
+      let rows = hostRows c (connectType p) (h .session) (readRequest p) (digest (certificate p)) v in
+      hear-cases c h p b v (λ s b′. number s ≡ first (hostTable c h p b v)) (λ f. rw f)
+      (λ f k. rw (f, k, connect-apart c h k) (loud-first rows (refuse c 15) refl))
       (λ f j. rw (f, j) (join-number ∙ rw (sized, indexed)))
       (λ f k j. rw (f, k, j))
 

@@ -7,9 +7,10 @@ use mathlib.Core.List.{List, [], _∷_}
 use mathlib.Core.Bool.{Bool, true, false, _&&_}
 use native.Mathlib.Omega.{arith}
 use lib.ListN.{length, replicate}
-use lib.Dec.{ltb}
-use borrow.Author.Tests.{ltb-true}
+use lib.Dec.{ltb, eqb}
+use borrow.Author.Tests.{ltb-true, eq-eqb, eqb-false}
 use Rattle.laws.proofs.Bools.{and-true}
+use Rattle.laws.proofs.Cases.{on}
 use Rattle.wire.specs.Fields.{mostPieces}
 use Rattle.wire.specs.Chain.{entryOf, chain, mostEntries, readChain, badChain}
 use Rattle.wire.specs.Payload.{readRequest}
@@ -29,7 +30,7 @@ use Rattle.promises.specs.Reports.{Sending, began, fragments, fragment, 
 use Rattle.promises.specs.Met.{Typed, Choice, Good, callFor}
 use Rattle.promises.proofs.ReportsJoined.{demand-three}
 use Rattle.promises.proofs.Writes.{not-longer, can-be-sent}
-use Rattle.joining.specs.Events.{Event, piece, between, came, LastMissing}
+use Rattle.joining.specs.Events.{Event, piece, between, LastMissing}
 use Rattle.hub.specs.Calls.{Call, Standing, answer}
 
 -- A list whose elements are tested to be bytes.
@@ -111,13 +112,7 @@ ten-bytes-course =
     (rests (nothing-refused _) (brings {i = 0} (omega arith) (sent 0 (omega arith)) (brings {i = 2} (omega arith) (sent 2 (omega arith)) done)))
 
 last-missing : LastMissing (fragments tenBytes) 1 eventsBefore
-last-missing = (refl, others)
-  where
-    others : (j : ℕ) → j < 3 → (j ≡ 1 → ⊥) → came j eventsBefore ≡ true
-    others zero l n = refl
-    others (suc zero) l n = absurd (n refl)
-    others (suc (suc zero)) l n = refl
-    others (suc (suc (suc j))) l n = absurd (omega arith)
+last-missing = (refl, λ j l n. on (eqb j 2) (λ e. rw e) (λ e. rw (e, eq-eqb j 0 (omega (arith, eqb-false j 2 e)))))
 
 -- Fragment 1 brings the report.
 pub ten-bytes-handed-out : HandedOut tenBytes before eventsBefore 1 (callFor tenBytes 1 choice)

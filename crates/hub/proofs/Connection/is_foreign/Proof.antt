@@ -1,0 +1,8 @@
+-- SPDX-License-Identifier: MPL-2.0
+-- The code is the definition.
+use mathlib.Core.Path.{refl}
+use Rattle.hub.proofs.Connection.is_foreign.Statement.{statement}
+use Rattle.hub.proofs.Connection.is_foreign.Tie as tie
+
+pub is-foreign-spec : {M : Type 1} → statement M
+is-foreign-spec = tie.close (tie.spec (λ c. refl))
