@@ -3,10 +3,11 @@
 use Prim.Native.Nat.{ℕ, zero, suc, _+_, _-_, _≤_, _<_}
 use mathlib.Core.Path.{_≡_, refl}
 use mathlib.Core.List.{List}
-use mathlib.Core.Bool.{Bool, true, false, cond, not, true≢false}
+use mathlib.Core.Bool.{true, false, not, true≢false}
 use borrow.Author.Tests.{ltb-false}
 use lib.Dec.{ltb, eqb}
 use Rattle.laws.specs.Bytes.{be8}
+use Rattle.laws.proofs.Cases.{on}
 use Rattle.laws.proofs.Bools.{or-false}
 use native.Mathlib.Omega.{arith}
 use native.Mathlib.Numerals.{sub-one}
@@ -18,25 +19,22 @@ use Rattle.wire.specs.declared.chain.Entry.{Entry}
 use Rattle.wire.specs.declared.chain.Chain.the-variants.{Leaves, Broken}
 use Rattle.wire.specs.declared.chain.Entry.the-variants.{End, Spans, Wrong}
 
-pub chain-wrong : (left : ℕ) (m : List ℕ) → entryOf m ≡ Wrong → chain left m ≡ Broken
-unfolding chain
-chain-wrong zero m e = rw e
-chain-wrong (suc left) m e = rw e
+-- What follows an entry: a chain with one entry less before its end, or none where that is no more.
+abbrev pub after : ℕ → List ℕ → Chain
+after zero m = Broken
+after (suc left) m = chain left m
 
-pub chain-end : (left : ℕ) (m : List ℕ) → entryOf m ≡ End → chain left m ≡ Leaves (length m - 2)
+pub chain-at : (left : ℕ) (m : List ℕ) {e : Entry} → entryOf m ≡ e → chain left m ≡ follow e m (after left)
 unfolding chain
-chain-end zero m e = rw e
-chain-end (suc left) m e = rw e
+chain-at zero m p = rw p
+chain-at (suc left) m p = rw p
 
-pub chain-full : (left : ℕ) (m : List ℕ) (n : ℕ) → left ≡ 0 → entryOf m ≡ Spans n → chain left m ≡ Broken
-unfolding chain
-chain-full zero m n z e = rw e
-chain-full (suc left) m n z e = absurd (omega arith)
+pub after-none : (left : ℕ) (m : List ℕ) → left ≡ 0 → after left m ≡ Broken
+after-none left m z = rw z
 
-pub chain-more : (left : ℕ) (m : List ℕ) (n : ℕ) → (left ≡ 0 → ⊥) → entryOf m ≡ Spans n → chain left m ≡ chain (left - 1) (drop n m)
-unfolding chain
-chain-more zero m n nz e = absurd (nz refl)
-chain-more (suc left) m n nz e = rw (e, sub-one)
+pub after-less : (left : ℕ) (m : List ℕ) → (left ≡ 0 → ⊥) → after left m ≡ chain (left - 1) m
+after-less zero m z = absurd (z refl)
+after-less (suc left) m z = rw sub-one
 
 -- An entry lies within k bytes.
 abbrev entryWithin : Entry → ℕ → Type 0
@@ -45,18 +43,14 @@ entryWithin (Spans n) k = (2 ≤ n) × (n ≤ k)
 entryWithin Wrong k = Unit
 
 -- What `entryOf` finds lies within the bytes.
-tested : (m : List ℕ) (a b c d e : Bool) → ltb (length m) 2 ≡ a → ltb (length m) (2 + be8 m 1) ≡ e
-    → entryWithin (cond a Wrong (cond b (cond c End Wrong) (cond d Wrong (cond e Wrong (Spans (2 + be8 m 1)))))) (length m)
-tested m true b c d e p q = tt
-tested m false true true d e p q = ltb-false (length m) 2 p
-tested m false true false d e p q = tt
-tested m false false c true e p q = tt
-tested m false false c false true p q = tt
-tested m false false c false false p q = (omega arith, ltb-false (length m) (2 + be8 m 1) q)
-
 within : (m : List ℕ) → entryWithin (entryOf m) (length m)
 unfolding entryOf
-within m = tested m _ (eqb (be8 m 0) 0) (eqb (be8 m 1) 0) (ltb 3 (be8 m 0)) _ refl refl
+within m =
+    on (ltb (length m) 2) (λ p. rw p tt)
+    (λ p. on (eqb (be8 m 0) 0) (λ q. on (eqb (be8 m 1) 0) (λ r. rw (p, q, r) (ltb-false (length m) 2 p)) (λ r. rw (p, q, r) tt))
+    (λ q. on (ltb 3 (be8 m 0)) (λ r. rw (p, q, r) tt)
+    (λ r. on (ltb (length m) (2 + be8 m 1)) (λ s. rw (p, q, r, s) tt)
+    (λ s. rw (p, q, r, s) (omega arith, ltb-false (length m) (2 + be8 m 1) s)))))
 
 pub spans-within : (m : List ℕ) {n : ℕ} → entryOf m ≡ Spans n → (2 ≤ n) × (n ≤ length m)
 spans-within m p = rw p at (within m)
@@ -79,7 +73,7 @@ followed m (Spans n) next p h b = omega (arith, h (drop n m) b, length-drop n m)
 
 leaves-less : (left : ℕ) (m : List ℕ) → isBroken (chain left m) ≡ false → leaves (chain left m) + 2 ≤ length m
 unfolding chain
-leaves-less zero m b = followed m (entryOf m) (λ rest. Broken) refl (λ rest p. absurd (true≢false p)) b
+leaves-less zero m b = followed m (entryOf m) (after zero) refl (λ rest p. absurd (true≢false p)) b
 leaves-less (suc left) m b = followed m (entryOf m) (chain left) refl (leaves-less left) b
 
 -- Fixed header, chain, what it leaves, tag: all lies within the message.
@@ -91,8 +85,5 @@ room-left tag m b =
 -- A chain that the writer accepts has its end at least.
 pub chain-long : (given : List ℕ) → badChain given ≡ false → 2 ≤ length given
 unfolding badChain readChain
-chain-long given b = omega (
-  arith,
-  leaves-less mostEntries given (or-false (isBroken (readChain given))
-      (not (eqb (leaves (readChain given)) 0)) b .0),
-)
+chain-long given b =
+    omega (arith, leaves-less mostEntries given (or-false (isBroken (readChain given)) (not (eqb (leaves (readChain given)) 0)) b .0))

@@ -5,7 +5,7 @@ use lib.ListN.{length}
 use borrow.Author.Needs.{needs}
 use native.Mathlib.Omega.{arith}
 use Rattle.laws.proofs.Lists.{part-from, part-shorter}
-use Rattle.wire.proofs.Chains.{spans-within, end-within, chain-wrong, chain-end, chain-full, chain-more}
+use Rattle.wire.proofs.Chains.{spans-within, end-within, chain-at, after-none, after-less}
 use Rattle.wire.specs.Chain.{chain}
 use Prim.Native.Nat.{ℕ, _<_}
 use borrow.Fn.Kinds.{In}
@@ -35,7 +35,7 @@ pub +walk-spec : {M : Type 1} → statement M
     (λ c. search needs)
     (λ c. end-within _ (sym (c .before .before .read-entry .ensures) ∙ c .enum-told2 .given .1))
     (λ c. search needs)
-    (λ c. sym (chain-full _ _ _ (c .if1 .taken) (sym (c .before .before .before .before .read-entry .ensures) ∙ c .before .before .n .given .1)))
+    (λ c. sym (chain-at _ _ (sym (c .before .before .before .before .read-entry .ensures) ∙ c .before .before .n .given .1) ∙ after-none _ _ (c .if1 .taken)))
     (λ c. spans-within _ (sym (c .before .before .before .before .read-entry .ensures) ∙ c .before .before .n .given .1) .1)
     (λ c. spans-within _ (sym (c .before .before .before .before .read-entry .ensures) ∙ c .before .before .n .given .1) .1)
     (λ c. search needs)
@@ -43,9 +43,9 @@ pub +walk-spec : {M : Type 1} → statement M
     (λ c κs. let s = c .before .before .before .before .before .before .before in let w = spans-within _
     (sym (c .before .before .before .before .before .read-entry .ensures) ∙ c .before .before .before .n .given .1) in
     (part-shorter (s .args .room .now) _ t (s .pre .0) (omega arith) (w .1), tt))
-    (λ c. sym (chain-wrong _ _ (sym (c .before .before .read-entry .ensures) ∙ c .enum-told .given .1)))
-    (λ c. sym (chain-end _ _ (sym (c .before .before .read-entry .ensures) ∙ c .enum-told2 .given .1)))
+    (λ c. sym (chain-at _ _ (sym (c .before .before .read-entry .ensures) ∙ c .enum-told .given .1)))
+    (λ c. sym (chain-at _ _ (sym (c .before .before .read-entry .ensures) ∙ c .enum-told2 .given .1)))
     (λ c. let s = c .before .before .before .before .before .before .before .before in c .walk .ensures
     ∙ ap (chain _) (part-from (s .args .room .now) (c .before .before .before .before .n .given .0 .0))
-    ∙ sym (chain-more _ _ _ (c .before .before .if1 .left)
-    (sym (c .before .before .before .before .before .before .read-entry .ensures) ∙ c .before .before .before .before .n .given .1)))
+    ∙ sym (chain-at _ _ (sym (c .before .before .before .before .before .before .read-entry .ensures) ∙ c .before .before .before .before .n .given .1)
+    ∙ after-less _ _ (c .before .before .if1 .left)))

@@ -5,18 +5,10 @@ use Rattle.wire.proofs.header.fields.Tie as tie
 
 returns : tie.Need-returns
 returns c =
-    let flags = c .before .before .before .before .before .before in
     let index = c .before .before .before in
-    rw (
-      c .number643 .ensures,
-      c .before .number642 .ensures,
-      c .before .before .number163 .ensures,
-      index .number162 .ensures,
-      index .before .number64 .ensures,
-      index .before .before .number32 .ensures,
-      flags .number16 .ensures,
-      flags .before .byte .ensures,
-    )
+    let flags = index .before .before .before in
+    rw (c .number643 .ensures, c .before .number642 .ensures, c .before .before .number163 .ensures, index .number162 .ensures)
+    (rw (index .before .number64 .ensures, index .before .before .number32 .ensures, flags .number16 .ensures, flags .before .byte .ensures))
 
 pub fields-spec : {M : Type 1} → statement M
 fields-spec = tie.close (tie.spec _ _ _ _ _ _ _ _ returns)
