@@ -1,17 +1,18 @@
 -- SPDX-License-Identifier: MPL-2.0
 -- Laws of `chain`, each for one case of the entry at its start.
 use Prim.Native.Nat.{ℕ, zero, suc, _+_, _-_, _≤_, _<_}
-use mathlib.Core.Path.{_≡_, refl}
+use mathlib.Core.Path.{_≡_, refl, sym, _∙_}
 use mathlib.Core.List.{List}
 use mathlib.Core.Bool.{true, false, not, true≢false}
 use borrow.Author.Tests.{ltb-false}
 use lib.Dec.{ltb, eqb}
 use Rattle.laws.specs.Bytes.{be8}
+use Rattle.laws.proofs.Lists.{part-from, part-shorter}
 use Rattle.laws.proofs.Cases.{on}
 use Rattle.laws.proofs.Bools.{or-false}
 use native.Mathlib.Omega.{arith}
 use native.Mathlib.Numerals.{sub-one}
-use lib.ListN.{length, drop, length-drop, length-take}
+use lib.ListN.{length, take, drop, length-drop, length-take}
 use Rattle.wire.specs.Chain.{entryOf, follow, chain, readChain, mostEntries, leaves, isBroken, badChain}
 use Rattle.wire.specs.Reader.{roomOf}
 use Rattle.wire.specs.declared.chain.Chain.{Chain}
@@ -20,19 +21,16 @@ use Rattle.wire.specs.declared.chain.Chain.the-variants.{Leaves, Broken}
 use Rattle.wire.specs.declared.chain.Entry.the-variants.{End, Spans, Wrong}
 
 -- What follows an entry: a chain with one entry less before its end, or none where that is no more.
-abbrev pub after : ℕ → List ℕ → Chain
+abbrev after : ℕ → List ℕ → Chain
 after zero m = Broken
 after (suc left) m = chain left m
 
-pub chain-at : (left : ℕ) (m : List ℕ) {e : Entry} → entryOf m ≡ e → chain left m ≡ follow e m (after left)
+chain-at : (left : ℕ) (m : List ℕ) {e : Entry} → entryOf m ≡ e → chain left m ≡ follow e m (after left)
 unfolding chain
 chain-at zero m p = rw p
 chain-at (suc left) m p = rw p
 
-pub after-none : (left : ℕ) (m : List ℕ) → left ≡ 0 → after left m ≡ Broken
-after-none left m z = rw z
-
-pub after-less : (left : ℕ) (m : List ℕ) → (left ≡ 0 → ⊥) → after left m ≡ chain (left - 1) m
+after-less : (left : ℕ) (m : List ℕ) → (left ≡ 0 → ⊥) → after left m ≡ chain (left - 1) m
 after-less zero m z = absurd (z refl)
 after-less (suc left) m z = rw sub-one
 
@@ -57,6 +55,30 @@ spans-within m p = rw p at (within m)
 
 pub end-within : (m : List ℕ) → entryOf m ≡ End → 2 ≤ length m
 end-within m p = rw p at (within m)
+
+-- The walk at m, by the entry e that was read there: where it stops, what it answers; where it goes on, what is left falls.
+module _ (left : ℕ) (m : List ℕ) (e : Entry) (read : e ≡ entryOf m) where
+  pub walk-wrong : e ≡ Wrong → Broken ≡ chain left m
+  walk-wrong p = rw (chain-at left m (sym read ∙ p))
+
+  pub walk-end : e ≡ End → Leaves (length m - 2) ≡ chain left m
+  walk-end p = rw (chain-at left m (sym read ∙ p))
+
+  pub walk-full : (n : ℕ) → e ≡ Spans n → left ≡ 0 → Broken ≡ chain left m
+  walk-full n p z = rw (chain-at left m (sym read ∙ p), z)
+
+  pub walk-on : (n : ℕ) (r : Chain) → e ≡ Spans n → (left ≡ 0 → ⊥) → r ≡ chain (left - 1) (take (length m - n) (drop n m)) → r ≡ chain left m
+  walk-on n r p z q = rw (chain-at left m (sym read ∙ p), after-less left (drop n m) z, ← part-from m n) q
+
+module _ (m : List ℕ) (e : Entry) (read : e ≡ entryOf m) where
+  pub end-fits : e ≡ End → 2 ≤ length m
+  end-fits p = end-within m (sym read ∙ p)
+
+  pub span-fits : (n : ℕ) → e ≡ Spans n → n ≤ length m
+  span-fits n p = spans-within m (sym read ∙ p) .1
+
+  pub span-less : (n t : ℕ) → e ≡ Spans n → length m ≡ t → length (take (length m - n) (drop n m)) < t
+  span-less n t p q = let w = spans-within m (sym read ∙ p) in part-shorter m n t q (omega arith) (w .1)
 
 -- Where the tag reaches into the fixed header there is no room, and so no chain.
 pub no-room : (m : List ℕ) (tag : ℕ) → length m < 40 + tag → readChain (roomOf tag m) ≡ Broken

@@ -9,4 +9,5 @@ use Rattle.wire.proofs.header.wanted.Tie as tie
 pub wanted-spec : {M : Type 1} → statement M
 unfolding wanted
 wanted-spec =
-    tie.close (tie.spec _ (λ c. search needs) (λ c. rw (← c .before .number16 .ensures) (search tests)) (λ c. rw (← c .before .number16 .ensures) (search tests)))
+    tie.close (tie.spec
+    _ (λ c. search needs) (λ c. rw (← c .before .number16 .ensures) (search tests)) (λ c. rw (← c .before .number16 .ensures) (search tests)))
