@@ -9,8 +9,6 @@ use Rattle.wire.proofs.header.read_header.Statement.{statement}
 use Rattle.wire.proofs.header.read_header.Tie as tie
 
 -- What is left after the chain, with the tag, fits into the message.
-
--- What is left after the chain, with the tag, fits into the message.
 room : (c : tie.Else1) → leaves (c .before .before .chain-of .result) + 42 + c .before .before .before .tag-size .result
     ≤ length (c .before .before .before .before .before .before .args .message .now)
 room c = search fits
