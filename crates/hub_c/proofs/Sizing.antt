@@ -1,7 +1,7 @@
 -- SPDX-License-Identifier: MPL-2.0
 -- Buffers that have their sizes, and what the calls over them come to, as laws over numbers and lists.
 use Prim.Native.Nat.{ℕ, _*_}
-use mathlib.Core.Path.{_≡_, refl, ap}
+use mathlib.Core.Path.{_≡_, refl, sym, ap, _∙_}
 use mathlib.Core.List.{List, [], _∷_}
 use mathlib.Core.Bool.{Bool, false, not, _||_}
 use lib.Dec.{eqb}
@@ -35,15 +35,15 @@ module _ (a m b n : ℕ) where
 pub ruleset sizes = (first-sized, second-sized, second-of-three)
 
 -- What the cutter answers is put into words.
-module _ (F : ℕ) (R : List ℕ) (i : ℕ) where
-  pub cut-refused : (cutRefusal F (length R) i ≡ 0 → ⊥) → 0 ∷ 0 ∷ 0 ∷ [] ≡ cutWords F R i
+module _ (F : ℕ) (R : List ℕ) (i n : ℕ) (judged : n ≡ cutRefusal F (length R) i) where
+  pub cut-refused : (w : List ℕ) → (n ≡ 0 → ⊥) → w ≡ 0 ∷ 0 ∷ 0 ∷ [] → w ≡ cutWords F R i
   unfolding cutWords
-  cut-refused n = rw (ne-eqb (cutRefusal F (length R) i) 0 n)
+  cut-refused w z q = rw (← judged, ne-eqb n 0 z) q
 
-  pub cut-told : {n : ℕ} {p : List ℕ} → cutRefusal F (length R) i ≡ 0 → n ≡ cutCount F (length R) i → p ≡ cutPiece F R i
-      → n ∷ F * i ∷ length p ∷ [] ≡ cutWords F R i
+  pub cut-told : (count : ℕ) (p w : List ℕ) → n ≡ 0 → count ≡ cutCount F (length R) i → p ≡ cutPiece F R i → w ≡ count ∷ F * i ∷ length p ∷ []
+      → w ≡ cutWords F R i
   unfolding cutWords
-  cut-told z e f = rw (e, f, eq-eqb (cutRefusal F (length R) i) 0 z)
+  cut-told count p w z e f q = rw (q, e, f, eq-eqb (cutRefusal F (length R) i) 0 (sym judged ∙ z))
 
 -- The length that stands in an accepted message is the number of its bytes; a refusal's line has none.
 pub line-told : (m : List ℕ) → lineOf (readHeader m) (be16 m 2) ≡ lineText m

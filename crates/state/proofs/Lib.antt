@@ -1,6 +1,7 @@
 -- SPDX-License-Identifier: MPL-2.0
 pub mod Listed
 pub mod Parted
+pub mod Sames
 pub mod Bits
 pub mod StateBack
 pub mod StateWhole

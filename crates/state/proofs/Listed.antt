@@ -50,10 +50,10 @@ listed-same f g zero h = refl
 listed-same f g (suc n) h = rw (listed-same f g n (λ i l. h i (omega arith)), h n (omega arith))
 
 -- One value more after those that a buffer holds from a place on.
-pub listed-stored : (f : ℕ → ℕ) (l : List ℕ) (at i : ℕ) {m n : List ℕ} → m ≡ sets l at (listed f i) → n ≡ sets m (at + i) (f i ∷ [])
+pub listed-stored : (f : ℕ → ℕ) (l m n : List ℕ) (at i x : ℕ) → m ≡ sets l at (listed f i) → x ≡ f i → n ≡ sets m (at + i) (x ∷ [])
     → n ≡ sets l at (listed f (i + 1))
 unfolding listed
-listed-stored f l at i p q = rw add-one (stored-twice (listed f i) (f i ∷ []) l at (at + i) p q (rw (length-listed f i)))
+listed-stored f l m n at i x p e q = rw (add-one, ← e) (stored-twice (listed f i) (x ∷ []) l at (at + i) p q (rw (length-listed f i)))
 
 -- Stores from the start over the whole of a list.
 pub sets-whole : (a l : List ℕ) → length l ≡ length a → sets l 0 a ≡ a

@@ -14,10 +14,11 @@ use Rattle.wire.specs.Fields.{mostPieces}
 use Rattle.joining.specs.Heard.{has, most}
 use Rattle.hub.specs.declared.Connection.{Connection}
 use Rattle.state.specs.Layout.{heardPlace, heardSize, stateSize}
-use Rattle.state.specs.State.{joined, bitAt, heardAt, heardByte, heardBytes, connectionAt, Fits, ReadBack}
+use Rattle.state.specs.State.{joined, bitAt, heardAt, heardByte, heardBytes, progressAt, connectionAt, Fits, ReadBack}
 use Rattle.state.specs.State.{progressParts, progressBytes, stateBytes}
 use Rattle.state.proofs.Listed.{length-listed, listed-at, bytesAt-listed}
 use Rattle.state.proofs.Parted.{Stand, joined-stand}
+use Rattle.state.proofs.Sames.{same-progress, same-connection}
 use Rattle.state.proofs.Bits.{eight-bit}
 
 -- Each byte of the heard set has eight indexes.
@@ -69,20 +70,9 @@ unfolding connectionAt mostPieces bytesAt
 state-back s c f w =
     let (size, (state, (session, (nonce, (x, (y, (digest, (expected, (heard, (count, (channel, (last, end)))))))))))) =
     rw (f .nonce, f .x, f .y, f .digest, length-listed (heardByte (c .progress .heard)) heardSize) at w in
-    rw (
-      read64 (c .size) size,
-      ap (λ (l : List ℕ). be8 l 0) state,
-      read64 (c .session) session,
-      nonce,
-      x,
-      y,
-      digest,
-      read32 (c .progress .expected) expected,
-      heard-back s (c .progress .heard) heard (f .heard),
-      read64 (c .progress .count) count,
-      read64 (c .progress .channel) channel,
-      read16 (c .progress .last) last,
-    )
+    let progress = same-progress (progressAt s) (c .progress) (read32 _ expected) (heard-back s (c .progress .heard) heard (f .heard))
+    (read64 _ count) (read64 _ channel) (read16 _ last) in
+    same-connection _ c (read64 _ size) (ap (λ (l : List ℕ). be8 l 0) state) (read64 _ session) nonce x y digest progress
 
 pub read-back : ReadBack
 unfolding mostPieces

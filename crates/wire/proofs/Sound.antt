@@ -4,7 +4,7 @@ use Prim.Native.Nat.{ℕ, _+_, _-_, _/_, _%_, _≤_, _<_}
 use mathlib.Core.Path.{_≡_, refl, sym, _∙_}
 use mathlib.Core.Logic.{_⊎_, inl, inr}
 use mathlib.Core.List.{List}
-use mathlib.Core.Bool.{Bool, true, false, not, _&&_, _||_, true≢false}
+use mathlib.Core.Bool.{true, false, not, _&&_, _||_, true≢false}
 use native.Mathlib.Omega.{arith}
 use native.Mathlib.Nat.{mod-lt, zero-lt-suc}
 use borrow.Author.Tests.{ltb-false, leb-false, eqb-true, eqb-false, not-false, eq-eqb}
@@ -13,6 +13,7 @@ use lib.Dec.{ltb, leb, eqb}
 use Rattle.laws.specs.Bytes.{be8, be16}
 use Rattle.laws.specs.Rows.{testOf}
 use Rattle.laws.proofs.Firsts.{row-false}
+use Rattle.laws.proofs.Cases.{on}
 use Rattle.laws.proofs.Bools.{or-false, or4-false, and-true, and-false-right}
 use Rattle.wire.specs.Refusals.{tooShort, wrongSignature, wrongLength, wrongVersion}
 use Rattle.wire.specs.Refusals.{wrongType, wrongFlags, wrongPiece, wrongChain, wrongSealedSize}
@@ -21,48 +22,36 @@ use Rattle.wire.specs.Fields.{badType, badFlags, badPiece, mostPieces, i
 use Rattle.wire.specs.Reader.{headerOf, roomOf, chainOf, headerRows, rowsOf, refusalWith, refusalOf, readHeader}
 use Rattle.wire.specs.declared.chain.Chain.{Chain}
 use Rattle.wire.specs.declared.header.Header.{Header}
+use Rattle.wire.specs.declared.header.HeaderRead.{HeaderRead}
 use Rattle.wire.specs.declared.header.HeaderRead.the-variants.{Refused, Read}
 use Rattle.wire.proofs.Chains.{room-left}
 use Rattle.wire.proofs.Reading.{read-refused, read-good}
 
 -- The tests of 5, 6 and 7 as facts.
 
-not-type : (k : ℕ) (a b c : Bool) → eqb k 1 ≡ a → eqb k 2 ≡ b → eqb k 4 ≡ c → (not a && not b && not c) ≡ false
-    → (k ≡ 1) ⊎ (k ≡ 2) ⊎ (k ≡ 4)
-not-type k true b c p q r e = inl (eqb-true k 1 p)
-not-type k false true c p q r e = inr (inl (eqb-true k 2 q))
-not-type k false false true p q r e = inr (inr (eqb-true k 4 r))
-not-type k false false false p q r e = absurd (true≢false e)
-
 pub kinds : (kind : ℕ) → badType kind ≡ false → (kind ≡ 1) ⊎ (kind ≡ 2) ⊎ (kind ≡ 4)
 unfolding badType
-kinds kind e = not-type kind _ _ _ refl refl refl e
+kinds kind e =
+    on (eqb kind 1) (λ p. inl (eqb-true kind 1 p))
+    (λ p. on (eqb kind 2) (λ q. inr (inl (eqb-true kind 2 q))) (λ q. inr (inr (eqb-true kind 4 (not-false _ (rw (p, q) at e))))))
 
 pub record Piece (index count : ℕ) : Type 0 where
   pub some : 1 ≤ count
   pub few : count ≤ mostPieces
   pub under : index < count
 
-module _ (kind index count : ℕ) (e : badPiece kind index count ≡ false) where
-  tests-of-7 : (eqb count 0 ≡ false) × (ltb mostPieces count ≡ false) × (leb count index ≡ false) × ((not (eqb kind 4) && not (eqb count 1)) ≡ false)
-  unfolding badPiece
-  tests-of-7 = or4-false (eqb count 0) (ltb mostPieces count) (leb count index) (not (eqb kind 4) && not (eqb count 1)) e
+pub piece : (kind index count : ℕ) → badPiece kind index count ≡ false → Piece index count
+unfolding badPiece
+piece kind index count e =
+    let t = or4-false (eqb count 0) (ltb mostPieces count) (leb count index) (not (eqb kind 4) && not (eqb count 1)) e in
+    let z = eqb-false count 0 (t .0) in
+    record { some = omega arith; few = ltb-false mostPieces count (t .1); under = leb-false count index (t .2) }
 
-  pub piece : Piece index count
-  piece =
-      let z = eqb-false count 0 (tests-of-7 .0) in
-      record { some = omega arith; few = ltb-false mostPieces count (tests-of-7 .1); under = leb-false count index (tests-of-7 .2) }
-
-module _ (kind flags : ℕ) (e : badFlags kind flags ≡ false) where
-  tests-of-6 : (ltb 15 flags ≡ false) × (not (eqb (hmacFlag flags) (encryptedFlag flags)) ≡ false) × ((eqb kind 1 && isSealed flags) ≡ false)
-      × ((eqb kind 4 && not (isSealed flags)) ≡ false)
-  unfolding badFlags
-  tests-of-6 =
-      or4-false (ltb 15 flags) (not (eqb (hmacFlag flags) (encryptedFlag flags))) (eqb kind 1 && isSealed flags)
-      (eqb kind 4 && not (isSealed flags)) e
-
-  alike : hmacFlag flags ≡ encryptedFlag flags
-  alike = eqb-true (hmacFlag flags) (encryptedFlag flags) (not-false _ (tests-of-6 .1))
+alike : (kind flags : ℕ) → badFlags kind flags ≡ false → hmacFlag flags ≡ encryptedFlag flags
+unfolding badFlags
+alike kind flags e =
+    let t = or4-false (ltb 15 flags) (not (eqb (hmacFlag flags) (encryptedFlag flags))) (eqb kind 1 && isSealed flags) _ e in
+    eqb-true (hmacFlag flags) (encryptedFlag flags) (not-false _ (t .1))
 
 pub sealed-tag : (flags : ℕ) → isSealed flags ≡ true → tagSize flags ≡ 32
 unfolding isSealed tagSize
@@ -138,21 +127,18 @@ sound-good m g =
     let l = g .long in
     record { is = refl; good = g; spans = omega arith; behind = omega arith; blocks = g .blocks }
 
+-- What that says of an answer, which is nothing of a refusal.
+abbrev soundOf : List ℕ → HeaderRead → Type 0
+soundOf m (Refused n) = Unit
+soundOf m (Read h start size) = Sound m h start size
+
+sound-all : (m : List ℕ) → soundOf m (readHeader m)
+sound-all m =
+    on (eqb (refusalOf m) 0) (λ z. let e = eqb-true (refusalOf m) 0 z in rw (read-good m e) (sound-good m (good m e)))
+    (λ z. rw (read-refused m (refusalOf m) refl (eqb-false (refusalOf m) 0 z)) tt)
+
 pub read-sound : (m : List ℕ) (h : Header) (start size : ℕ) → readHeader m ≡ Read h start size → Sound m h start size
-read-sound m h start size r = by (refusalOf m) (eqb (refusalOf m) 0) refl refl
-  where
-    by : (n : ℕ) (b : Bool) → refusalOf m ≡ n → eqb n 0 ≡ b → Sound m h start size
-    by n true e p =
-        let z : refusalOf m ≡ 0 = e ∙ eqb-true n 0 p in
-        let g = read-good m z in
-        let header : headerOf m ≡ h = cc in
-        let from : length m - tagSize (be16 m 6) - leaves (chainOf m) ≡ start = cc in
-        let long : leaves (chainOf m) ≡ size = cc in
-        rw (← header, ← from, ← long) (sound-good m (good m z))
-    by n false e p =
-        let g = read-refused m n (sym e) (eqb-false n 0 p) in
-        let z : _≡_ {A = ℕ} 0 1 = cc in
-        absurd (omega arith)
+read-sound m h start size r = rw r at (sound-all m)
 
 -- The way through `read_header`: each call answers its part of the definition.
 module _ (m : List ℕ) (h : Header) (tag : ℕ) (k : Chain) (n : ℕ)

@@ -8,12 +8,8 @@ use Rattle.state.specs.State.{listed}
 use Rattle.state.proofs.eight_of.Statement.{statement}
 use Rattle.state.proofs.eight_of.Tie as tie
 
-returns : tie.Need-returns
-unfolding listed
-returns c = simp add-zero (omega arith)
-
 pub eight-of-spec : {M : Type 1} → statement M
-unfolding mostPieces
+unfolding listed mostPieces
 eight-of-spec =
     tie.close (tie.spec
     (λ c. search needs) _
@@ -24,4 +20,4 @@ eight-of-spec =
     (λ c. search needs) (λ c. search needs) _ (λ c. search needs)
     (λ c. search needs) (λ c. search needs) _ (λ c. search needs)
     (λ c. search needs) (λ c. search needs) _ (λ c. search needs)
-    returns)
+    (λ c. simp add-zero (omega arith)))

@@ -23,15 +23,6 @@ loop-holds : tie.Need-loop-holds Inv-loop μ-loop
 unfolding listed mostPieces
 loop-holds c = (omega arith, refl, refl)
 
-loop-again : tie.Need-loop-again Inv-loop μ-loop
-unfolding mostPieces
-loop-again c =
-    let at-store8 = c .before .before in
-    let at-eight-of = at-store8 .before in
-    let l = at-eight-of .before .before .before .loop in
-    let b = rw (at-eight-of .eight-of .ensures) at (at-store8 .store8 .ensures) in
-    (omega arith, omega arith, listed-stored _ _ heardPlace (l .i) (l .inv .2) b)
-
 returns : tie.Need-returns Inv-loop μ-loop
 unfolding mostPieces
 returns c =
@@ -44,4 +35,4 @@ unfolding mostPieces
 put-heard-spec =
     tie.close (tie.spec
     Inv-loop μ-loop loop-holds (λ c. search needs) (λ c. search needs) (λ c κs. search needs) (λ c κs. search needs)
-    (λ c. search needs) (λ c. search needs) loop-again (λ c. search needs) returns)
+    (λ c. search needs) (λ c. search needs) (λ c. (omega arith, omega arith, search listed-stored)) (λ c. search needs) returns)

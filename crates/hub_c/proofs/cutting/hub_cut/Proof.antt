@@ -10,24 +10,13 @@ use Rattle.hub_c.proofs.cutting.hub_cut.Statement.{statement}
 use Rattle.hub_c.proofs.cutting.hub_cut.Tie as tie
 
 returns-2 : tie.Need-returns-2
-returns-2 c =
-    let cut : tie.After-cut = search in
-    let refused : tie.Then2 = search in
-    let start : tie.Start = search in
-    let report = start .args .report .now in
-    let r = rw (cut .cut .ensures .0) at (refused .if2 .taken) in
-    rw (eq-eqb _ _ (cut .before .if1 .left)) (cut .cut .ensures .0, c .before .before .put-triple .ensures ∙ cut-refused _ report _ r)
+returns-2 c = let sized : tie.Else1 = search in rw (eq-eqb _ _ (sized .if1 .left)) (search, search cut-refused)
 
 returns-3 : tie.Need-returns-3
 returns-3 c =
     let cut : tie.After-cut = search in
     let good : tie.Else2 = search in
-    let piece : tie.After-cut-piece = search in
-    let start : tie.Start = search in
-    let report = start .args .report .now in
-    let z = sym (cut .cut .ensures .0) ∙ good .if2 .left in
-    let words = cut-told _ report _ z (cut .cut .ensures .1) (piece .cut-piece .ensures) in
-    rw (eq-eqb _ _ (cut .before .if1 .left)) (sym z, c .before .before .put-triple2 .ensures ∙ words)
+    rw (eq-eqb _ _ (cut .before .if1 .left)) (sym (good .if2 .left) ∙ cut .cut .ensures .0, search cut-told)
 
 pub hub-cut-spec : {M : Type 1} → statement M
 hub-cut-spec =

@@ -12,12 +12,6 @@ use Rattle.hub_c.specs.Line.{lineText}
 use Rattle.hub_c.proofs.listing.hub_list.Statement.{statement}
 use Rattle.hub_c.proofs.listing.hub_list.Tie as tie
 
-put-length-requires : tie.Need-put-length-requires
-put-length-requires c κs =
-    let start : tie.Start = search in
-    let sized : tie.Else1 = search in
-    second-sized (length (start .args .line .now)) 64 _ 1 (sized .if1 .left)
-
 returns-2 : tie.Need-returns-2
 returns-2 c =
     let start : tie.Start = search in
@@ -37,4 +31,4 @@ pub hub-list-spec : {M : Type 1} → statement M
 hub-list-spec =
     tie.close (tie.spec
     (λ c. rw (c .if1 .taken) (refl, (refl, refl))) _ _ _
-    put-length-requires _ (λ c. search needs) (λ c. search needs) returns-2)
+    (λ c κs. search second-sized) _ (λ c. search needs) (λ c. search needs) returns-2)

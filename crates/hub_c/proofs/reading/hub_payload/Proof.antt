@@ -7,12 +7,6 @@ use mathlib.Core.Path.{refl}
 use Rattle.hub_c.proofs.reading.hub_payload.Statement.{statement}
 use Rattle.hub_c.proofs.reading.hub_payload.Tie as tie
 
-put-triple-requires : tie.Need-put-triple-requires
-put-triple-requires c κs =
-    let start : tie.Start = search in
-    let good : tie.Else1 = search in
-    second-sized (length (start .args .header .now)) 11 _ 3 (good .if1 .left)
-
 returns-2 : tie.Need-returns-2
 returns-2 c =
     let good : tie.Else1 = search in
@@ -26,4 +20,4 @@ returns-2 c =
 pub hub-payload-spec : {M : Type 1} → statement M
 hub-payload-spec =
     tie.close (tie.spec
-    (λ c. rw (c .if1 .taken) (refl, refl)) _ _ _ _ put-triple-requires (λ c. search needs) returns-2)
+    (λ c. rw (c .if1 .taken) (refl, refl)) _ _ _ _ (λ c κs. search second-sized) (λ c. search needs) returns-2)

@@ -1,12 +1,9 @@
 -- SPDX-License-Identifier: MPL-2.0
 -- By the entry at the start: each case is a law of `chain`. The bytes that are left fall.
-use mathlib.Core.Path.{sym, _∙_, ap}
 use lib.ListN.{length}
 use borrow.Author.Needs.{needs}
 use native.Mathlib.Omega.{arith}
-use Rattle.laws.proofs.Lists.{part-from, part-shorter}
-use Rattle.wire.proofs.Chains.{spans-within, end-within, chain-wrong, chain-end, chain-full, chain-more}
-use Rattle.wire.specs.Chain.{chain}
+use Rattle.wire.proofs.Chains.{walk-wrong, walk-end, walk-full, walk-on, end-fits, span-fits, span-less}
 use Prim.Native.Nat.{ℕ, _<_}
 use borrow.Fn.Kinds.{In}
 use borrow.Fn.PlainCycle.{Measures, is, falls, and}
@@ -30,22 +27,6 @@ walk-below t = and 1 walk-kinds.ps (falls 1 walk-kinds.ps _<_ μ-walk t) walk.Pr
 pub +walk-spec : {M : Type 1} → statement M
 +walk-spec =
     close μ-walk λ t. walk-lts.spec (read-entry-reads.Asked, read-entry-reads.Learnt, walk-below t, walk.Post) (walk-at t) walk.Post
-    _
-    (λ c. search needs)
-    (λ c. search needs)
-    (λ c. end-within _ (sym (c .before .before .read-entry .ensures) ∙ c .enum-told2 .given .1))
-    (λ c. search needs)
-    (λ c. sym (chain-full _ _ _ (c .if1 .taken) (sym (c .before .before .before .before .read-entry .ensures) ∙ c .before .before .n .given .1)))
-    (λ c. spans-within _ (sym (c .before .before .before .before .read-entry .ensures) ∙ c .before .before .n .given .1) .1)
-    (λ c. spans-within _ (sym (c .before .before .before .before .read-entry .ensures) ∙ c .before .before .n .given .1) .1)
-    (λ c. search needs)
-    (λ c. omega arith)
-    (λ c κs. let s = c .before .before .before .before .before .before .before in let w = spans-within _
-    (sym (c .before .before .before .before .before .read-entry .ensures) ∙ c .before .before .before .n .given .1) in
-    (part-shorter (s .args .room .now) _ t (s .pre .0) (omega arith) (w .1), tt))
-    (λ c. sym (chain-wrong _ _ (sym (c .before .before .read-entry .ensures) ∙ c .enum-told .given .1)))
-    (λ c. sym (chain-end _ _ (sym (c .before .before .read-entry .ensures) ∙ c .enum-told2 .given .1)))
-    (λ c. let s = c .before .before .before .before .before .before .before .before in c .walk .ensures
-    ∙ ap (chain _) (part-from (s .args .room .now) (c .before .before .before .before .n .given .0 .0))
-    ∙ sym (chain-more _ _ _ (c .before .before .if1 .left)
-    (sym (c .before .before .before .before .before .before .read-entry .ensures) ∙ c .before .before .before .before .n .given .1)))
+    _ (λ c. search needs) (λ c. search needs) (λ c. search end-fits) (λ c. search needs) (λ c. search walk-full)
+    (λ c. search span-fits) (λ c. search span-fits) (λ c. search needs) (λ c. omega arith) (λ c κs. (search span-less, tt))
+    (λ c. search walk-wrong) (λ c. search walk-end) (λ c. search walk-on)

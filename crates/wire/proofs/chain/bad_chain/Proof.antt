@@ -4,10 +4,6 @@ use Rattle.wire.specs.Chain.{badChain}
 use Rattle.wire.proofs.chain.bad_chain.Statement.{statement}
 use Rattle.wire.proofs.chain.bad_chain.Tie as tie
 
-returns : tie.Need-returns
-unfolding badChain
-returns c = rw (c .leaves .ensures, c .before .is-broken .ensures, c .before .before .read-chain .ensures)
-
 pub bad-chain-spec : {M : Type 1} → statement M
-bad-chain-spec =
-    tie.close (tie.spec _ _ _ returns)
+unfolding badChain
+bad-chain-spec = tie.close (tie.spec _ _ _ (λ c. rw (c .leaves .ensures, c .before .is-broken .ensures, c .before .before .read-chain .ensures)))

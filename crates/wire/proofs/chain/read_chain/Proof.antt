@@ -4,9 +4,6 @@ use Rattle.wire.specs.Chain.{readChain, mostEntries}
 use Rattle.wire.proofs.chain.read_chain.Statement.{statement}
 use Rattle.wire.proofs.chain.read_chain.Tie as tie
 
-returns : tie.Need-returns
-unfolding readChain mostEntries
-returns c = c .walk .ensures
-
 pub read-chain-spec : {M : Type 1} → statement M
-read-chain-spec = tie.close (tie.spec _ returns)
+unfolding readChain mostEntries
+read-chain-spec = tie.close (tie.spec _ (λ c. c .walk .ensures))

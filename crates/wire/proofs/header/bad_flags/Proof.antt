@@ -4,9 +4,6 @@ use Rattle.wire.specs.Fields.{badFlags}
 use Rattle.wire.proofs.header.bad_flags.Statement.{statement}
 use Rattle.wire.proofs.header.bad_flags.Tie as tie
 
-returns : tie.Need-returns
-unfolding badFlags
-returns c = rw (c .is-sealed .ensures)
-
 pub bad-flags-spec : {M : Type 1} → statement M
-bad-flags-spec = tie.close (tie.spec _ returns)
+unfolding badFlags
+bad-flags-spec = tie.close (tie.spec _ (λ c. rw (c .is-sealed .ensures)))

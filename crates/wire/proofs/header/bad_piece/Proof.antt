@@ -5,9 +5,6 @@ use Rattle.wire.specs.Fields.{badPiece, mostPieces}
 use Rattle.wire.proofs.header.bad_piece.Statement.{statement}
 use Rattle.wire.proofs.header.bad_piece.Tie as tie
 
-returns : tie.Need-returns
-unfolding badPiece mostPieces
-returns c = refl
-
 pub bad-piece-spec : {M : Type 1} → statement M
-bad-piece-spec = tie.close (tie.spec returns)
+unfolding badPiece mostPieces
+bad-piece-spec = tie.close (tie.spec (λ c. refl))

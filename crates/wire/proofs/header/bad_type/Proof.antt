@@ -5,9 +5,6 @@ use Rattle.wire.specs.Fields.{badType}
 use Rattle.wire.proofs.header.bad_type.Statement.{statement}
 use Rattle.wire.proofs.header.bad_type.Tie as tie
 
-returns : tie.Need-returns
-unfolding badType
-returns c = refl
-
 pub bad-type-spec : {M : Type 1} → statement M
-bad-type-spec = tie.close (tie.spec returns)
+unfolding badType
+bad-type-spec = tie.close (tie.spec (λ c. refl))

@@ -7,9 +7,6 @@ use borrow.Author.Needs.{needs}
 use Rattle.wire.proofs.header.chain_of.Statement.{statement}
 use Rattle.wire.proofs.header.chain_of.Tie as tie
 
-returns : tie.Need-returns
-returns c = sym (no-room _ _ (c .if1 .taken))
-
 returns-2 : tie.Need-returns-2
 unfolding roomOf
 returns-2 c = c .read-chain .ensures
@@ -17,5 +14,5 @@ returns-2 c = c .read-chain .ensures
 pub chain-of-spec : {M : Type 1} → statement M
 chain-of-spec =
     tie.close (tie.spec
-    (λ c. search needs) returns (λ c. search needs) (λ c. search needs) (λ c. search needs) (λ c. search needs) _
+    (λ c. search needs) (λ c. sym (no-room _ _ (c .if1 .taken))) (λ c. search needs) (λ c. search needs) (λ c. search needs) (λ c. search needs) _
     returns-2)

@@ -5,9 +5,6 @@ use Rattle.wire.specs.Fields.{isSealed}
 use Rattle.wire.proofs.header.is_sealed.Statement.{statement}
 use Rattle.wire.proofs.header.is_sealed.Tie as tie
 
-returns : tie.Need-returns
-unfolding isSealed
-returns c = refl
-
 pub is-sealed-spec : {M : Type 1} → statement M
-is-sealed-spec = tie.close (tie.spec returns)
+unfolding isSealed
+is-sealed-spec = tie.close (tie.spec (λ c. refl))

@@ -6,9 +6,6 @@ use Rattle.wire.specs.Reader.{headerRows}
 use Rattle.wire.proofs.header.judge.Statement.{statement}
 use Rattle.wire.proofs.header.judge.Tie as tie
 
-returns : tie.Need-returns
-unfolding headerRows
-returns c = rw (← down-first 0 (headerRows _ _ _ _ _ _ _) refl) (cc)
-
 pub judge-spec : {M : Type 1} → statement M
-judge-spec = tie.close (tie.spec _ _ _ _ _ _ _ _ _ _ _ _ _ returns)
+unfolding headerRows
+judge-spec = tie.close (tie.spec _ _ _ _ _ _ _ _ _ _ _ _ _ (λ c. rw (← down-first 0 (headerRows _ _ _ _ _ _ _) refl) (cc)))

@@ -7,16 +7,10 @@ use Rattle.wire.proofs.header.refusal.Tie as tie
 returns : tie.Need-returns
 unfolding refusalWith rowsOf
 returns c =
-    let at-is-broken = c .before .before in
-    let at-length = at-is-broken .before .before in
-    rw (
-      c .judge .ensures,
-      c .before .leaves .ensures,
-      at-is-broken .is-broken .ensures,
-      at-is-broken .before .byte .ensures,
-      at-length .number162 .ensures,
-      at-length .before .number16 .ensures,
-    )
+    let broken = c .before .before in
+    let size = broken .before .before in
+    rw (c .judge .ensures, c .before .leaves .ensures, broken .is-broken .ensures)
+    (rw (broken .before .byte .ensures, size .number162 .ensures, size .before .number16 .ensures))
 
 pub refusal-spec : {M : Type 1} → statement M
 refusal-spec = tie.close (tie.spec _ _ _ _ _ _ returns)

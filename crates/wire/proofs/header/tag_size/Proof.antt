@@ -6,9 +6,6 @@ use borrow.Author.Needs.{needs}
 use Rattle.wire.proofs.header.tag_size.Statement.{statement}
 use Rattle.wire.proofs.header.tag_size.Tie as tie
 
-returns : tie.Need-returns
-unfolding tagSize
-returns c = refl
-
 pub tag-size-spec : {M : Type 1} → statement M
-tag-size-spec = tie.close (tie.spec (λ c. search needs) (λ c. search needs) returns)
+unfolding tagSize
+tag-size-spec = tie.close (tie.spec (λ c. search needs) (λ c. search needs) (λ c. refl))

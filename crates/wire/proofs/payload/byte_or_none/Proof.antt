@@ -7,11 +7,8 @@ use borrow.Author.Needs.{needs}
 use Rattle.wire.proofs.payload.byte_or_none.Statement.{statement}
 use Rattle.wire.proofs.payload.byte_or_none.Tie as tie
 
-returns : tie.Need-returns
-returns c = getD-any (c .before .before .args .p .now) (c .before .before .args .at) 0 255 (search needs)
-
-returns-2 : tie.Need-returns-2
-returns-2 c = sym (List·getD-eq-default (c .before .args .p .now) 255 (c .if1 .left))
-
 pub byte-or-none-spec : {M : Type 1} → statement M
-byte-or-none-spec = tie.close (tie.spec (λ c. search needs) returns returns-2)
+byte-or-none-spec =
+    tie.close (tie.spec
+    (λ c. search needs) (λ c. getD-any (c .before .before .args .p .now) (c .before .before .args .at) 0 255 (search needs))
+    (λ c. sym (List·getD-eq-default (c .before .args .p .now) 255 (c .if1 .left))))

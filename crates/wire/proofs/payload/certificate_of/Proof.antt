@@ -6,13 +6,9 @@ use borrow.Author.Needs.{needs}
 use Rattle.wire.proofs.payload.certificate_of.Statement.{statement}
 use Rattle.wire.proofs.payload.certificate_of.Tie as tie
 
-returns : tie.Need-returns
-unfolding certificateOf
-returns c = rw (← c .before .number16 .ensures) (search tests)
-
-returns-2 : tie.Need-returns-2
-unfolding certificateOf
-returns-2 c = rw (← c .before .number16 .ensures) (search tests)
-
 pub certificate-of-spec : {M : Type 1} → statement M
-certificate-of-spec = tie.close (tie.spec _ (λ c. search needs) (λ c. search needs) returns returns-2)
+unfolding certificateOf
+certificate-of-spec =
+    tie.close (tie.spec
+    _ (λ c. search needs) (λ c. search needs) (λ c. rw (← c .before .number16 .ensures) (search tests))
+    (λ c. rw (← c .before .number16 .ensures) (search tests)))

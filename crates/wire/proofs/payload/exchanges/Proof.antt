@@ -4,12 +4,9 @@ use Rattle.wire.specs.Payload.{exchanges}
 use Rattle.wire.proofs.payload.exchanges.Statement.{statement}
 use Rattle.wire.proofs.payload.exchanges.Tie as tie
 
-returns : tie.Need-returns
-unfolding exchanges
-returns c =
-    rw (c .number163 .ensures, c .before .number162 .ensures, c .before .before .number32 .ensures, c .before .before .before .number16 .ensures)
-
 pub exchanges-spec : {M : Type 1} → statement M
+unfolding exchanges
 exchanges-spec =
-    tie.close
-    (tie.spec _ _ _ _ returns)
+    tie.close (tie.spec
+    _ _ _ _ (λ c. rw (c .number163 .ensures, c .before .number162 .ensures)
+    (rw (c .before .before .number32 .ensures, c .before .before .before .number16 .ensures))))

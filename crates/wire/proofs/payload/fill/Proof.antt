@@ -23,20 +23,17 @@ loop-holds c = (omega arith, refl, refl)
 
 loop-again : tie.Need-loop-again Inv-loop μ-loop
 loop-again c =
+    let start : tie.Start Inv-loop μ-loop = search in
+    let a = start .args in
     let l = c .before .before .loop in
-    let k : l .i < length (c .before .before .before .before .before .args .out .now) = omega arith in (
-      omega arith,
-      simp length-set (l .inv .1),
-      rw (l .inv .2) (filled-more (c .before .before .before .before .before .args .s .now)
-          (c .before .before .before .before .before .args .out .now) (c .before .before .before .before .before .args .at) (l .i)
-          (c .byte .result) k (c .byte .ensures)),
-    )
+    let k : l .i < length (a .out .now) = omega arith in
+    (omega arith, simp length-set (l .inv .1), rw (l .inv .2) (filled-more (a .s .now) (a .out .now) (a .at) (l .i) _ k (c .byte .ensures)))
 
 returns : tie.Need-returns Inv-loop μ-loop
 returns c =
+    let start : tie.Start Inv-loop μ-loop = search in
     let l = c .before .loop in
-    l .inv .2 ∙ filled-all (c .before .before .before .before .args .s .now) (c .before .before .before .before .args .out .now)
-    (c .before .before .before .before .args .at) (l .i) (omega arith)
+    l .inv .2 ∙ filled-all (start .args .s .now) (start .args .out .now) (start .args .at) (l .i) (omega arith)
 
 pub fill-spec : {M : Type 1} → statement M
 fill-spec =

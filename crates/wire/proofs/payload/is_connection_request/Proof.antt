@@ -4,10 +4,7 @@ use Rattle.wire.specs.Payload.{isConnectionRequest}
 use Rattle.wire.proofs.payload.is_connection_request.Statement.{statement}
 use Rattle.wire.proofs.payload.is_connection_request.Tie as tie
 
-returns : tie.Need-returns
-unfolding isConnectionRequest
-returns c = rw (c .exchanges .ensures, c .before .byte .ensures, c .before .before .starts .ensures)
-
 pub is-connection-request-spec : {M : Type 1} → statement M
+unfolding isConnectionRequest
 is-connection-request-spec =
-    tie.close (tie.spec _ _ _ returns)
+    tie.close (tie.spec _ _ _ (λ c. rw (c .exchanges .ensures, c .before .byte .ensures, c .before .before .starts .ensures)))

@@ -4,10 +4,7 @@ use Rattle.wire.specs.Payload.{isConnectionResponse}
 use Rattle.wire.proofs.payload.is_connection_response.Statement.{statement}
 use Rattle.wire.proofs.payload.is_connection_response.Tie as tie
 
-returns : tie.Need-returns
-unfolding isConnectionResponse
-returns c = rw (c .starts .ensures, c .before .exchanges .ensures, c .before .before .byte .ensures)
-
 pub is-connection-response-spec : {M : Type 1} → statement M
+unfolding isConnectionResponse
 is-connection-response-spec =
-    tie.close (tie.spec _ _ _ returns)
+    tie.close (tie.spec _ _ _ (λ c. rw (c .starts .ensures, c .before .exchanges .ensures, c .before .before .byte .ensures)))

@@ -5,12 +5,9 @@ use borrow.Author.Needs.{needs}
 use Rattle.wire.proofs.payload.is_device_authentication.Statement.{statement}
 use Rattle.wire.proofs.payload.is_device_authentication.Tie as tie
 
-returns : tie.Need-returns
-unfolding isDeviceAuthentication
-returns c = rw (c .starts .ensures, c .before .number162 .ensures, c .before .before .number16 .ensures)
-
 pub is-device-authentication-spec : {M : Type 1} → statement M
+unfolding isDeviceAuthentication
 is-device-authentication-spec =
     tie.close (tie.spec
-    _ (λ c. search needs) (λ c. search needs) _ (λ c. search needs)
-    (λ c. search needs) (λ c. search needs) (λ c. search needs) _ returns)
+    _ (λ c. search needs) (λ c. search needs) _ (λ c. search needs) (λ c. search needs) (λ c. search needs) (λ c. search needs) _
+    (λ c. rw (c .starts .ensures, c .before .number162 .ensures, c .before .before .number16 .ensures)))

@@ -4,9 +4,6 @@ use Rattle.wire.specs.Payload.{isDoneRequest}
 use Rattle.wire.proofs.payload.is_done_request.Statement.{statement}
 use Rattle.wire.proofs.payload.is_done_request.Tie as tie
 
-returns : tie.Need-returns
-unfolding isDoneRequest
-returns c = rw (c .starts .ensures)
-
 pub is-done-request-spec : {M : Type 1} → statement M
-is-done-request-spec = tie.close (tie.spec _ returns)
+unfolding isDoneRequest
+is-done-request-spec = tie.close (tie.spec _ (λ c. rw (c .starts .ensures)))

@@ -4,9 +4,6 @@ use Rattle.wire.specs.Payload.{isDoneResponse}
 use Rattle.wire.proofs.payload.is_done_response.Statement.{statement}
 use Rattle.wire.proofs.payload.is_done_response.Tie as tie
 
-returns : tie.Need-returns
-unfolding isDoneResponse
-returns c = rw (c .byte .ensures, c .before .starts .ensures)
-
 pub is-done-response-spec : {M : Type 1} → statement M
-is-done-response-spec = tie.close (tie.spec _ _ returns)
+unfolding isDoneResponse
+is-done-response-spec = tie.close (tie.spec _ _ (λ c. rw (c .byte .ensures, c .before .starts .ensures)))

@@ -4,9 +4,6 @@ use Rattle.wire.specs.Payload.{isPresenceRequest}
 use Rattle.wire.proofs.payload.is_presence_request.Statement.{statement}
 use Rattle.wire.proofs.payload.is_presence_request.Tie as tie
 
-returns : tie.Need-returns
-unfolding isPresenceRequest
-returns c = rw (c .byte .ensures)
-
 pub is-presence-request-spec : {M : Type 1} → statement M
-is-presence-request-spec = tie.close (tie.spec _ returns)
+unfolding isPresenceRequest
+is-presence-request-spec = tie.close (tie.spec _ (λ c. rw (c .byte .ensures)))

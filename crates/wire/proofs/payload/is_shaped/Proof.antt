@@ -11,18 +11,9 @@ returns c =
     let done = c .before in
     let response = done .before .before in
     let request = response .before .before in
-    simp (or-assoc, or-none) (rw (
-      c .is-done-response .ensures,
-      done .is-done-request .ensures,
-      done .before .is-device-authentication2 .ensures,
-      response .is-device-authentication .ensures,
-      response .before .is-connection-response .ensures,
-      request .is-connection-request .ensures,
-      request .before .is-presence-request .ensures,
-    ))
+    simp (or-assoc, or-none) (rw (c .is-done-response .ensures, done .is-done-request .ensures, done .before .is-device-authentication2 .ensures)
+    (rw (response .is-device-authentication .ensures, response .before .is-connection-response .ensures, request .is-connection-request .ensures)
+    (rw (request .before .is-presence-request .ensures))))
 
 pub is-shaped-spec : {M : Type 1} → statement M
-is-shaped-spec =
-    tie.close (tie.spec
-    _ _ _ _ _
-    _ _ returns)
+is-shaped-spec = tie.close (tie.spec _ _ _ _ _ _ _ returns)

@@ -8,10 +8,9 @@ use Rattle.wire.proofs.payload.read_request.Tie as tie
 returns : tie.Need-returns
 unfolding readRequest
 returns c =
-    let y = c .before in
-    let x = y .before .before .before in
-    let nonce = x .before .before .before in
-    rw (y .fill3 .ensures, x .fill2 .ensures, nonce .fill .ensures)
+    let nonce : tie.After-fill = search in
+    let x : tie.After-fill2 = search in
+    rw (c .before .fill3 .ensures, x .fill2 .ensures, nonce .fill .ensures)
 
 pub read-request-spec : {M : Type 1} → statement M
 read-request-spec =
