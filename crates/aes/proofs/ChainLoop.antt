@@ -46,8 +46,8 @@ module _ {out next : List ℕ → List ℕ → List ℕ} {s t₀ u₀ u t : List
   unfolding chain
   more long h v t′ ev et =
       let c : List ℕ = out u (take 16 (drop at s)) in
-      let lc : length c ≡ 16 = long u (take 16 (drop at s)) in
-      let all : take 16 c ≡ c = take-all 16 c (omega arith) in
+      let sixteen : length c ≡ 16 = long u (take 16 (drop at s)) in
+      let whole : take 16 c ≡ c = take-all 16 c (omega arith) in
       let n : b .left ≡ suc (b .left - 1) = omega (arith, b .whole) in
       rw (ev, et)
       (record {
@@ -55,7 +55,7 @@ module _ {out next : List ℕ → List ℕ → List ℕ} {s t₀ u₀ u t : List
         whole = omega (arith, b .whole);
         room = b .room;
         len = length-paste t at c 16 (omega arith) (omega arith) ∙ b .len;
-        front = rw (take-paste t at c 16 (omega arith) (omega arith), all, append-assoc, ← drop-drop 16 at s) (rw n at (b .front));
+        front = rw (take-paste t at c 16 (omega arith) (omega arith), whole, append-assoc, ← drop-drop 16 at s) (rw n at (b .front));
         rest = rw (drop-paste t at c 16 (omega arith) (omega arith), ← drop-drop 16 at t, b .rest) (drop-drop 16 at t₀);
       })
 

@@ -2,7 +2,7 @@
 -- The round keys: each is a block, and the code makes the next.
 use mathlib.Core.Path.{_≡_}
 use mathlib.Core.List.{List, [], _∷_}
-use Prim.Native.Nat.{ℕ, zero, suc, _/_, _%_, _<_}
+use Prim.Native.Nat.{ℕ, zero, suc, _+_, _/_, _%_, _<_}
 use lib.Dec.{lit<}
 use lib.ListN.{getD}
 use Rattle.laws.specs.Runs.{run}
@@ -18,21 +18,20 @@ use Rattle.aes.proofs.Steps.{all-bytes, block-of}
 
 -- ---- one round key more
 
--- byte i of the round key k added to x; and the sixteen bytes as the code adds them, where p, q, r, s are added to the first word
-abbrev sum : List ℕ → ℕ → ℕ → ℕ
-sum k i x = xor (getD k i 0) x
-
-abbrev nextRows : List ℕ → ℕ → ℕ → ℕ → ℕ → List ℕ
-nextRows k p q r s =
-    sum k 0 p ∷ sum k 1 q ∷ sum k 2 r ∷ sum k 3 s ∷ sum k 4 (sum k 0 p) ∷ sum k 5 (sum k 1 q) ∷ sum k 6 (sum k 2 r) ∷ sum k 7 (sum k 3 s) ∷
-    sum k 8 (sum k 4 (sum k 0 p)) ∷ sum k 9 (sum k 5 (sum k 1 q)) ∷ sum k 10 (sum k 6 (sum k 2 r)) ∷ sum k 11 (sum k 7 (sum k 3 s)) ∷
-    sum k 12 (sum k 8 (sum k 4 (sum k 0 p))) ∷ sum k 13 (sum k 9 (sum k 5 (sum k 1 q))) ∷
-    sum k 14 (sum k 10 (sum k 6 (sum k 2 r))) ∷ sum k 15 (sum k 11 (sum k 7 (sum k 3 s))) ∷ []
+-- n words as the code adds them: to the four bytes of the round key k from place i on p, q, r, s are added, and each sum to the byte four on
+abbrev sums : List ℕ → ℕ → ℕ → ℕ → ℕ → ℕ → ℕ → List ℕ
+sums k i zero p q r s = []
+sums k i (suc n) p q r s =
+    let a : ℕ = xor (getD k i 0) p in
+    let b : ℕ = xor (getD k (i + 1) 0) q in
+    let c : ℕ = xor (getD k (i + 2) 0) r in
+    let d : ℕ = xor (getD k (i + 3) 0) s in
+    a ∷ b ∷ c ∷ d ∷ sums k (i + 4) n a b c d
 
 pub next-by : (k : List ℕ) (c p q r s : ℕ) → p ≡ sbox (getD k 13 0) → q ≡ sbox (getD k 14 0) → r ≡ sbox (getD k 15 0) → s ≡ sbox (getD k 12 0)
-    → nextRows k (xor p c) q r s ≡ nextKey k c
+    → sums k 0 4 (xor p c) q r s ≡ nextKey k c
 unfolding nextKey nextByte turnedByte block run
-next-by k c p q r s ep eq er es = λ t. nextRows k (xor (ep t) c) (eq t) (er t) (es t)
+next-by k c p q r s ep eq er es = λ t. sums k 0 4 (xor (ep t) c) (eq t) (er t) (es t)
 
 -- ---- round keys are blocks
 

@@ -40,9 +40,6 @@ pub block-is : (f : ℕ → ℕ) (s : List ℕ) → length s ≡ 16 → ((i : �
 unfolding block
 block-is f s e h = sym (run-is 0 f 16 s e (λ i g. sym (h i g)))
 
-block-same : (f g : ℕ → ℕ) → ((i : ℕ) → i < 16 → f i ≡ g i) → block f ≡ block g
-block-same f g h = block-is f (block g) (block-length g) (λ i b. h i b ∙ sym (block-at g i b))
-
 -- ---- AddRoundKey
 
 pub add-length : (s k : List ℕ) → length (addRoundKey s k) ≡ 16
@@ -130,4 +127,4 @@ unmix-mix s b = block-is _ s (b .len) (λ i h. simp (block-at, down-lt, down-dow
 -- InvMixColumns of a sum is the sum of both
 pub unmix-add : (s k : List ℕ) → Block s → Block k → invMixColumns (addRoundKey s k) ≡ addRoundKey (invMixColumns s) (invMixColumns k)
 unfolding addRoundKey invMixColumns unmixed
-unmix-add s k bs bk = block-same _ _ (λ i h. simp (block-at, down-lt, row-xor, all-bytes bs, all-bytes bk))
+unmix-add s k bs bk = block-is _ _ (block-length _) (λ i h. simp (block-at, down-lt, row-xor, all-bytes bs, all-bytes bk))

@@ -1,6 +1,6 @@
 -- SPDX-License-Identifier: MPL-2.0
--- A round by its tables, one law for both directions: what differs is the substitution, the coefficients and the order in which the words of
--- the state are read. The cipher reads them as they stand, a b c d, its inverse turned, a d c b.
+-- A round by its tables. What the lookups give is one law for both directions, over the substitution and the coefficients; what else differs
+-- is the order in which the words of the state are read. The cipher reads them as they stand, a b c d, its inverse turned, a d c b.
 use mathlib.Core.Path.{_≡_, _∙_}
 use mathlib.Core.List.{List}
 use Prim.Native.Nat.{ℕ, _/_, _%_, _<_}
