@@ -1,10 +1,10 @@
 -- SPDX-License-Identifier: MPL-2.0
 -- Opening what was sealed gives it back: the tag is over the same bytes, the vector of the same header, and decryption undoes encryption.
 use Prim.Native.Nat.{ℕ, _+_, _-_, _/_, _%_, _≤_, _<_}
-use mathlib.Core.Path.{_≡_, refl, sym, ap, _∙_}
+use mathlib.Core.Path.{_≡_, _∙_}
 use mathlib.Core.List.{List, _++_, append-assoc}
 use native.Mathlib.Omega.{arith}
-use borrow.Author.Tests.{le-ltb, lt-leb, eq-eqb}
+use borrow.Author.Tests.{le-ltb, lt-leb}
 use lib.ListN.{length, take, drop, length-append, length-drop}
 use lib.Seq.{take-at, drop-at, take-append-seam, drop-append-seam, length-take-le}
 use Rattle.laws.proofs.Parts.{length-bytesAt}
