@@ -30,8 +30,8 @@ handed-opened keys m start working e = let held = opened-held keys m start worki
 -- A message that the writer wrote, into an output of `space` bytes.
 module _ (h : Header) (chain bytes keys working : List ℕ) (space : ℕ) (good : writeRefusal h chain bytes (length keys) space ≡ 0) where
   pub handed-plain : isSealed (h .flags) ≡ false
-      → payload (messageBytes h chain bytes keys) (workingAfter (messageBytes h chain bytes keys) keys working) false (40 + length chain) (length bytes)
-      ≡ bytes
+      → payload (messageBytes h chain bytes keys) (workingAfter (messageBytes h chain bytes keys) keys working) false (40 + length chain)
+      (length bytes) ≡ bytes
   unfolding payload partOf
   handed-plain plain =
       let number = plain-is h chain bytes keys plain .1 in

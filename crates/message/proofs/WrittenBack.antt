@@ -1,11 +1,11 @@
 -- SPDX-License-Identifier: MPL-2.0
 -- What the writer wrote the reader reads back: the same fields, and the payload's bytes where it says they are.
 use Prim.Native.Nat.{ℕ, _+_, _%_, _≤_, _<_}
-use mathlib.Core.Path.{_≡_, sym, _∙_}
+use mathlib.Core.Path.{_≡_, sym, ap, _∙_}
 use mathlib.Core.List.{List, [], _++_, append-assoc, append-nil}
 use mathlib.Core.Bool.{true, false, true≢false}
 use native.Mathlib.Omega.{arith}
-use lib.ListN.{length, take, drop}
+use lib.ListN.{length, take, drop, length-append}
 use lib.Seq.{drop-at, take-length}
 use Rattle.laws.specs.Bytes.{be32}
 use Rattle.laws.proofs.ByteLists.{AllBytes, append-bytes, cons-bytes, nil-bytes, bytes16-bytes, bytes32-bytes, bytes64-bytes}
@@ -15,7 +15,7 @@ use Rattle.wire.specs.declared.header.Header.{Header}
 use Rattle.wire.specs.declared.header.HeaderRead.the-variants as head
 use Rattle.wire.proofs.Sound.{sealed-tag, plain-tag}
 use Rattle.writer.specs.Header.{headerBytes}
-use Rattle.writer.proofs.ReadBack.{message, read-back}
+use Rattle.writer.proofs.ReadBack.{read-back}
 use Rattle.aes.specs.Key.{expandKey}
 use Rattle.aes.specs.Cbc.{cbcEncrypt}
 use Rattle.seal.specs.Keys.{encryptionKey, vector, tagOf}
@@ -29,7 +29,7 @@ use Rattle.message.specs.declared.reading.MessageRead.the-variants.{Read
 use Rattle.message.specs.Reading.{opened, plainRead, sealedRead, readMessage}
 use Rattle.message.specs.Widths.{InWidth}
 use Rattle.message.specs.Writing.{lengthOf, writeRefusal, beforePayload, messageBytes}
-use Rattle.message.proofs.WrittenLengths.{length-before, plain-is, sealed-is}
+use Rattle.message.proofs.WrittenLengths.{length-header, length-before, plain-is, sealed-is, length-messageBytes}
 use Rattle.message.proofs.Written.{Allowed, allowed, bounds}
 
 header-bytes : (h : Header) (n : ℕ) → InWidth h → n < 65536 → AllBytes (headerBytes h n)
@@ -63,26 +63,24 @@ module _ (h : Header) (chain payload keys : List ℕ) (room space : ℕ) (good :
   abbrev before : List ℕ
   before = beforePayload h chain payload
 
-  -- The header of a message with this body and this tag.
-  header-back : (body tag : List ℕ) → message h chain body tag ≡ messageBytes h chain payload keys → length tag ≡ tagSize (h .flags)
+  -- The header of a message that ends in this body and this tag.
+  header-back : (body tag : List ℕ) → messageBytes h chain payload keys ≡ before ++ (body ++ tag) → length tag ≡ tagSize (h .flags)
       → (isSealed (h .flags) ≡ true → (length body % 16 ≡ 0) × (1 ≤ length body))
       → readHeader (messageBytes h chain payload keys) ≡ head.Read h start (length body)
-  header-back body tag is tagged blocks =
-      rw (← is)
+  header-back body tag bytes tagged blocks =
+      let long = simp length-append at (ap length bytes) in
+      let n : lengthOf h chain payload ≡ 40 + length chain + length body + length tag =
+      omega (arith, length-messageBytes h chain payload keys, length-header h (lengthOf h chain payload)) in
+      rw (bytes, append-assoc, n)
       (read-back h chain body tag
       (record { kind = a .kind; flags = a .flags; piece = a .piece; chained = a .chained; tagged = tagged; blocks = blocks }))
 
   -- A plain message.
   module _ (plain : isSealed (h .flags) ≡ false) where
-    plain-message : message h chain payload [] ≡ messageBytes h chain payload keys
-    plain-message =
-        let (bytes, number) = plain-is h chain payload keys plain in
-        let n : 40 + length chain + length payload + 0 ≡ lengthOf h chain payload = omega arith in
-        rw (n, append-nil, bytes) (sym (append-assoc (headerBytes h (lengthOf h chain payload)) chain payload))
-
     plain-header : readHeader (messageBytes h chain payload keys) ≡ head.Read h start (length payload)
     plain-header =
-        header-back payload [] plain-message (sym (plain-tag (h .kind) (h .flags) (a .flags) plain)) (λ s. absurd (true≢false (sym s ∙ plain)))
+        header-back payload [] (rw append-nil (plain-is h chain payload keys plain .0)) (sym (plain-tag (h .kind) (h .flags) (a .flags) plain))
+        (λ s. absurd (true≢false (sym s ∙ plain)))
 
     -- The payload's bytes are where it lies.
     pub payload-plain : take (length payload) (drop (40 + length chain) (messageBytes h chain payload keys)) ≡ payload
@@ -98,16 +96,6 @@ module _ (h : Header) (chain payload keys : List ℕ) (room space : ℕ) (good :
     abbrev part : List ℕ
     part = cbcEncrypt (expandKey (encryptionKey keys)) (vector keys before) (plainText payload)
 
-    abbrev tag : List ℕ
-    tag = tagOf keys (sealedBody keys before payload)
-
-    sealed-message : message h chain part tag ≡ messageBytes h chain payload keys
-    sealed-message =
-        let (bytes, number) = sealed-is h chain payload keys sealed in
-        let n : 40 + length chain + length part + length tag ≡ lengthOf h chain payload =
-        omega (arith, length-part keys before payload, length-tag keys (sealedBody keys before payload)) in
-        rw (n, bytes, in-parts) (sym (append-assoc (headerBytes h (lengthOf h chain payload)) chain (part ++ tag)))
-
     pub sealed-back : SealedBack h chain payload keys room
     sealed-back =
         let (bytes, number) = sealed-is h chain payload keys sealed in
@@ -115,14 +103,15 @@ module _ (h : Header) (chain payload keys : List ℕ) (room space : ℕ) (good :
         let s = sizes (length payload) in
         let l = length-part keys before payload in
         let at = length-before h chain payload in
+        let tag = tagOf keys (sealedBody keys before payload) in
         let of-before = append-bytes (header-bytes h (lengthOf h chain payload) widths (omega arith)) of-chain in
         let plain : opened (messageBytes h chain payload keys) keys start ≡ plainText payload =
         rw (bytes, ← at)
         (opened-back keys before payload (a .keyed sealed) (omega arith) (omega arith) of-keys of-before of-payload) in
         record {
           header = rw (← l)
-              (header-back part tag sealed-message (length-tag keys (sealedBody keys before payload) ∙ sym (sealed-tag (h .flags) sealed))
-              (λ e. rw l (s .blocks, omega arith)));
+              (header-back part tag (bytes ∙ in-parts keys before payload)
+              (length-tag keys (sealedBody keys before payload) ∙ sym (sealed-tag (h .flags) sealed)) (λ e. rw l (s .blocks, omega arith)));
           opens = λ fits. rw (bytes, ← at)
               (opens-back keys before payload (a .keyed sealed) (omega arith) (omega arith) of-keys of-before of-payload room fits);
           told = rw plain (told-plainText payload (omega arith));

@@ -53,7 +53,8 @@ length-before h chain payload = rw (length-append, length-header)
 -- The bytes of a message and their number.
 module _ (h : Header) (chain payload keys : List ℕ) where
   pub plain-is : isSealed (h .flags) ≡ false
-      → (messageBytes h chain payload keys ≡ beforePayload h chain payload ++ payload) × (lengthOf h chain payload ≡ 40 + length chain + length payload)
+      → (messageBytes h chain payload keys ≡ beforePayload h chain payload ++ payload)
+      × (lengthOf h chain payload ≡ 40 + length chain + length payload)
   unfolding messageBytes finishedLength
   plain-is e = rw e (refl, refl)
 

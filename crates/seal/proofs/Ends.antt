@@ -1,8 +1,8 @@
 -- SPDX-License-Identifier: MPL-2.0
 -- The end of a block against a run of one byte, from the block's end down: one byte more.
 use Prim.Native.Nat.{ℕ, suc, _-_, _≤_, _<_}
-use mathlib.Core.Path.{_≡_, _∙_, ap}
-use mathlib.Core.List.{List, _∷_}
+use mathlib.Core.Path.{_≡_}
+use mathlib.Core.List.{List}
 use mathlib.Core.Bool.{Bool, not, true, false, _&&_, _||_}
 use native.Mathlib.Omega.{arith}
 use lib.Dec.{eqb}
@@ -21,6 +21,5 @@ pub end-more : (n : ℕ) (block : List ℕ) (byte i : ℕ) (bad : Bool) → leng
 end-more n block byte i bad l p q e =
     let s : suc (i - 1) ≡ i = omega arith in
     let k : n - (i - 1) ≡ suc (n - i) = omega arith in
-    let d : drop (i - 1) block ≡ getD block (i - 1) 0 ∷ drop i block =
-    drop-cons block (i - 1) 0 (omega arith) ∙ ap (λ (m : ℕ). getD block (i - 1) 0 ∷ drop m block) s in
+    let d = rw s at (drop-cons block (i - 1) 0 (omega arith)) in
     rw (e, k, d) (not-both (same (drop i block) (replicate (n - i) byte)) (eqb (getD block (i - 1) 0) byte))

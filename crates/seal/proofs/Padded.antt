@@ -1,17 +1,16 @@
 -- SPDX-License-Identifier: MPL-2.0
 -- Laws of the padding rule, for all who seal and open: a change of the rule is proved here and nowhere else.
 use Prim.Native.Nat.{ℕ, _+_, _-_, _%_, _≤_, _<_, _^_}
-use mathlib.Core.Path.{_≡_, refl, ap}
+use mathlib.Core.Path.{_≡_, refl}
 use mathlib.Core.List.{List, _++_}
-use mathlib.Core.Bool.{Bool, not, false, _||_}
+use mathlib.Core.Bool.{false}
 use native.Mathlib.Omega.{arith}
 use native.Mathlib.Nat.{div-add-mod'}
 use lib.Dec.{eqb}
-use lib.ListN.{length, getD, take, drop, replicate, length-append, length-replicate, List·getD-append}
+use lib.ListN.{length, getD, take, drop, length-append, length-replicate, List·getD-append}
 use lib.Seq.{drop-drop, getD-take, take-append-seam, drop-append-seam}
 use borrow.Author.Tests.{eq-eqb, eqb-true}
 use Rattle.laws.specs.Bytes.{be32}
-use Rattle.laws.specs.Same.{same}
 use Rattle.laws.proofs.Cases.{on}
 use Rattle.laws.proofs.Sames.{same-refl}
 use Rattle.seal.specs.Padding.{padding, sealedSize, paddingBytes, plainText, badPlain, payloadOf, badBlocks}

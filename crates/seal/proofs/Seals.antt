@@ -9,6 +9,7 @@ use borrow.Rule.Slice.PartMut.{putMid, post-is}
 use borrow.Author.Tests.{ne-eqb, le-ltb, ltb-false, eqb-true, not-false}
 use lib.ListN.{length, take, drop, length-append}
 use lib.Seq.{sets, length-take-le, take-at}
+use Rattle.laws.specs.Bytes.{bytesAt}
 use Rattle.laws.specs.Rows.{testOf}
 use Rattle.laws.proofs.Parts.{bytesAt-take}
 use Rattle.laws.proofs.Stores.{stored-twice, sets-start}
@@ -35,12 +36,8 @@ put-after front bytes out k l fits p q =
 pub vector-front : (keys m : List ℕ) (n : ℕ) → 40 ≤ n → vector keys (take n m) ≡ vector keys m
 unfolding vector vectorBlock
 vector-front keys m n h =
-    rw (
-      bytesAt-take m n 24 8 (omega arith),
-      bytesAt-take m n 8 4 (omega arith),
-      bytesAt-take m n 20 2 (omega arith),
-      bytesAt-take m n 22 2 (omega arith),
-    )
+    let at : (i k : ℕ) → i + k ≤ 40 → bytesAt (take n m) i k ≡ bytesAt m i k = λ i k l. bytesAt-take m n i k (omega arith) in
+    rw (at 24 8 (omega arith), at 8 4 (omega arith), at 20 2 (omega arith), at 22 2 (omega arith))
 
 pub length-sealed : (keys : List (List ℕ)) (v payload : List ℕ) → length (cbcEncrypt keys v (plainText payload)) ≡ sealedSize (length payload)
 length-sealed keys v payload = cbcEncrypt-length keys v (plainText payload) (plainText-blocks payload) ∙ length-plainText payload

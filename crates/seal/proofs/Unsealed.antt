@@ -1,10 +1,10 @@
 -- SPDX-License-Identifier: MPL-2.0
 -- Opening what was sealed gives it back: the tag is over the same bytes, the vector of the same header, and decryption undoes encryption.
 use Prim.Native.Nat.{ℕ, _+_, _-_, _/_, _%_, _≤_, _<_}
-use mathlib.Core.Path.{_≡_, refl, sym, ap, _∙_}
+use mathlib.Core.Path.{_≡_, _∙_}
 use mathlib.Core.List.{List, _++_, append-assoc}
 use native.Mathlib.Omega.{arith}
-use borrow.Author.Tests.{le-ltb, lt-leb, eq-eqb}
+use borrow.Author.Tests.{le-ltb, lt-leb}
 use lib.ListN.{length, take, drop, length-append, length-drop}
 use lib.Seq.{take-at, drop-at, take-append-seam, drop-append-seam, length-take-le}
 use Rattle.laws.proofs.Parts.{length-bytesAt}
@@ -67,7 +67,8 @@ block b l w = record { len = l; bytes = λ i k. w .at i }
 
 key-block : (n : ℕ) (keys : List ℕ) → n + 16 ≤ length keys → AllBytes keys → Block (take 16 (drop n keys))
 key-block n keys h w =
-    block (take 16 (drop n keys)) (length-take-le 16 (drop n keys) (simp length-drop (omega arith))) (take-bytes 16 (drop n keys) (drop-bytes n keys w))
+    block (take 16 (drop n keys)) (length-take-le 16 (drop n keys) (simp length-drop (omega arith)))
+    (take-bytes 16 (drop n keys) (drop-bytes n keys w))
 
 vector-block : (keys m : List ℕ) → 32 ≤ length keys → AllBytes keys → AllBytes m → Block (vector keys m)
 unfolding vector vectorBlock
@@ -82,7 +83,7 @@ plain-blocks payload small w =
     let s = sizes (length payload) in
     let pads : padding (length payload) < 256 = omega arith in
     let all : AllBytes (plainText payload) =
-    append-bytes (bytes32-bytes (length payload) small) (append-bytes w (replicate-bytes (padding (length payload)) (padding (length payload)) pads)) in
+    append-bytes (bytes32-bytes (length payload) small) (append-bytes w (replicate-bytes (padding (length payload)) _ pads)) in
     record { len = length-plainText payload ∙ omega arith; bytes = λ i k. all .at i }
 
 module _ (keys before payload : List ℕ) (whole : length keys ≡ 64) (long : 42 ≤ length before)

@@ -20,27 +20,19 @@ in-message c = ltb-false _ _ (sym (c .before .lacks2 .ensures) ∙ c .if3 .left)
 
 returns : tie.Need-returns
 unfolding payload partOf
-returns c =
-    let at-if2 = c .before in
-    rw (at-if2 .before .before .if1 .taken, sym (at-if2 .before .lacks .ensures) ∙ at-if2 .if2 .taken)
+returns c = rw (c .before .before .before .if1 .taken, sym (c .before .before .lacks .ensures) ∙ c .before .if2 .taken)
 
 returns-2 : tie.Need-returns-2
 unfolding payload partOf
-returns-2 c =
-    let at-if2 = c .before in
-    rw (at-if2 .before .before .if1 .taken, sym (at-if2 .before .lacks .ensures) ∙ at-if2 .if2 .left, add-sub-cancel-left)
+returns-2 c = rw (c .before .before .before .if1 .taken, sym (c .before .before .lacks .ensures) ∙ c .before .if2 .left, add-sub-cancel-left)
 
 returns-3 : tie.Need-returns-3
 unfolding payload partOf
-returns-3 c =
-    let at-if3 = c .before in
-    rw (at-if3 .before .before .if1 .left, sym (at-if3 .before .lacks2 .ensures) ∙ at-if3 .if3 .taken)
+returns-3 c = rw (c .before .before .before .if1 .left, sym (c .before .before .lacks2 .ensures) ∙ c .before .if3 .taken)
 
 returns-4 : tie.Need-returns-4
 unfolding payload partOf
-returns-4 c =
-    let at-if3 = c .before in
-    rw (at-if3 .before .before .if1 .left, sym (at-if3 .before .lacks2 .ensures) ∙ at-if3 .if3 .left, add-sub-cancel-left)
+returns-4 c = rw (c .before .before .before .if1 .left, sym (c .before .before .lacks2 .ensures) ∙ c .before .if3 .left, add-sub-cancel-left)
 
 pub payload-spec : {M : Type 1} → statement M
 payload-spec =

@@ -1,11 +1,10 @@
 -- SPDX-License-Identifier: MPL-2.0
 -- Refused, or header, chain and payload one after the other, the payload as it is or sealed.
-use mathlib.Core.Bool.{Bool}
-use mathlib.Core.Path.{_≡_, sym, ap, _∙_}
+use mathlib.Core.Path.{_≡_, sym, _∙_}
 use native.Mathlib.Omega.{arith}
 use lib.ListN.{length}
 use Rattle.laws.proofs.ByteLists.{AllBytes}
-use Rattle.message.specs.Writing.{finishedLength, lengthOf, writeRefusal}
+use Rattle.message.specs.Writing.{lengthOf, writeRefusal}
 use Rattle.message.proofs.Written.{Bounds, bounds, refused, wrote-plain, wrote-sealed}
 use borrow.Author.Needs.{needs}
 use Rattle.message.proofs.writing.write.Statement.{statement}
@@ -27,10 +26,7 @@ known c = bounds _ _ _ _ _ (of-chain c) (passed c)
 
 whole : (c : tie.After-finished-length) → let s = entry (c .before .before) .args in
     c .finished-length .result ≡ lengthOf (s .header) (s .chain .now) (s .payload .now)
-whole c =
-    let s = entry (c .before .before) .args in
-    c .finished-length .ensures
-    ∙ ap (λ (sealed : Bool). finishedLength sealed (length (s .chain .now)) (length (s .payload .now))) (c .before .is-sealed .ensures)
+whole c = c .finished-length .ensures ∙ rw (c .before .is-sealed .ensures)
 
 returns-2 : tie.Need-returns-2
 returns-2 c =

@@ -9,9 +9,7 @@ use Rattle.seal.proofs.key.block_at.Tie as tie
 returns : tie.Need-returns
 returns c =
     let at-copy = c .before in
-    let at-before = at-copy .before .before .before in
-    let start = at-before .before in
-    at-copy .copy .ensures .1 ∙ copied-part 16 (start .args .at) (start .args .bytes .now) _ (start .pre) refl
+    at-copy .copy .ensures .1 ∙ copied-part 16 _ _ _ (at-copy .before .before .before .before .pre) refl
 
 pub block-at-spec : {M : Type 1} → statement M
 block-at-spec =
