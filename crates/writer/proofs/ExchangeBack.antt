@@ -1,44 +1,22 @@
 -- SPDX-License-Identifier: MPL-2.0
--- A payload that carries nonce, X and Y has its shape, and they are read back: each part stands where the parts before it end.
+-- A payload that carries nonce, X and Y has its shape, and they are read back.
 use Prim.Native.Nat.{ℕ, _+_, _≤_}
-use mathlib.Core.Path.{_≡_, refl, sym, _∙_}
-use mathlib.Core.List.{List, [], _∷_, _++_, append-assoc, append-nil}
+use mathlib.Core.Path.{_≡_, refl, subst}
+use mathlib.Core.List.{List, [], _∷_, _++_}
 use mathlib.Core.Bool.{true, false}
 use native.Mathlib.Omega.{arith}
-use borrow.Author.Tests.{le-leb, eq-eqb, eqb-true}
-use lib.ListN.{length, take, length-append}
+use borrow.Author.Tests.{le-leb, eqb-true}
+use lib.ListN.{length}
+use lib.Seq.{take-all}
 use lib.Dec.{eqb}
-use Rattle.laws.specs.Bytes.{be16, be32, bytesAt, bytes16, bytes32}
+use Rattle.laws.specs.Bytes.{bytesAt}
 use Rattle.laws.proofs.Bools.{or-true}
 use Rattle.laws.proofs.Cases.{on}
-use Rattle.laws.proofs.Numbers.{be16-at, be32-at}
-use Rattle.laws.proofs.Parts.{part-back}
+use Rattle.laws.proofs.Parts.{bytesAt-part}
 use Rattle.wire.specs.Payload.{exchanges, isConnectionRequest, isConnectionResponse, isShaped, badPayload, readRequest}
 use Rattle.wire.specs.declared.payload.Request.{Request}
 use Rattle.writer.specs.Payload.{exchangeBytes, coded, connectionRequest, connectionResponse}
 use Rattle.writer.proofs.PayloadBack.{starts-back}
-
--- At place p of s the bytes b begin.
-record At (s : List ℕ) (p : ℕ) (b : List ℕ) : Type 0 where
-  front : List ℕ
-  is : s ≡ front ++ b
-  place : length front ≡ p
-
--- What follows their first part begins where it ends.
-past : (x : List ℕ) {s b : List ℕ} {p k : ℕ} → At s p (x ++ b) → length x ≡ k → At s (p + k) b
-past x {b = b} a e =
-    record { front = a .front ++ x; is = a .is ∙ sym (append-assoc (a .front) x b); place = rw (length-append (a .front) x, a .place, e) }
-
--- What is read there is read of them.
-module _ {s b : List ℕ} {p : ℕ} (a : At s p b) where
-  at16 : be16 s p ≡ be16 b 0
-  at16 = rw (a .is) (be16-at (a .front) b p (a .place))
-
-  at32 : be32 s p ≡ be32 b 0
-  at32 = rw (a .is) (be32-at (a .front) b p (a .place))
-
-part : (x b : List ℕ) {s : List ℕ} {p : ℕ} (n : ℕ) → At s p (x ++ b) → length x ≡ n → bytesAt s p n ≡ x
-part x b {p = p} n a e = rw (a .is) (part-back (a .front) x b p n (a .place) e)
 
 -- A request as the readers give it: its arrays have their lengths.
 pub record Whole (r : Request) : Type 0 where
@@ -46,34 +24,22 @@ pub record Whole (r : Request) : Type 0 where
   pub x : length (r .x) ≡ 32
   pub y : length (r .y) ≡ 32
 
+-- An array of a length is its bytes one by one, of which all that is read of a payload is computed.
+one-by-one : (l : List ℕ) (n : ℕ) → length l ≡ n → bytesAt l 0 n ≡ l
+one-by-one l n e = rw (bytesAt-part l 0 n (omega arith), take-all n l (omega arith))
+
 module _ (mode connect code : ℕ) (r : Request) (w : Whole r) where
-  abbrev bytes : List ℕ
-  bytes = coded mode connect code ++ exchangeBytes r
+  laid : record { nonce = bytesAt (r .nonce) 0 8; x = bytesAt (r .x) 0 32; y = bytesAt (r .y) 0 32 } ≡ r
+  laid = rw (one-by-one (r .nonce) 8 (w .nonce), one-by-one (r .x) 32 (w .x), one-by-one (r .y) 32 (w .y))
 
-  -- The lengths, and the arrays, each at its place.
-  parts : (be32 bytes 14 ≡ 16384) × (be16 bytes 18 ≡ 32) × (be16 bytes 52 ≡ 32) × (bytesAt bytes 6 8 ≡ r .nonce) × (bytesAt bytes 20 32 ≡ r .x)
-      × (bytesAt bytes 54 32 ≡ r .y)
-  unfolding exchangeBytes
-  parts =
-      let rest = bytes32 16384 ++ (bytes16 32 ++ (r .x ++ (bytes16 32 ++ (r .y ++ [])))) in
-      let n : At bytes 6 (r .nonce ++ rest) = record { front = take 6 bytes; is = simp (append-assoc, append-nil); place = refl } in
-      let size = past (r .nonce) n (w .nonce) in
-      let x-size = past (bytes32 16384) size refl in
-      let x = past (bytes16 32) x-size refl in
-      let y-size = past (r .x) x (w .x) in
-      let y = past (bytes16 32) y-size refl in
-      (at32 size, at16 x-size, at16 y-size, part (r .nonce) _ 8 n (w .nonce), part (r .x) _ 32 x (w .x), part (r .y) _ 32 y (w .y))
-
-  exchanges-back : exchanges bytes ≡ true
-  unfolding exchanges exchangeBytes
-  exchanges-back =
-      let n : length bytes ≡ 86 = simp length-append (omega (arith, w .nonce, w .x, w .y)) in
-      rw (eq-eqb (length bytes) 86 n, parts .0, parts .1, parts .2)
+  exchanges-back : exchanges (coded mode connect code ++ exchangeBytes r) ≡ true
+  unfolding exchanges exchangeBytes bytesAt
+  exchanges-back = subst (λ (q : Request). exchanges (coded mode connect code ++ exchangeBytes q) ≡ true) laid refl
 
   -- Nonce, X and Y are read back.
-  pub request-back : readRequest bytes ≡ r
-  unfolding readRequest
-  request-back = rw (parts .3, parts .4, parts .5)
+  pub request-back : readRequest (coded mode connect code ++ exchangeBytes r) ≡ r
+  unfolding readRequest exchangeBytes bytesAt
+  request-back = subst (λ (q : Request). readRequest (coded mode connect code ++ exchangeBytes q) ≡ q) laid refl
 
 module _ (mode : ℕ) (h : mode ≤ 2) (r : Request) (w : Whole r) where
   pub request-good : badPayload 2 false (connectionRequest mode r) ≡ false

@@ -14,7 +14,6 @@ use lib.Dec.{eqb}
 use Rattle.laws.specs.Bytes.{be16}
 use Rattle.laws.specs.Rows.{first}
 use Rattle.laws.proofs.Cases.{on}
-use Rattle.laws.proofs.Firsts.{quiet-first}
 use Rattle.wire.specs.Fields.{badType, badFlags, badPiece, isSealed, tagSize}
 use Rattle.wire.specs.Chain.{badChain}
 use Rattle.wire.specs.Reader.{headerOf, roomOf, chainOf, headerRows, rowsOf, refusalWith, refusalOf, readHeader}
@@ -73,10 +72,7 @@ module _ (h : Header) (chain body tag : List ℕ) where
     -- None of the rows applies.
     none : (n : ℕ) → 42 ≤ n → first (headerRows n 0x3030 n 3 h false (length body)) ≡ 0
     unfolding headerRows
-    none n long =
-        let l = le-ltb n 42 long in
-        quiet-first (headerRows n 0x3030 n 3 h false (length body))
-        (l, (refl, (rw (l, eq-eqb n n refl), (refl, (a .kind, (a .flags, (a .piece, (refl, (even-blocks, tt)))))))))
+    none n long = rw (le-ltb n 42 long, eq-eqb n n refl, a .kind, a .flags, a .piece, even-blocks)
 
     accepted : refusalOf message ≡ 0
     unfolding refusalOf refusalWith rowsOf headerBytes
