@@ -19,10 +19,6 @@ Inv-loop out₀ heard i₀ out i = (i ≤ heardSize) × (length out ≡ length o
 abbrev μ-loop : tie.MeasureT-loop
 μ-loop out₀ heard i₀ out i = heardSize - i
 
-loop-holds : tie.Need-loop-holds Inv-loop μ-loop
-unfolding listed mostPieces
-loop-holds c = (omega arith, refl, refl)
-
 returns : tie.Need-returns Inv-loop μ-loop
 unfolding mostPieces
 returns c =
@@ -31,8 +27,8 @@ returns c =
     (rw (← e) (l .inv .2), search needs)
 
 pub put-heard-spec : {M : Type 1} → statement M
-unfolding mostPieces
+unfolding listed mostPieces
 put-heard-spec =
     tie.close (tie.spec
-    Inv-loop μ-loop loop-holds (λ c. search needs) (λ c. search needs) (λ c κs. search needs) (λ c κs. search needs)
+    Inv-loop μ-loop (λ c. (omega arith, refl, refl)) (λ c. search needs) (λ c. search needs) (λ c κs. search needs) (λ c κs. search needs)
     (λ c. search needs) (λ c. search needs) (λ c. (omega arith, omega arith, search listed-stored)) (λ c. search needs) returns)
