@@ -14,6 +14,10 @@ use Rattle.laws.proofs.Stores.{sets-start, stored-twice}
 use Rattle.state.specs.State.{listed}
 
 module _ {A : Type 0} (f : ℕ → A) where
+  pub listed-none : listed f 0 ≡ []
+  unfolding listed
+  listed-none = refl
+
   pub length-listed : (n : ℕ) → length (listed f n) ≡ n
   unfolding listed
   length-listed zero = refl

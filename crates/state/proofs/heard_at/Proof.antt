@@ -8,8 +8,8 @@ use lib.ListN.{length, drop}
 use borrow.Author.Needs.{needs}
 use Rattle.wire.specs.Fields.{mostPieces}
 use Rattle.joining.specs.Heard.{most}
-use Rattle.state.specs.State.{listed, heardAt}
-use Rattle.state.proofs.Listed.{listed-more, listed-all}
+use Rattle.state.specs.State.{heardAt}
+use Rattle.state.proofs.Listed.{listed-none, listed-more, listed-all}
 use Rattle.state.proofs.heard_at.Statement.{statement}
 use Rattle.state.proofs.heard_at.Tie as tie
 
@@ -34,8 +34,8 @@ returns c =
     rw (← l .inv .1) (l .inv .2 ∙ listed-all _ _ (l .i) (e ∙ sym (l .inv .1)))
 
 pub heard-at-spec : {M : Type 1} → statement M
-unfolding listed mostPieces
+unfolding mostPieces
 heard-at-spec =
     tie.close (tie.spec
-    Inv-loop μ-loop (λ c. (omega arith, refl, refl)) (λ c. search needs) (λ c κs. search needs) (λ c. search needs) (λ c κs. search needs)
+    Inv-loop μ-loop (λ c. (omega arith, refl, rw listed-none)) (λ c. search needs) (λ c κs. search needs) (λ c. search needs) (λ c κs. search needs)
     (λ c. search needs) (λ c. search needs) (λ c. search needs) loop-again returns)

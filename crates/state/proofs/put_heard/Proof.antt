@@ -8,8 +8,8 @@ use lib.Seq.{sets}
 use borrow.Author.Needs.{needs}
 use Rattle.wire.specs.Fields.{mostPieces}
 use Rattle.state.specs.Layout.{heardPlace, heardSize}
-use Rattle.state.specs.State.{listed, heardBytes}
-use Rattle.state.proofs.Listed.{listed-stored}
+use Rattle.state.specs.State.{heardBytes}
+use Rattle.state.proofs.Listed.{listed-none, listed-stored}
 use Rattle.state.proofs.put_heard.Statement.{statement}
 use Rattle.state.proofs.put_heard.Tie as tie
 
@@ -27,8 +27,8 @@ returns c =
     (rw (← e) (l .inv .2), search needs)
 
 pub put-heard-spec : {M : Type 1} → statement M
-unfolding listed mostPieces
+unfolding mostPieces
 put-heard-spec =
     tie.close (tie.spec
-    Inv-loop μ-loop (λ c. (omega arith, refl, refl)) (λ c. search needs) (λ c. search needs) (λ c κs. search needs) (λ c κs. search needs)
+    Inv-loop μ-loop (λ c. (omega arith, refl, rw listed-none)) (λ c. search needs) (λ c. search needs) (λ c κs. search needs) (λ c κs. search needs)
     (λ c. search needs) (λ c. search needs) (λ c. (omega arith, omega arith, search listed-stored)) (λ c. search needs) returns)
