@@ -34,6 +34,10 @@ module _ (a m b n : ℕ) where
 
 pub ruleset sizes = (first-sized, second-sized, second-of-three)
 
+-- What is made of a value, where the value is known.
+pub told : {A B : Type 0} (f : A → B) (a b : A) (s : B) → a ≡ b → s ≡ f b → s ≡ f a
+told f a b s p q = rw p q
+
 -- What the cutter answers is put into words.
 module _ (F : ℕ) (R : List ℕ) (i n : ℕ) (judged : n ≡ cutRefusal F (length R) i) where
   pub cut-refused : (w : List ℕ) → (n ≡ 0 → ⊥) → w ≡ 0 ∷ 0 ∷ 0 ∷ [] → w ≡ cutWords F R i

@@ -6,7 +6,7 @@ use mathlib.Core.Logic.{⊎-elim}
 use mathlib.Core.List.{List, [], _∷_, _++_, append-assoc, append-nil}
 use native.Mathlib.Omega.{arith}
 use native.Mathlib.Numerals.{add-one}
-use lib.ListN.{length, getD, set, drop, length-append, drop-of-length-le, List·getD-append}
+use lib.ListN.{length, getD, set, drop, length-append, List·getD-append}
 use lib.Seq.{sets, drop-cons, drop-length, set-at, getD-at}
 use Rattle.laws.specs.Bytes.{be8, bytesAt}
 use Rattle.laws.proofs.Order.{lt-or-ge}
@@ -14,6 +14,10 @@ use Rattle.laws.proofs.Stores.{sets-start, stored-twice}
 use Rattle.state.specs.State.{listed}
 
 module _ {A : Type 0} (f : ℕ → A) where
+  pub listed-none : listed f 0 ≡ []
+  unfolding listed
+  listed-none = refl
+
   pub length-listed : (n : ℕ) → length (listed f n) ≡ n
   unfolding listed
   length-listed zero = refl
@@ -59,5 +63,4 @@ listed-stored f l m n at i x p e q = rw (add-one, ← e) (stored-twice (listed f
 pub sets-whole : (a l : List ℕ) → length l ≡ length a → sets l 0 a ≡ a
 sets-whole a l e =
     let k : length a ≤ length l = omega arith in
-    let h : length l ≤ length a = omega arith in
-    sets-start a l k ∙ ap (λ (r : List ℕ). a ++ r) (drop-of-length-le l h) ∙ append-nil a
+    rw (sets-start a l k, ← e, drop-length l, append-nil)

@@ -1,19 +1,18 @@
 -- SPDX-License-Identifier: MPL-2.0
 -- The connection that a state was made of is read back from it: the parts stand one after the other, each at its place.
-use Prim.Native.Nat.{ℕ, _+_, _*_, _/_, _%_, _^_, _<_}
+use Prim.Native.Nat.{ℕ, _+_, _*_, _/_, _%_, _<_}
 use mathlib.Core.Path.{_≡_, refl, sym, ap, _∙_}
 use mathlib.Core.List.{List, [], _∷_, append-nil}
 use mathlib.Core.Bool.{Bool, false}
 use native.Mathlib.Omega.{arith}
 use native.Mathlib.Nat.{div-add-mod'}
-use lib.Dec.{eqb}
 use lib.ListN.{length, getD, length-append}
 use lib.Seq.{ext-getD}
 use Rattle.laws.specs.Bytes.{be8, be16, be32, be64, bytesAt, bytes16, bytes32, bytes64}
 use Rattle.wire.specs.Fields.{mostPieces}
 use Rattle.joining.specs.Heard.{has, most}
 use Rattle.hub.specs.declared.Connection.{Connection}
-use Rattle.state.specs.Layout.{heardPlace, heardSize, stateSize}
+use Rattle.state.specs.Layout.{heardPlace, heardSize}
 use Rattle.state.specs.State.{joined, bitAt, heardAt, heardByte, heardBytes, progressAt, connectionAt, Fits, ReadBack}
 use Rattle.state.specs.State.{progressParts, progressBytes, stateBytes}
 use Rattle.state.proofs.Listed.{length-listed, listed-at, bytesAt-listed}

@@ -7,19 +7,19 @@ use mathlib.Core.Bool.{false}
 use native.Mathlib.Omega.{arith}
 use native.Mathlib.Nat.{add-zero, mul-add-div-right, div-eq-of-lt, mul-add-mod-self-right, mod-eq-of-lt}
 use lib.Dec.{eqb}
-use lib.ListN.{length, drop}
-use lib.Seq.{take-all}
+use lib.ListN.{length}
+use lib.Seq.{take-length}
 use Rattle.laws.specs.Bytes.{be8, be16, be32, be64, bytesAt, bytes16, bytes32, bytes64}
 use Rattle.laws.proofs.Numbers.{be16-below, be32-below}
 use Rattle.laws.proofs.Parts.{bytesAt-part}
 use Rattle.wire.specs.Fields.{mostPieces}
 use Rattle.joining.specs.Heard.{has, most}
-use Rattle.state.specs.Layout.{sizePlace, sessionPlace, expectedPlace, heardPlace, heardSize, countPlace, channelPlace, lastPlace, stateSize}
-use Rattle.state.specs.State.{listed, bitAt, heardAt, heardByte, heardBytes, progressAt, progressParts, connectionAt, Whole}
-use Rattle.state.proofs.Listed.{listed-at, listed-same, bytesAt-listed}
+use Rattle.state.specs.Layout.{sizePlace, sessionPlace, expectedPlace, heardPlace, heardSize, countPlace, channelPlace, lastPlace}
+use Rattle.state.specs.State.{bitAt, heardAt, heardByte, heardBytes, progressAt, progressParts, connectionAt, Fits, Whole}
+use Rattle.state.proofs.Listed.{length-listed, listed-at, listed-same, bytesAt-listed}
 use Rattle.state.proofs.Parted.{Stand, bytesAt-append, stand-joined}
 use Rattle.state.proofs.Bits.{eight-bits}
-use Rattle.state.proofs.StateBack.{eights, allParts, all-parts}
+use Rattle.state.proofs.StateBack.{eights, allParts, all-parts, read-back}
 
 -- The two digits of a number in base w.
 digits : (w a b : ℕ) → b < w → ((a * w + b) / w ≡ a) × ((a * w + b) % w ≡ b)
@@ -63,19 +63,26 @@ module _ (s : List ℕ) (bytes : (i : ℕ) → be8 s i < 256) where
   heard-bytes = bytesAt-listed s heardPlace heardSize ∙ listed-same _ _ heardSize heard-byte
 
   progress-stand : Stand s expectedPlace (progressParts (progressAt s))
-  unfolding listed mostPieces
-  progress-stand = (four expectedPlace, (heard-bytes, (eight countPlace, (eight channelPlace, (two lastPlace, tt)))))
+  unfolding mostPieces
+  progress-stand =
+      rw (length-listed (heardByte (heardAt s most)) heardSize)
+      (four expectedPlace, (heard-bytes, (eight countPlace, (eight channelPlace, (two lastPlace, tt)))))
 
   parts-stand : Stand s 0 (allParts (connectionAt s))
   unfolding connectionAt bytesAt
   parts-stand = (eight sizePlace, (refl, (eight sessionPlace, (refl, (refl, (refl, (refl, progress-stand)))))))
 
+  fits : Fits (connectionAt s)
+  unfolding connectionAt bytesAt
+  fits = record { nonce = refl; x = refl; y = refl; digest = refl; heard = length-listed (bitAt s) most }
+
 pub whole : Whole
-unfolding connectionAt bytesAt listed mostPieces
 whole s e bytes =
-    let k : 0 + stateSize ≤ length s = omega arith in
-    let h : length (drop 0 s) ≤ stateSize = omega arith in
-    all-parts (connectionAt s)
-    ∙ stand-joined s 0 (allParts (connectionAt s)) (parts-stand s bytes)
-    ∙ bytesAt-part s 0 stateSize k
-    ∙ take-all stateSize (drop 0 s) h
+    let c = connectionAt s in
+    let n = sym (ap length (all-parts c)) ∙ read-back c (fits s bytes) .0 ∙ sym e in
+    let k : 0 + length s ≤ length s = omega arith in
+    all-parts c
+    ∙ stand-joined s 0 (allParts c) (parts-stand s bytes)
+    ∙ ap (bytesAt s 0) n
+    ∙ bytesAt-part s 0 (length s) k
+    ∙ take-length s

@@ -121,10 +121,8 @@ small-tag m = omega (arith, mod-lt (be16 m 6 / 2) (zero-lt-suc 1))
 sound-good : (m : List ℕ) → Good m → Sound m (headerOf m) (length m - tagSize (be16 m 6) - leaves (chainOf m)) (leaves (chainOf m))
 unfolding chainOf
 sound-good m g =
-    let tag = tagSize (be16 m 6) in
-    let r = room-left tag m (g .chained) in
+    let r = room-left (tagSize (be16 m 6)) m (g .chained) in
     let t = small-tag m in
-    let l = g .long in
     record { is = refl; good = g; spans = omega arith; behind = omega arith; blocks = g .blocks }
 
 -- What that says of an answer, which is nothing of a refusal.

@@ -8,8 +8,8 @@ use lib.ListN.{length, drop}
 use borrow.Author.Needs.{needs}
 use Rattle.wire.specs.Fields.{mostPieces}
 use Rattle.joining.specs.Heard.{most}
-use Rattle.state.specs.State.{listed, bitAt, heardAt}
-use Rattle.state.proofs.Listed.{listed-more, listed-all}
+use Rattle.state.specs.State.{heardAt}
+use Rattle.state.proofs.Listed.{listed-none, listed-more, listed-all}
 use Rattle.state.proofs.heard_at.Statement.{statement}
 use Rattle.state.proofs.heard_at.Tie as tie
 
@@ -18,10 +18,6 @@ Inv-loop s heard₀ i₀ heard i = (i ≤ most) × (length heard₀ ≡ most) ×
 
 abbrev μ-loop : tie.MeasureT-loop
 μ-loop s heard₀ i₀ heard i = most - i
-
-loop-holds : tie.Need-loop-holds Inv-loop μ-loop
-unfolding listed mostPieces
-loop-holds c = (omega arith, refl, refl)
 
 loop-again : tie.Need-loop-again Inv-loop μ-loop
 unfolding mostPieces
@@ -41,5 +37,5 @@ pub heard-at-spec : {M : Type 1} → statement M
 unfolding mostPieces
 heard-at-spec =
     tie.close (tie.spec
-    Inv-loop μ-loop loop-holds (λ c. search needs) (λ c κs. search needs) (λ c. search needs) (λ c κs. search needs)
+    Inv-loop μ-loop (λ c. (omega arith, refl, rw listed-none)) (λ c. search needs) (λ c κs. search needs) (λ c. search needs) (λ c κs. search needs)
     (λ c. search needs) (λ c. search needs) (λ c. search needs) loop-again returns)

@@ -8,8 +8,8 @@ use lib.Seq.{sets}
 use borrow.Author.Needs.{needs}
 use Rattle.wire.specs.Fields.{mostPieces}
 use Rattle.state.specs.Layout.{heardPlace, heardSize}
-use Rattle.state.specs.State.{listed, heardBytes}
-use Rattle.state.proofs.Listed.{listed-stored}
+use Rattle.state.specs.State.{heardBytes}
+use Rattle.state.proofs.Listed.{listed-none, listed-stored}
 use Rattle.state.proofs.put_heard.Statement.{statement}
 use Rattle.state.proofs.put_heard.Tie as tie
 
@@ -18,10 +18,6 @@ Inv-loop out₀ heard i₀ out i = (i ≤ heardSize) × (length out ≡ length o
 
 abbrev μ-loop : tie.MeasureT-loop
 μ-loop out₀ heard i₀ out i = heardSize - i
-
-loop-holds : tie.Need-loop-holds Inv-loop μ-loop
-unfolding listed mostPieces
-loop-holds c = (omega arith, refl, refl)
 
 returns : tie.Need-returns Inv-loop μ-loop
 unfolding mostPieces
@@ -34,5 +30,5 @@ pub put-heard-spec : {M : Type 1} → statement M
 unfolding mostPieces
 put-heard-spec =
     tie.close (tie.spec
-    Inv-loop μ-loop loop-holds (λ c. search needs) (λ c. search needs) (λ c κs. search needs) (λ c κs. search needs)
+    Inv-loop μ-loop (λ c. (omega arith, refl, rw listed-none)) (λ c. search needs) (λ c. search needs) (λ c κs. search needs) (λ c κs. search needs)
     (λ c. search needs) (λ c. search needs) (λ c. (omega arith, omega arith, search listed-stored)) (λ c. search needs) returns)

@@ -1,7 +1,6 @@
 -- SPDX-License-Identifier: MPL-2.0
 -- The buffers have their sizes or not; the step is that of the connection in the state.
 use Rattle.wire.specs.Fields.{mostPieces}
-use Rattle.state.specs.Layout.{stateSize}
 use Rattle.hub_c.proofs.Sizing.{sizes}
 use borrow.Author.Needs.{needs}
 use mathlib.Core.Path.{refl}

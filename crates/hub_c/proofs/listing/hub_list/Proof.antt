@@ -5,7 +5,6 @@ use Rattle.hub_c.proofs.Sizing.{first-sized, second-sized, line-told}
 use native.Mathlib.Omega.{arith}
 use native.Mathlib.Nat.{zero-add}
 use lib.ListN.{length}
-use mathlib.Core.Path.{_≡_}
 use borrow.Author.Needs.{needs}
 use mathlib.Core.Path.{refl}
 use Rattle.hub_c.specs.Line.{lineText}

@@ -1,7 +1,7 @@
 -- SPDX-License-Identifier: MPL-2.0
 -- A refusal leaves the words alone; else the fields and the place fill them.
-use Rattle.hub_c.specs.Headers.{fieldWords, foundWords, handed}
-use mathlib.Core.Path.{refl, sym, _∙_}
+use Rattle.hub_c.specs.Headers.{foundWords, handed}
+use mathlib.Core.Path.{refl, sym}
 use borrow.Author.Tests.{eq-eqb, ne-eqb}
 use Rattle.state.proofs.Listed.{sets-whole}
 use borrow.Author.Needs.{needs}

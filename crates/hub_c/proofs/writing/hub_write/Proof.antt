@@ -1,8 +1,8 @@
 -- SPDX-License-Identifier: MPL-2.0
 -- The words have their sizes or not; the writer answers to the narrowed header what it answers to the words.
-use lib.Dec.{eqb, ltb}
+use lib.Dec.{ltb}
 use lib.ListN.{length}
-use Rattle.hub_c.specs.Written.{fieldsOf, wrongFields}
+use Rattle.hub_c.specs.Written.{fieldsOf}
 use Rattle.hub_c.proofs.Narrowing.{narrow-answer, narrow-output}
 use borrow.Author.Needs.{needs}
 use Rattle.hub_c.proofs.Sizing.{sizes, third-false}

@@ -17,10 +17,6 @@ Inv-loop s at out₀ i₀ out i = (i ≤ length out₀) × (length out ≡ lengt
 abbrev μ-loop : tie.MeasureT-loop
 μ-loop s at out₀ i₀ out i = length out₀ - i
 
-loop-holds : tie.Need-loop-holds Inv-loop μ-loop
-unfolding bytesAt
-loop-holds c = (omega arith, refl, refl)
-
 loop-again : tie.Need-loop-again Inv-loop μ-loop
 loop-again c =
     let start : tie.Start Inv-loop μ-loop = search in
@@ -36,7 +32,8 @@ returns c =
     l .inv .2 ∙ filled-all (start .args .s .now) (start .args .out .now) (start .args .at) (l .i) (omega arith)
 
 pub fill-spec : {M : Type 1} → statement M
+unfolding bytesAt
 fill-spec =
     tie.close (tie.spec
-    Inv-loop μ-loop loop-holds (λ c. search needs) _ (λ c. search needs) (λ c. search needs)
+    Inv-loop μ-loop (λ c. (omega arith, refl, refl)) (λ c. search needs) _ (λ c. search needs) (λ c. search needs)
     (λ c. search needs) loop-again (λ c. search needs) returns)
