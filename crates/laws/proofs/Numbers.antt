@@ -32,6 +32,3 @@ module _ (a b : List ℕ) (n : ℕ) (e : length a ≡ n) where
 
   pub be16-at : be16 (a ++ b) n ≡ be16 b 0
   be16-at = ap (be16 (a ++ b)) (sym (add-zero n)) ∙ be16-past 0
-
-  pub be32-at : be32 (a ++ b) n ≡ be32 b 0
-  be32-at = ap (be32 (a ++ b)) (sym (add-zero n)) ∙ be32-past 0

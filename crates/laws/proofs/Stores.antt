@@ -5,7 +5,7 @@ use mathlib.Core.Path.{_≡_, refl, sym, ap, _∙_}
 use mathlib.Core.List.{List, [], _∷_, _++_}
 use native.Mathlib.Omega.{arith}
 use native.Mathlib.Nat.{add-zero, zero-add}
-use lib.ListN.{length, take, drop, set, length-set}
+use lib.ListN.{length, take, drop, set, length-append, length-set}
 use lib.Seq.{sets, sets-eq, set-out}
 
 pub sets-sets : (a b l : List ℕ) (i j : ℕ) → j ≡ i + length a → sets (sets l i a) j b ≡ sets l i (a ++ b)
@@ -19,6 +19,14 @@ stored-twice a b l i j p q e = rw (q, p) (sets-sets a b l i j e)
 -- A run from the start that the list has room for.
 pub sets-start : (a l : List ℕ) → length a ≤ length l → sets l 0 a ≡ a ++ drop (length a) l
 sets-start a l h = sets-eq a l 0 (omega arith) ∙ ap (λ (k : ℕ). a ++ drop k l) (zero-add (length a))
+
+-- Bytes that are put after a front of the output.
+pub put-after : (front bytes out : List ℕ) (k : ℕ) {m n : List ℕ} → length front ≡ k → k + length bytes ≤ length out
+    → m ≡ front ++ drop k out → n ≡ sets m k bytes → n ≡ (front ++ bytes) ++ drop (k + length bytes) out
+put-after front bytes out k l fits p q =
+    let whole : length (front ++ bytes) ≡ k + length bytes = rw (length-append, l) in
+    stored-twice front bytes out 0 k (p ∙ rw (sets-start front out (omega arith), l)) q (omega arith)
+    ∙ rw (sets-start (front ++ bytes) out (omega arith), whole)
 
 -- A run that begins past the end.
 pub sets-past : (s l : List ℕ) (at : ℕ) → length l ≤ at → sets l at s ≡ l

@@ -12,6 +12,7 @@ use Rattle.laws.specs.Rows.{testOf}
 use Rattle.laws.proofs.Bools.{and-false-right}
 use Rattle.laws.proofs.ByteLists.{AllBytes}
 use Rattle.laws.proofs.Firsts.{row-false}
+use Rattle.laws.proofs.Stores.{put-after}
 use Rattle.wire.specs.Refusals.{wrongType, wrongFlags, wrongPiece, wrongChain, wrongKeys, wrongPayload, wrongPieceSize, noRoom}
 use Rattle.wire.specs.Fields.{badType, badFlags, badPiece, isSealed}
 use Rattle.wire.specs.Chain.{badChain}
@@ -23,7 +24,7 @@ use Rattle.writer.specs.declared.Written.{Written}
 use Rattle.writer.specs.declared.Written.the-variants.{Refused, Bytes}
 use Rattle.seal.specs.Padding.{sealedSize}
 use Rattle.seal.specs.Sealed.{sealedInto}
-use Rattle.seal.proofs.Seals.{put-after, fit-allowed}
+use Rattle.seal.proofs.Seals.{fit-allowed}
 use Rattle.message.specs.Writing.{lengthOf, writeRows, writeRefusal, beforePayload, messageBytes, writeAnswer, writtenInto}
 use Rattle.message.proofs.WrittenSizes.{chain-short, payload-short}
 use Rattle.message.proofs.WrittenLengths.{length-within, length-before, plain-is, sealed-is}

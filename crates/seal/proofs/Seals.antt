@@ -12,7 +12,7 @@ use lib.Seq.{sets, length-take-le, take-at}
 use Rattle.laws.specs.Bytes.{bytesAt}
 use Rattle.laws.specs.Rows.{testOf}
 use Rattle.laws.proofs.Parts.{bytesAt-take}
-use Rattle.laws.proofs.Stores.{stored-twice, sets-start}
+use Rattle.laws.proofs.Stores.{put-after}
 use Rattle.laws.proofs.Firsts.{row-false}
 use Rattle.wire.specs.Refusals.{tooShort, wrongLength, wrongKeys, noRoom}
 use Rattle.sha256.proofs.Lengths.{length-hmac}
@@ -23,14 +23,6 @@ use Rattle.seal.specs.Keys.{encryptionKey, tagKey, vectorBlock, vector, 
 use Rattle.seal.specs.Padding.{sealedSize, plainText}
 use Rattle.seal.specs.Sealed.{sealedBody, sealedMessage, sealRows, sealRefusal, sealedInto}
 use Rattle.seal.proofs.Padded.{sizes, length-plainText, plainText-blocks}
-
--- Bytes that are put after a front of the output.
-pub put-after : (front bytes out : List ℕ) (k : ℕ) {m n : List ℕ} → length front ≡ k → k + length bytes ≤ length out
-    → m ≡ front ++ drop k out → n ≡ sets m k bytes → n ≡ (front ++ bytes) ++ drop (k + length bytes) out
-put-after front bytes out k l fits p q =
-    let whole : length (front ++ bytes) ≡ k + length bytes = rw (length-append, l) in
-    stored-twice front bytes out 0 k (p ∙ rw (sets-start front out (omega arith), l)) q (omega arith)
-    ∙ rw (sets-start (front ++ bytes) out (omega arith), whole)
 
 -- The vector looks at the header alone.
 pub vector-front : (keys m : List ℕ) (n : ℕ) → 40 ≤ n → vector keys (take n m) ≡ vector keys m

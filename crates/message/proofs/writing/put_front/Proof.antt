@@ -6,9 +6,9 @@ use lib.ListN.{length}
 use borrow.Author.Tests.{le-ltb}
 use Rattle.writer.specs.Header.{headerBytes}
 use Rattle.writer.specs.Written.{output, putRefusal}
-use Rattle.seal.proofs.Seals.{put-after}
 use Rattle.message.proofs.WrittenLengths.{length-header}
 use borrow.Author.Needs.{needs}
+use Rattle.laws.proofs.Stores.{put-after}
 use Rattle.message.proofs.writing.put_front.Statement.{statement}
 use Rattle.message.proofs.writing.put_front.Tie as tie
 
