@@ -1,6 +1,6 @@
 -- SPDX-License-Identifier: MPL-2.0
 -- The steps of a round: each takes a block to a block, and each is undone by its inverse.
-use mathlib.Core.Path.{_≡_, refl, sym, _∙_, subst}
+use mathlib.Core.Path.{_≡_, refl, sym, subst}
 use mathlib.Core.List.{List}
 use Prim.Native.Nat.{ℕ, _+_, _*_, _/_, _%_, _<_, _≤_}
 use native.Mathlib.Nat.{add-mod-mod}

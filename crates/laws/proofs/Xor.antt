@@ -5,7 +5,7 @@ use Prim.Native.Nat.{ℕ, zero, suc, _+_, _*_, _/_, _%_, _<_, _≤_}
 use native.Mathlib.Nat.{mod-lt, not-suc-le-zero, le-of-suc-le-suc, zero-lt-suc}
 use native.Mathlib.Omega.{arith}
 use lib.Arith.{bin-ind}
-use lib.Bits.{bitXor, bitOr, bitAnd, differ, xor-step, xor-comm, xor-self, xor-zero-l, xor-zero-r, xor-shr, or-add-and, and-le-l, and-le-r}
+use lib.Bits.{bitXor, bitOr, bitAnd, differ, xor-step, xor-self, xor-zero-l, xor-zero-r, xor-shr, or-add-and, and-le-l, and-le-r}
 
 differ-lt : (x y : ℕ) → x < 2 → y < 2 → differ x y < 2
 differ-lt zero y hx hy = hy
