@@ -6,7 +6,8 @@ use Prim.Native.Nat.{ℕ, _+_, _/_, _%_, _<_}
 use native.Mathlib.Omega.{arith}
 use lib.Bits.{xor-mod, xor-shr}
 use lib.ListN.{getD}
-use Rattle.laws.proofs.ByteLists.{AllBytes, nil-bytes, cons-bytes, append-bytes}
+use Rattle.laws.specs.Bytes.{AreBytes}
+use Rattle.laws.proofs.ByteLists.{nil-bytes, cons-bytes, append-bytes}
 use Rattle.laws.specs.Runs.{run}
 use Rattle.field.specs.Xor.{xor}
 use Rattle.field.specs.Words.{word}
@@ -29,7 +30,7 @@ Columns m a b c d = (a ≡ word (getD m 0 0) (getD m 1 0) (getD m 2 0) (getD m 3
 abbrev four : ℕ → List ℕ
 four x = x % 256 ∷ x / 256 % 256 ∷ x / 65536 % 256 ∷ x / 16777216 ∷ []
 
-four-bytes : (x : ℕ) → x < 4294967296 → AllBytes (four x)
+four-bytes : (x : ℕ) → x < 4294967296 → AreBytes (four x)
 four-bytes x h = cons-bytes (omega arith) (cons-bytes (omega arith) (cons-bytes (omega arith) (cons-bytes (omega arith) nil-bytes)))
 
 pub bytesOf-block : (s : State) → s .a < 4294967296 → s .b < 4294967296 → s .c < 4294967296 → s .d < 4294967296 → Block (bytesOf s)

@@ -1,12 +1,16 @@
 -- SPDX-License-Identifier: MPL-2.0
 -- Bytes as big-endian numbers, both ways: the number at a place of a list of bytes, and the bytes of a number.
-use Prim.Native.Nat.{ℕ, zero, suc, _+_, _*_, _/_, _%_}
+use Prim.Native.Nat.{ℕ, zero, suc, _+_, _*_, _/_, _%_, _<_}
 use mathlib.Core.List.{List, [], _∷_, _++_}
 use lib.ListN.{getD}
 
 -- The byte at a place; past the end it counts as 0.
 abbrev pub be8 : List ℕ → ℕ → ℕ
 be8 m at = getD m at 0
+
+-- A list of bytes, as every message is; past the end there are zeros.
+pub record AreBytes (m : List ℕ) : Type 0 where
+  pub at : (i : ℕ) → be8 m i < 256
 
 -- The number in the two bytes at a place.
 abbrev pub be16 : List ℕ → ℕ → ℕ

@@ -7,8 +7,7 @@ use mathlib.Core.Bool.{true, false}
 use native.Mathlib.Omega.{arith}
 use borrow.Author.Tests.{le-ltb}
 use lib.ListN.{length}
-use Rattle.laws.specs.Bytes.{be32}
-use Rattle.laws.proofs.ByteLists.{AllBytes}
+use Rattle.laws.specs.Bytes.{AreBytes, be32}
 use Rattle.wire.specs.Fields.{isSealed}
 use Rattle.wire.specs.declared.header.Header.{Header}
 use Rattle.seal.specs.Padding.{sealedSize, payloadOf}
@@ -39,7 +38,7 @@ module _ (h : Header) (chain bytes keys working : List ℕ) (space : ℕ) (good 
       rw (le-ltb (length (messageBytes h chain bytes keys)) (40 + length chain + length bytes) (omega arith))
       (payload-plain h chain bytes keys (length working) space good plain)
 
-  pub handed-sealed : isSealed (h .flags) ≡ true → AllBytes keys → AllBytes chain → AllBytes bytes → InWidth h
+  pub handed-sealed : isSealed (h .flags) ≡ true → AreBytes keys → AreBytes chain → AreBytes bytes → InWidth h
       → sealedSize (length bytes) ≤ length working
       → payload (messageBytes h chain bytes keys) (workingAfter (messageBytes h chain bytes keys) keys working) true 4 (length bytes) ≡ bytes
   unfolding workingAfter

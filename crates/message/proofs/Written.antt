@@ -8,9 +8,9 @@ use native.Mathlib.Omega.{arith}
 use borrow.Author.Tests.{ltb-false, ne-eqb, eqb-true, not-false}
 use lib.ListN.{length, drop, length-append, length-drop}
 use lib.Seq.{sets, take-append-seam, drop-append-add, drop-drop}
+use Rattle.laws.specs.Bytes.{AreBytes}
 use Rattle.laws.specs.Rows.{testOf}
 use Rattle.laws.proofs.Bools.{and-false-right}
-use Rattle.laws.proofs.ByteLists.{AllBytes}
 use Rattle.laws.proofs.Firsts.{row-false}
 use Rattle.laws.proofs.Stores.{put-after}
 use Rattle.wire.specs.Refusals.{wrongType, wrongFlags, wrongPiece, wrongChain, wrongKeys, wrongPayload, wrongPieceSize, noRoom}
@@ -65,7 +65,7 @@ pub record Bounds (h : Header) (chain payload : List ℕ) (room : ℕ) : Type 0 
   pub short : lengthOf h chain payload ≤ 18530
   pub roomy : lengthOf h chain payload ≤ room
 
-pub bounds : (h : Header) (chain payload : List ℕ) (keys room : ℕ) → AllBytes chain → writeRefusal h chain payload keys room ≡ 0
+pub bounds : (h : Header) (chain payload : List ℕ) (keys room : ℕ) → AreBytes chain → writeRefusal h chain payload keys room ≡ 0
     → Bounds h chain payload room
 bounds h chain payload keys room w e =
     let a = allowed h chain payload keys room e in
@@ -87,7 +87,7 @@ module _ (h : Header) (chain payload keys out : List ℕ) where
   abbrev before : List ℕ
   before = beforePayload h chain payload
 
-  module _ (good : writeRefusal h chain payload (length keys) (length out) ≡ 0) (of-chain : AllBytes chain) {size : ℕ}
+  module _ (good : writeRefusal h chain payload (length keys) (length out) ≡ 0) (of-chain : AreBytes chain) {size : ℕ}
       (whole : size ≡ lengthOf h chain payload) {m : List ℕ} (front : m ≡ (headerBytes h size ++ chain) ++ drop (40 + length chain) out) where
     b : Bounds h chain payload (length out)
     b = bounds h chain payload (length keys) (length out) of-chain good

@@ -7,8 +7,8 @@ use mathlib.Core.Bool.{true, false, true≢false}
 use native.Mathlib.Omega.{arith}
 use lib.ListN.{length, take, drop, length-append}
 use lib.Seq.{drop-at, take-length}
-use Rattle.laws.specs.Bytes.{be32}
-use Rattle.laws.proofs.ByteLists.{AllBytes, append-bytes, cons-bytes, nil-bytes, bytes16-bytes, bytes32-bytes, bytes64-bytes}
+use Rattle.laws.specs.Bytes.{AreBytes, be32}
+use Rattle.laws.proofs.ByteLists.{append-bytes, cons-bytes, nil-bytes, bytes16-bytes, bytes32-bytes, bytes64-bytes}
 use Rattle.wire.specs.Fields.{isSealed, tagSize}
 use Rattle.wire.specs.Reader.{readHeader}
 use Rattle.wire.specs.declared.header.Header.{Header}
@@ -32,7 +32,7 @@ use Rattle.message.specs.Writing.{lengthOf, writeRefusal, beforePayload,
 use Rattle.message.proofs.WrittenLengths.{length-header, length-before, plain-is, sealed-is, length-messageBytes}
 use Rattle.message.proofs.Written.{Allowed, allowed, bounds}
 
-header-bytes : (h : Header) (n : ℕ) → InWidth h → n < 65536 → AllBytes (headerBytes h n)
+header-bytes : (h : Header) (n : ℕ) → InWidth h → n < 65536 → AreBytes (headerBytes h n)
 unfolding headerBytes
 header-bytes h n w small =
     append-bytes (bytes16-bytes 0x3030 (omega arith))
@@ -91,7 +91,7 @@ module _ (h : Header) (chain payload keys : List ℕ) (room space : ℕ) (good :
     read-plain = rw (plain-header, plain, payload-plain, rw plain at (a .shaped))
 
   -- A sealed message.
-  module _ (sealed : isSealed (h .flags) ≡ true) (of-keys : AllBytes keys) (of-chain : AllBytes chain) (of-payload : AllBytes payload)
+  module _ (sealed : isSealed (h .flags) ≡ true) (of-keys : AreBytes keys) (of-chain : AreBytes chain) (of-payload : AreBytes payload)
       (widths : InWidth h) where
     abbrev part : List ℕ
     part = cbcEncrypt (expandKey (encryptionKey keys)) (vector keys before) (plainText payload)

@@ -8,7 +8,7 @@ use native.Mathlib.Omega.{arith}
 use borrow.Author.Tests.{ltb-false, leb-true, eqb-true, not-false}
 use lib.ListN.{length, drop, length-drop}
 use lib.Dec.{ltb, leb, eqb}
-use Rattle.laws.specs.Bytes.{be8, be16}
+use Rattle.laws.specs.Bytes.{AreBytes, be8, be16}
 use Rattle.laws.proofs.Bools.{or-false, or-none, and-true, and-false-right}
 use Rattle.laws.proofs.Cases.{on}
 use Rattle.wire.specs.Fields.{badType}
@@ -19,7 +19,7 @@ use Rattle.wire.specs.declared.chain.Chain.{Chain}
 use Rattle.wire.specs.declared.chain.Entry.{Entry}
 use Rattle.wire.specs.declared.chain.Chain.the-variants.{Broken}
 use Rattle.wire.specs.declared.chain.Entry.the-variants.{End, Spans, Wrong}
-use Rattle.laws.proofs.ByteLists.{AllBytes, drop-bytes}
+use Rattle.laws.proofs.ByteLists.{drop-bytes}
 
 -- An entry that spans bytes of a chain spans at most 257.
 abbrev spansFew : Entry → Type 0
@@ -31,7 +31,7 @@ either : (t : Bool) (x y : Entry) → spansFew x → spansFew y → spansFew (co
 either true x y p q = p
 either false x y p q = q
 
-entry-few : (m : List ℕ) → AllBytes m → spansFew (entryOf m)
+entry-few : (m : List ℕ) → AreBytes m → spansFew (entryOf m)
 unfolding entryOf
 entry-few m w =
     either (ltb (length m) 2) _ _ tt
@@ -45,14 +45,14 @@ followed k m Wrong next two s h b = absurd (true≢false b)
 followed k m End next two s h b = omega arith
 followed k m (Spans n) next two s h b = h n s b
 
-chain-few : (left : ℕ) (m : List ℕ) → AllBytes m → isBroken (chain left m) ≡ false → length m ≤ leaves (chain left m) + (257 * left + 2)
+chain-few : (left : ℕ) (m : List ℕ) → AreBytes m → isBroken (chain left m) ≡ false → length m ≤ leaves (chain left m) + (257 * left + 2)
 unfolding chain
 chain-few zero m w b = followed 2 m (entryOf m) (λ rest. Broken) (omega arith) (entry-few m w) (λ n s p. absurd (true≢false p)) b
 chain-few (suc left) m w b =
     followed (257 * suc left + 2) m (entryOf m) (chain left) (omega arith) (entry-few m w)
     (λ n s p. omega (arith, chain-few left (drop n m) (drop-bytes n m w) p, length-drop n m)) b
 
-pub chain-short : (given : List ℕ) → AllBytes given → badChain given ≡ false → length given ≤ 2058
+pub chain-short : (given : List ℕ) → AreBytes given → badChain given ≡ false → length given ≤ 2058
 unfolding badChain readChain mostEntries
 chain-short given w b =
     let t = or-false (isBroken (readChain given)) (not (eqb (leaves (readChain given)) 0)) b in

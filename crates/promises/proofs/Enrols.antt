@@ -7,6 +7,7 @@ use mathlib.Core.Bool.{false, not, and-false}
 use native.Mathlib.Omega.{arith}
 use lib.ListN.{length, replicate}
 use borrow.Author.Tests.{le-ltb}
+use Rattle.laws.specs.Bytes.{AreBytes}
 use Rattle.wire.specs.Fields.{badType, badFlags, badPiece, mostPieces, isSealed}
 use Rattle.wire.specs.Payload.{starts, exchanges, isConnectionRequest, isDeviceAuthentication, isDoneRequest, isShaped, badPayload, readRequest}
 use Rattle.wire.specs.declared.header.Header.{Header}
@@ -20,7 +21,6 @@ use Rattle.hub.specs.declared.Answer.the-variants.{Reply}
 use Rattle.hub.specs.Opening.{blank}
 use Rattle.hub.specs.Host.{host, stepped, requested, withDigestAndState}
 use Rattle.hub.specs.Hear.{certificate, connect, isForeign, hear, reportHeard}
-use Rattle.promises.specs.Refusals.{AreBytes}
 use Rattle.promises.specs.Met.{Enrolled, CanEnrol}
 use Rattle.promises.proofs.ReadBack.{steps-by-state}
 use Rattle.promises.proofs.Writes.{wrote}

@@ -10,7 +10,6 @@ use borrow.Author.Tests.{le-ltb}
 use Rattle.laws.proofs.Cases.{on}
 use Rattle.wire.specs.Fields.{isSealed}
 use Rattle.wire.specs.declared.header.Header.{Header}
-use Rattle.laws.proofs.ByteLists.{AllBytes}
 use Rattle.message.specs.Writing.{lengthOf, writeRefusal, messageBytes, writeAnswer, writtenInto}
 use Rattle.message.proofs.WrittenLengths.{length-messageBytes}
 use Rattle.message.proofs.WrittenBack.{read-plain, read-sealed}
@@ -19,12 +18,8 @@ use Rattle.joining.specs.Cut.{badSize}
 use Rattle.hub.specs.declared.Connection.{Connection}
 use Rattle.hub.specs.Hear.{hear, reportHeard}
 use Rattle.hub.specs.Step.{step, reportStepped}
-use Rattle.promises.specs.Refusals.{AreBytes}
 use Rattle.promises.proofs.Apart.{apart, unrefused}
 use Rattle.promises.specs.Written.{Wrote, ReadAs, ReadsBack, StepsByState}
-
-pub all-bytes : {m : List ℕ} → AreBytes m → AllBytes m
-all-bytes w = record { at = w }
 
 module _ (h : Header) (chain bytes keys message : List ℕ) (w : Wrote h chain bytes keys message) where
   -- Nothing was refused, and the length is the message's.
@@ -45,9 +40,6 @@ module _ (h : Header) (chain bytes keys message : List ℕ) (w : Wrote h chain b
 pub reads-back : ReadsBack
 reads-back h chain bytes keys message w working room =
     let good = passed h chain bytes keys message w .0 in
-    let a = all-bytes (w .of-keys) in
-    let b = all-bytes (w .of-chain) in
-    let c = all-bytes (w .of-payload) in
     rw (is-message h chain bytes keys message w)
     (on (isSealed (h .flags))
     (λ s.
@@ -55,8 +47,8 @@ reads-back h chain bytes keys message w working room =
       sealed = true;
       from = 4;
       size = length bytes;
-      reads = read-sealed h chain bytes keys (length working) (length (w .output)) good s a b c (w .widths) (room s);
-      handed = handed-sealed h chain bytes keys working (length (w .output)) good s a b c (w .widths) (room s);
+      reads = read-sealed h chain bytes keys (length working) (length (w .output)) good s (w .of-keys) (w .of-chain) (w .of-payload) (w .widths) (room s);
+      handed = handed-sealed h chain bytes keys working (length (w .output)) good s (w .of-keys) (w .of-chain) (w .of-payload) (w .widths) (room s);
     })
     (λ s.
     record {

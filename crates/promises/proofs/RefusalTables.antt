@@ -8,7 +8,7 @@ use native.Mathlib.Omega.{arith}
 use lib.ListN.{length}
 use lib.Dec.{eqb}
 use borrow.Author.Tests.{eqb-true, ne-eqb, le-ltb, lt-leb}
-use Rattle.laws.specs.Bytes.{be8, be16}
+use Rattle.laws.specs.Bytes.{AreBytes, be8, be16}
 use Rattle.laws.specs.Rows.{first, orElse}
 use Rattle.laws.proofs.Cases.{on}
 use Rattle.laws.proofs.Firsts.{first-append, first-leads, leads-first}
@@ -23,7 +23,7 @@ use Rattle.message.specs.Writing.{writeRefusal}
 use Rattle.message.specs.declared.reading.MessageRead.the-variants.{Read}
 use Rattle.joining.specs.Cut.{cutRefusal}
 use Rattle.promises.specs.Examples.{numberOf}
-use Rattle.promises.specs.Refusals.{AreBytes, sealed, start, headerTable, payloadIn, sealedTable, readerTable, ReaderExact}
+use Rattle.promises.specs.Refusals.{sealed, start, headerTable, payloadIn, sealedTable, readerTable, ReaderExact}
 use Rattle.promises.specs.Refusals.{cutTable, CutterExact, writerTable, WriterExact}
 use Rattle.promises.proofs.ReaderNumber.{whatIsRead, early, readerNumber, read-by-number}
 
@@ -47,7 +47,7 @@ module _ (m keys : List ℕ) (room : ℕ) (bytes : AreBytes m) where
       let w = wire.read-sound m (headerOf m) (start m) (leaves (chainOf m)) (read-good m z) in
       let b = w .blocks s in
       let t = wire.sealed-tag (be16 m 6) s in
-      let short : length m ≤ 65535 = omega (arith, w .good .size, bytes 2, bytes 3) in
+      let short : length m ≤ 65535 = omega (arith, w .good .size, bytes .at 2, bytes .at 3) in
       let spans : start m + leaves (chainOf m) + 32 ≡ length m = omega (arith, w .spans) in
       let q : length m - 32 - start m ≡ leaves (chainOf m) = omega arith in
       rw (le-ltb (length m) 42 (omega arith), le-ltb 65535 (length m) short, lt-leb (length m - 32) (start m) (omega arith), q, b .0)

@@ -7,7 +7,7 @@ use mathlib.Core.Bool.{false}
 use lib.ListN.{length, take}
 use borrow.Author.Tests.{lt-leb}
 use Rattle.laws.proofs.Courses.{end, goes}
-use Rattle.joining.specs.Report.{part}
+use Rattle.laws.specs.Parts.{part}
 use Rattle.joining.specs.Cut.{badSize, cutRefusal, cutCount}
 use Rattle.joining.proofs.Cuts.{uncut, cuttable}
 use Rattle.joining.proofs.Snapshot as snapshot

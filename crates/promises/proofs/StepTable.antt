@@ -7,6 +7,7 @@ use mathlib.Core.Bool.{Bool, true, false, cond, not, _&&_}
 use lib.ListN.{length}
 use lib.Dec.{eqb}
 use borrow.Author.Tests.{eqb-true, le-ltb, lt-leb}
+use Rattle.laws.specs.Bytes.{AreBytes}
 use Rattle.laws.specs.Rows.{first, orElse}
 use Rattle.laws.proofs.Bools.{and-true}
 use Rattle.laws.proofs.Cases.{on}
@@ -31,7 +32,7 @@ use Rattle.hub.specs.Hear.{certificate, connect, pieceIn, joined, hear}
 use Rattle.hub.specs.Step.{afterRead, step}
 use Rattle.hub.proofs.StepCases.{connect-apart, hear-cases, step-tests}
 use Rattle.hub.proofs.QuietKeeps.{step-still}
-use Rattle.promises.specs.Refusals.{AreBytes, readerTable, anyOf, hostTable, handed, stepTable, StepExact, LeavesAlone}
+use Rattle.promises.specs.Refusals.{readerTable, anyOf, hostTable, handed, stepTable, StepExact, LeavesAlone}
 use Rattle.promises.proofs.ReaderNumber.{early, readerNumber, read-by-number}
 use Rattle.promises.proofs.RefusalTables.{reader-first}
 

@@ -1,7 +1,7 @@
 -- SPDX-License-Identifier: MPL-2.0
 -- The premises of demand 3 can be met: a Ready connection of fragment size 4, and a report of ten bytes that comes in five calls, its three
 -- fragments in another order, one of them twice, and something between.
-use Prim.Native.Nat.{ℕ, zero, suc, _≤_, _<_}
+use Prim.Native.Nat.{ℕ, _≤_, _<_}
 use mathlib.Core.Path.{_≡_, refl}
 use mathlib.Core.List.{List, [], _∷_}
 use mathlib.Core.Bool.{Bool, true, false, _&&_}
@@ -9,6 +9,8 @@ use native.Mathlib.Omega.{arith}
 use lib.ListN.{length, replicate}
 use lib.Dec.{ltb, eqb}
 use borrow.Author.Tests.{ltb-true, eq-eqb, eqb-false}
+use Rattle.laws.specs.Bytes.{AreBytes}
+use Rattle.laws.proofs.ByteLists.{nil-bytes, cons-bytes}
 use Rattle.laws.proofs.Bools.{and-true}
 use Rattle.laws.proofs.Cases.{on}
 use Rattle.wire.specs.Fields.{mostPieces}
@@ -25,7 +27,6 @@ use Rattle.hub.specs.Host.{requested, withDigestAndState}
 use Rattle.hub.specs.Hear.{withProgress}
 use Rattle.hub.specs.Answers.{isQuiet}
 use Rattle.hub.proofs.StepCases.{step-tests}
-use Rattle.promises.specs.Refusals.{AreBytes}
 use Rattle.promises.specs.Reports.{Sending, began, fragments, fragment, Fair, Sent, Course, done, brings, rests, HandedOut}
 use Rattle.promises.specs.Met.{Typed, Choice, Good, callFor}
 use Rattle.promises.proofs.ReportsJoined.{demand-three}
@@ -39,9 +40,8 @@ below [] = true
 below (x ∷ m) = ltb x 256 && below m
 
 pub are-bytes : (m : List ℕ) → below m ≡ true → AreBytes m
-are-bytes [] e i = omega arith
-are-bytes (x ∷ m) e zero = ltb-true x 256 (and-true (ltb x 256) (below m) e .0)
-are-bytes (x ∷ m) e (suc i) = are-bytes m (and-true (ltb x 256) (below m) e .1) i
+are-bytes [] e = nil-bytes
+are-bytes (x ∷ m) e = let a = and-true (ltb x 256) (below m) e in cons-bytes (ltb-true x 256 (a .0)) (are-bytes m (a .1))
 
 -- Opened at fragment size 4, requested in session 7, Ready, and expecting number 5.
 abbrev ready : Connection

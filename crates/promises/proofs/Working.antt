@@ -7,6 +7,7 @@ use mathlib.Core.Bool.{Bool, cond}
 use lib.ListN.{length}
 use lib.Dec.{ltb}
 use borrow.Author.Tests.{ne-eqb}
+use Rattle.laws.specs.Bytes.{AreBytes}
 use Rattle.laws.specs.Rows.{first}
 use Rattle.laws.proofs.Bools.{or-false}
 use Rattle.laws.proofs.Cases.{on}
@@ -16,7 +17,7 @@ use Rattle.message.specs.Reading.{opened, workingAfter}
 use Rattle.joining.specs.Cut.{badSize}
 use Rattle.hub.specs.declared.Connection.{Connection}
 use Rattle.hub.specs.Step.{unready, workingStepped}
-use Rattle.promises.specs.Refusals.{AreBytes, sealed, start, headerTable, sealedTable, untouchedTable, WorkingBuffer}
+use Rattle.promises.specs.Refusals.{sealed, start, headerTable, sealedTable, untouchedTable, WorkingBuffer}
 use Rattle.promises.proofs.ReaderNumber.{working-by-number}
 use Rattle.promises.proofs.RefusalTables.{early-first}
 

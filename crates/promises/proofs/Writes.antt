@@ -11,17 +11,16 @@ use borrow.Author.Tests.{ne-eqb, le-ltb, lt-leb}
 use Rattle.wire.specs.Fields.{badType, badFlags, badPiece, isSealed, mostPieces}
 use Rattle.wire.specs.Payload.{badPayload}
 use Rattle.wire.specs.declared.header.Header.{Header}
+use Rattle.laws.specs.Bytes.{AreBytes}
 use Rattle.laws.proofs.ByteLists.{take-bytes, drop-bytes}
 use Rattle.message.specs.Writing.{lengthOf, writeRefusal, messageBytes, writeAnswer, writtenInto}
 use Rattle.message.proofs.WrittenLengths.{length-messageBytes}
 use Rattle.joining.specs.Heard.{most, bit}
 use Rattle.joining.specs.Cut.{cutCount}
 use Rattle.joining.proofs.Cuts.{not-over}
-use Rattle.promises.specs.Refusals.{AreBytes}
 use Rattle.promises.specs.Written.{Wrote}
 use Rattle.promises.specs.Reports.{Sending, fragments, fragment, headerFor, Fair, Sent, done, brings}
 use Rattle.promises.specs.Met.{Typed, Choice, Good, flagsOf, callFor, CanBeSent, AnyOrder}
-use Rattle.promises.proofs.ReadBack.{all-bytes}
 use Rattle.promises.proofs.ReportsJoined.{counted, is-part, start-fair}
 use Rattle.message.specs.Widths.{InWidth}
 use Rattle.hub.specs.Calls.{after}
@@ -59,7 +58,7 @@ module _ (s : Sending) (f : Fair s) (t : Typed s) (i : ℕ) (l : i < fragments s
   of-fragment : AreBytes (fragment s i)
   of-fragment =
       let at = s .connection .size * i in
-      rw (is-part s f i l) (take-bytes (s .connection .size) (drop at (s .report)) (drop-bytes at (s .report) (all-bytes (t .report))) .at)
+      rw (is-part s f i l) (take-bytes (s .connection .size) (drop at (s .report)) (drop-bytes at (s .report) (t .report)))
 
   placed : badPiece 4 i (cutCount (s .connection .size) (length (s .report)) i) ≡ false
   unfolding badPiece

@@ -6,6 +6,7 @@ use mathlib.Core.Path.{_≡_}
 use mathlib.Core.List.{List, [], _∷_}
 use mathlib.Core.Bool.{Bool, false}
 use lib.ListN.{length}
+use Rattle.laws.specs.Bytes.{AreBytes}
 use Rattle.wire.specs.Chain.{badChain}
 use Rattle.seal.specs.Padding.{sealedSize}
 use Rattle.message.specs.Writing.{messageBytes}
@@ -13,7 +14,6 @@ use Rattle.joining.specs.Heard.{bit}
 use Rattle.joining.specs.Cut.{badSize}
 use Rattle.hub.specs.declared.Answer.the-variants.{Reply}
 use Rattle.hub.specs.Opening.{blank}
-use Rattle.promises.specs.Refusals.{AreBytes}
 use Rattle.promises.specs.Reports.{Sending, fragments, fragment, headerFor, Fair, Sent, Course}
 use Rattle.joining.specs.Events.{Event, piece}
 use Rattle.hub.specs.Calls.{Call, Standing, after, answer}

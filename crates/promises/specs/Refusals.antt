@@ -1,13 +1,13 @@
 -- SPDX-License-Identifier: MPL-2.0
 -- Demand 1: every refusal is given exactly when the table of document 01 says: a number is answered if and only if its row is the first that
 -- applies. The tables below are that table's rows in the order of each call. Every refusal leaves connection and report buffer alone.
-use Prim.Native.Nat.{ℕ, _+_, _-_, _*_, _%_, _<_}
+use Prim.Native.Nat.{ℕ, _+_, _-_, _*_, _%_}
 use mathlib.Core.Path.{_≡_}
 use mathlib.Core.List.{List, [], _∷_, _++_}
 use mathlib.Core.Bool.{Bool, true, false, cond, not, _&&_, _||_}
 use lib.ListN.{length, take, drop}
 use lib.Dec.{ltb, leb, eqb}
-use Rattle.laws.specs.Bytes.{be8, be16, be32}
+use Rattle.laws.specs.Bytes.{AreBytes, be8, be16, be32}
 use Rattle.laws.specs.Rows.{leads, quiet}
 use Rattle.laws.specs.Same.{same}
 use Rattle.wire.specs.Fields.{badType, badFlags, badPiece, isSealed, tagSize}
@@ -32,10 +32,6 @@ use Rattle.hub.specs.declared.Answer.the-variants.{Refused}
 use Rattle.hub.specs.Host.{hostRows}
 use Rattle.hub.specs.Hear.{certificate, pieceIn, isForeign, joins}
 use Rattle.hub.specs.Step.{step, reportStepped, workingStepped}
-
--- A list of bytes, as every message is.
-abbrev pub AreBytes : List ℕ → Type 0
-AreBytes m = (i : ℕ) → be8 m i < 256
 
 -- What the reader sees of a message without keys.
 module _ (m : List ℕ) where

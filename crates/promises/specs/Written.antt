@@ -6,6 +6,7 @@ use mathlib.Core.Path.{_≡_}
 use mathlib.Core.List.{List}
 use mathlib.Core.Bool.{Bool, true, false}
 use lib.ListN.{length, take}
+use Rattle.laws.specs.Bytes.{AreBytes}
 use Rattle.wire.specs.Fields.{isSealed}
 use Rattle.wire.specs.declared.header.Header.{Header}
 use Rattle.writer.specs.declared.Written.the-variants.{Bytes}
@@ -18,7 +19,6 @@ use Rattle.joining.specs.Cut.{badSize}
 use Rattle.hub.specs.declared.Connection.{Connection}
 use Rattle.hub.specs.Hear.{hear, reportHeard}
 use Rattle.hub.specs.Step.{step, reportStepped}
-use Rattle.promises.specs.Refusals.{AreBytes}
 use Rattle.message.specs.Widths.{InWidth}
 
 -- The writer, called with these fields, this chain, payload and keys, answered a length, and `message` is that many first bytes of its

@@ -7,6 +7,7 @@ use native.Mathlib.Omega.{arith}
 use borrow.Author.Tests.{le-ltb, lt-leb}
 use lib.ListN.{length, take, drop, length-append, length-drop}
 use lib.Seq.{take-at, drop-at, take-append-seam, drop-append-seam, length-take-le}
+use Rattle.laws.specs.Bytes.{AreBytes}
 use Rattle.laws.proofs.Parts.{length-bytesAt}
 use Rattle.laws.proofs.Sames.{same-refl}
 use Rattle.aes.specs.State.{Block}
@@ -19,7 +20,7 @@ use Rattle.seal.specs.Keys.{encryptionKey, vectorKey, vectorBlock, vecto
 use Rattle.seal.specs.Padding.{padding, sealedSize, paddingBytes, plainText}
 use Rattle.seal.specs.Opening.{bodyOf, tagIn, sealedPart, plainOf, noPart, partRefusal, openRefusal}
 use Rattle.seal.specs.Sealed.{sealedBody, sealedMessage}
-use Rattle.laws.proofs.ByteLists.{AllBytes, append-bytes, take-bytes, drop-bytes, replicate-bytes, bytesAt-bytes, bytes32-bytes}
+use Rattle.laws.proofs.ByteLists.{append-bytes, take-bytes, drop-bytes, replicate-bytes, bytesAt-bytes, bytes32-bytes}
 use Rattle.seal.proofs.Padded.{sizes, length-plainText, plainText-accepted}
 use Rattle.seal.proofs.Seals.{vector-front, length-sealed, length-body, length-tag}
 
@@ -62,33 +63,33 @@ module _ (keys before payload : List ℕ) where
   vector-back long = rw (← vector-front keys message (length before) long, in-parts, take-append-seam)
 
 -- Keys, vector and plain text are blocks of bytes.
-block : (b : List ℕ) → length b ≡ 16 → AllBytes b → Block b
+block : (b : List ℕ) → length b ≡ 16 → AreBytes b → Block b
 block b l w = record { len = l; bytes = λ i k. w .at i }
 
-key-block : (n : ℕ) (keys : List ℕ) → n + 16 ≤ length keys → AllBytes keys → Block (take 16 (drop n keys))
+key-block : (n : ℕ) (keys : List ℕ) → n + 16 ≤ length keys → AreBytes keys → Block (take 16 (drop n keys))
 key-block n keys h w =
     block (take 16 (drop n keys)) (length-take-le 16 (drop n keys) (simp length-drop (omega arith)))
     (take-bytes 16 (drop n keys) (drop-bytes n keys w))
 
-vector-block : (keys m : List ℕ) → 32 ≤ length keys → AllBytes keys → AllBytes m → Block (vector keys m)
+vector-block : (keys m : List ℕ) → 32 ≤ length keys → AreBytes keys → AreBytes m → Block (vector keys m)
 unfolding vector vectorBlock
 vector-block keys m h v w =
     cipher-block (expandKey (vectorKey keys)) (expandKey-keys (vectorKey keys) (key-block 16 keys h v)) (vectorBlock m)
     (block (vectorBlock m) (simp (length-append, length-bytesAt))
     (append-bytes (bytesAt-bytes m 24 8 w) (append-bytes (bytesAt-bytes m 8 4 w) (append-bytes (bytesAt-bytes m 20 2 w) (bytesAt-bytes m 22 2 w)))))
 
-plain-blocks : (payload : List ℕ) → length payload < 4294967296 → AllBytes payload → Blocks (sealedSize (length payload) / 16) (plainText payload)
+plain-blocks : (payload : List ℕ) → length payload < 4294967296 → AreBytes payload → Blocks (sealedSize (length payload) / 16) (plainText payload)
 unfolding plainText paddingBytes
 plain-blocks payload small w =
     let s = sizes (length payload) in
     let pads : padding (length payload) < 256 = omega arith in
-    let all : AllBytes (plainText payload) =
+    let all : AreBytes (plainText payload) =
     append-bytes (bytes32-bytes (length payload) small) (append-bytes w (replicate-bytes (padding (length payload)) _ pads)) in
     record { len = length-plainText payload ∙ omega arith; bytes = λ i k. all .at i }
 
 module _ (keys before payload : List ℕ) (whole : length keys ≡ 64) (long : 42 ≤ length before)
-    (short : length before + sealedSize (length payload) ≤ 65503) (of-keys : AllBytes keys) (of-before : AllBytes before)
-    (of-payload : AllBytes payload) where
+    (short : length before + sealedSize (length payload) ≤ 65503) (of-keys : AreBytes keys) (of-before : AreBytes before)
+    (of-payload : AreBytes payload) where
   small : length payload < 4294967296
   small = let s = sizes (length payload) in omega arith
 

@@ -3,10 +3,10 @@
 use mathlib.Core.Path.{_≡_, sym, _∙_}
 use native.Mathlib.Omega.{arith}
 use lib.ListN.{length}
-use Rattle.laws.proofs.ByteLists.{AllBytes}
 use Rattle.message.specs.Writing.{lengthOf, writeRefusal}
 use Rattle.message.proofs.Written.{Bounds, bounds, refused, wrote-plain, wrote-sealed}
 use borrow.Author.Needs.{needs}
+use Rattle.laws.specs.Bytes.{AreBytes}
 use Rattle.message.proofs.writing.write.Statement.{statement}
 use Rattle.message.proofs.writing.write.Tie as tie
 
@@ -18,7 +18,7 @@ passed : (c : tie.Else1) → let s = entry c .args in
     writeRefusal (s .header) (s .chain .now) (s .payload .now) (length (s .keys .now)) (length (s .out .now)) ≡ 0
 passed c = sym (c .before .refused .ensures) ∙ c .if1 .left
 
-of-chain : (c : tie.Else1) → AllBytes (entry c .args .chain .now)
+of-chain : (c : tie.Else1) → AreBytes (entry c .args .chain .now)
 of-chain c = record { at = λ i. omega (arith, c .before .before .before .before .before .shared-slice-known .given i) }
 
 known : (c : tie.Else1) → let s = entry c .args in Bounds (s .header) (s .chain .now) (s .payload .now) (length (s .out .now))
