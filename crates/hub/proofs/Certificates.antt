@@ -8,7 +8,7 @@ use lib.ListN.{length}
 use borrow.Author.Tests.{ltb-false}
 use Rattle.laws.specs.Bytes.{be16}
 use Rattle.laws.proofs.Cases.{on}
-use Rattle.wire.specs.Payload.{certificateOf}
+use Rattle.payloads.specs.Reading.{certificateOf}
 
 pub certificate-inside : (p : List ℕ) → certificateOf p .from + certificateOf p .size ≤ length p
 unfolding certificateOf

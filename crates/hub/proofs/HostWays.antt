@@ -8,7 +8,7 @@ use lib.Dec.{eqb}
 use borrow.Author.Tests.{eqb-true}
 use Rattle.laws.proofs.Bools.{and-true}
 use Rattle.laws.proofs.Cases.{on}
-use Rattle.wire.specs.Payload.{connectType, readRequest}
+use Rattle.payloads.specs.Reading.{connectType, readRequest}
 use Rattle.sha256.specs.Digests.{digest}
 use Rattle.hub.specs.declared.Connection.{Connection}
 use Rattle.hub.specs.declared.Stepped.{Stepped}

@@ -5,7 +5,7 @@ use mathlib.Core.List.{List, [], _∷_}
 use mathlib.Core.Bool.{Bool, not, cond, _&&_}
 use lib.Dec.{eqb}
 use Rattle.wire.specs.Refusals.{notAllowed, otherSession}
-use Rattle.wire.specs.Payload.{connectType, readRequest, certificateOf}
+use Rattle.payloads.specs.Reading.{connectType, readRequest, certificateOf}
 use Rattle.wire.specs.declared.header.Header.{Header}
 use Rattle.sha256.specs.Digests.{digest}
 use Rattle.joining.specs.declared.Piece.{Piece}

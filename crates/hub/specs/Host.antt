@@ -6,7 +6,7 @@ use mathlib.Core.Bool.{Bool, cond, _&&_}
 use lib.Dec.{eqb, leb}
 use Rattle.laws.specs.Same.{same}
 use Rattle.wire.specs.Refusals.{notAllowed}
-use Rattle.wire.specs.declared.payload.Request.{Request}
+use Rattle.payloads.specs.declared.reading.Request.{Request}
 use Rattle.hub.specs.declared.Connection.{Connection}
 use Rattle.hub.specs.declared.Stepped.{Stepped}
 use Rattle.hub.specs.declared.Answer.{Answer}

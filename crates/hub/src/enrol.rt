@@ -11,10 +11,10 @@ use super::REQUESTED;
 use super::Stepped;
 use super::WAITING;
 use octets::compare::alike;
-use wire::payload::CONNECTION_RESPONSE;
-use wire::payload::DEVICE_RESPONSE;
-use wire::payload::DONE_RESPONSE;
-use wire::payload::Request;
+use payloads::CONNECTION_RESPONSE;
+use payloads::DEVICE_RESPONSE;
+use payloads::DONE_RESPONSE;
+use payloads::reading::Request;
 use wire::refusals;
 
 impl Connection {

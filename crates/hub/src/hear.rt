@@ -10,16 +10,16 @@ use super::READY;
 use super::Stepped;
 use super::WAITING;
 use joining::Piece;
+use payloads::CONNECTION_REQUEST;
+use payloads::DEVICE_REQUEST;
+use payloads::DONE_REQUEST;
+use payloads::reading::certificate_of;
+use payloads::reading::connect_type;
+use payloads::reading::read_request;
 use wire::header::CONNECT;
 use wire::header::DISCOVERY;
 use wire::header::Header;
 use wire::header::SESSION;
-use wire::payload::CONNECTION_REQUEST;
-use wire::payload::DEVICE_REQUEST;
-use wire::payload::DONE_REQUEST;
-use wire::payload::certificate_of;
-use wire::payload::connect_type;
-use wire::payload::read_request;
 use wire::refusals;
 
 // The SHA-256 of the certificate in a Device Authentication Request.

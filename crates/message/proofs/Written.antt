@@ -16,7 +16,7 @@ use Rattle.laws.proofs.Stores.{put-after}
 use Rattle.wire.specs.Refusals.{wrongType, wrongFlags, wrongPiece, wrongChain, wrongKeys, wrongPayload, wrongPieceSize, noRoom}
 use Rattle.wire.specs.Fields.{badType, badFlags, badPiece, isSealed}
 use Rattle.wire.specs.Chain.{badChain}
-use Rattle.wire.specs.Payload.{badPayload}
+use Rattle.payloads.specs.Shapes.{badPayload}
 use Rattle.wire.specs.declared.header.Header.{Header}
 use Rattle.wire.proofs.Chains.{chain-long}
 use Rattle.writer.specs.Header.{headerBytes}

@@ -13,8 +13,8 @@ use Rattle.laws.proofs.Bools.{or-false, or-none, and-true, and-false-right}
 use Rattle.laws.proofs.Cases.{on}
 use Rattle.wire.specs.Fields.{badType}
 use Rattle.wire.specs.Chain.{entryOf, follow, chain, readChain, mostEntries, leaves, isBroken, badChain}
-use Rattle.wire.specs.Payload.{starts, exchanges, isPresenceRequest, isConnectionRequest, isConnectionResponse, isDeviceAuthentication}
-use Rattle.wire.specs.Payload.{isDoneRequest, isDoneResponse, hasShape, shapes, isShaped, sealedAs, badPayload}
+use Rattle.payloads.specs.Shapes.{starts, exchanges, isPresenceRequest, isConnectionRequest, isConnectionResponse, isDeviceAuthentication}
+use Rattle.payloads.specs.Shapes.{isDoneRequest, isDoneResponse, hasShape, shapes, isShaped, sealedAs, badPayload}
 use Rattle.wire.specs.declared.chain.Chain.{Chain}
 use Rattle.wire.specs.declared.chain.Entry.{Entry}
 use Rattle.wire.specs.declared.chain.Chain.the-variants.{Broken}

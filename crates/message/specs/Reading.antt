@@ -10,7 +10,7 @@ use Rattle.laws.specs.Bytes.{be32}
 use Rattle.laws.specs.Rows.{first, orElse}
 use Rattle.wire.specs.Fields.{isSealed}
 use Rattle.wire.specs.Refusals.{wrongPayload}
-use Rattle.wire.specs.Payload.{badPayload}
+use Rattle.payloads.specs.Shapes.{badPayload}
 use Rattle.wire.specs.Reader.{readHeader}
 use Rattle.wire.specs.declared.header.Header.{Header}
 use Rattle.wire.specs.declared.header.HeaderRead.{HeaderRead}

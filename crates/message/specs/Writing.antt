@@ -10,7 +10,7 @@ use Rattle.laws.specs.Rows.{first}
 use Rattle.wire.specs.Refusals.{wrongType, wrongFlags, wrongPiece, wrongChain, wrongKeys, wrongPayload, wrongPieceSize, noRoom}
 use Rattle.wire.specs.Fields.{badType, badFlags, badPiece, isSealed}
 use Rattle.wire.specs.Chain.{badChain}
-use Rattle.wire.specs.Payload.{badPayload}
+use Rattle.payloads.specs.Shapes.{badPayload}
 use Rattle.writer.specs.Header.{headerBytes}
 use Rattle.wire.specs.declared.header.Header.{Header}
 use Rattle.writer.specs.declared.Written.{Written}

@@ -1,12 +1,12 @@
 // SPDX-License-Identifier: MPL-2.0
 // Reading a message: the header and its chain (1 to 9), a sealed part opened into the working buffer (10 to 13), the payload's shape (14).
 use octets::numbers::number32;
+use payloads::shapes::bad_payload;
 use rows::next;
 use wire::header::Header;
 use wire::header::HeaderRead;
 use wire::header::is_sealed;
 use wire::header::read_header;
-use wire::payload::bad_payload;
 use wire::refusals::WRONG_PAYLOAD;
 ghost use mathlib.Core.Path.{_≡_};
 ghost use Prim.Native.Nat.{_+_, _≤_};

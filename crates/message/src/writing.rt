@@ -5,6 +5,7 @@
 //     0        40    start                          length
 //
 use octets::stores::store_bytes;
+use payloads::shapes::bad_payload;
 use rows::next;
 use seal::KEYS;
 use seal::padding::sealed_size;
@@ -16,7 +17,6 @@ use wire::header::bad_flags;
 use wire::header::bad_piece;
 use wire::header::bad_type;
 use wire::header::is_sealed;
-use wire::payload::bad_payload;
 use wire::refusals::NO_ROOM;
 use wire::refusals::WRONG_CHAIN;
 use wire::refusals::WRONG_FLAGS;

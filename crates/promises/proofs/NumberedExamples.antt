@@ -6,7 +6,7 @@ use Rattle.field.specs.Field.{xtime, times, mul, square, ones, inverse}
 use Rattle.field.specs.Sbox.{affine, sbox}
 use Rattle.wire.specs.Chain.{entryOf, chain, mostEntries, readChain}
 use Rattle.wire.specs.Fields.{badType, badFlags, badPiece, mostPieces, isSealed, tagSize}
-use Rattle.wire.specs.Payload.{isPresenceRequest, isShaped, badPayload}
+use Rattle.payloads.specs.Shapes.{isPresenceRequest, isShaped, badPayload}
 use Rattle.wire.specs.Reader.{roomOf, chainOf, headerRows, rowsOf, refusalWith, refusalOf, readHeader}
 use Rattle.seal.specs.Padding.{padding, sealedSize}
 use Rattle.message.specs.Reading.{plainRead, readMessage}

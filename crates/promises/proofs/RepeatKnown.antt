@@ -8,7 +8,7 @@ use native.Mathlib.Omega.{arith}
 use borrow.Author.Tests.{eqb-true, eq-eqb, ne-eqb, le-leb, not-false}
 use Rattle.laws.specs.Same.{same}
 use Rattle.laws.proofs.Sames.{same-refl}
-use Rattle.wire.specs.Payload.{connectType, readRequest}
+use Rattle.payloads.specs.Reading.{connectType, readRequest}
 use Rattle.wire.specs.declared.header.Header.{Header}
 use Rattle.sha256.specs.Digests.{digest}
 use Rattle.joining.specs.Cut.{badSize}

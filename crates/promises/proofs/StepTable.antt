@@ -12,7 +12,7 @@ use Rattle.laws.specs.Rows.{first, orElse}
 use Rattle.laws.proofs.Bools.{and-true}
 use Rattle.laws.proofs.Cases.{on}
 use Rattle.laws.proofs.Firsts.{first-append, first-leads, leads-first, neither}
-use Rattle.wire.specs.Payload.{connectType, readRequest}
+use Rattle.payloads.specs.Reading.{connectType, readRequest}
 use Rattle.wire.specs.Reader.{headerOf, refusalOf}
 use Rattle.wire.specs.declared.header.Header.{Header}
 use Rattle.wire.proofs.Sound as wire

@@ -15,7 +15,7 @@ use Rattle.laws.proofs.Bools.{and-true}
 use Rattle.laws.proofs.Cases.{on}
 use Rattle.wire.specs.Fields.{mostPieces}
 use Rattle.wire.specs.Chain.{entryOf, chain, mostEntries, readChain, badChain}
-use Rattle.wire.specs.Payload.{readRequest}
+use Rattle.payloads.specs.Reading.{readRequest}
 use Rattle.wire.specs.Reader.{headerRows, rowsOf, refusalWith, refusalOf, readHeader}
 use Rattle.message.specs.Reading.{readMessage}
 use Rattle.seal.specs.Padding.{padding, sealedSize}

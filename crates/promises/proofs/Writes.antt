@@ -9,7 +9,7 @@ use lib.ListN.{length, drop, replicate, length-replicate}
 use lib.Seq.{take-at}
 use borrow.Author.Tests.{ne-eqb, le-ltb, lt-leb}
 use Rattle.wire.specs.Fields.{badType, badFlags, badPiece, isSealed, mostPieces}
-use Rattle.wire.specs.Payload.{badPayload}
+use Rattle.payloads.specs.Shapes.{badPayload}
 use Rattle.wire.specs.declared.header.Header.{Header}
 use Rattle.laws.specs.Bytes.{AreBytes}
 use Rattle.laws.proofs.ByteLists.{take-bytes, drop-bytes}

@@ -12,7 +12,8 @@ use Rattle.laws.specs.Rows.{leads, quiet}
 use Rattle.laws.specs.Same.{same}
 use Rattle.wire.specs.Fields.{badType, badFlags, badPiece, isSealed, tagSize}
 use Rattle.wire.specs.Chain.{leaves, isBroken, badChain}
-use Rattle.wire.specs.Payload.{badPayload, connectType, readRequest}
+use Rattle.payloads.specs.Shapes.{badPayload}
+use Rattle.payloads.specs.Reading.{connectType, readRequest}
 use Rattle.wire.specs.Reader.{headerOf, chainOf}
 use Rattle.wire.specs.declared.header.Header.{Header}
 use Rattle.sha256.specs.Digests.{digest}

@@ -3,5 +3,4 @@ pub mod Refusals
 pub mod Chain
 pub mod Fields
 pub mod Reader
-pub mod Payload
 pub mod Examples

@@ -1,7 +1,6 @@
 // SPDX-License-Identifier: MPL-2.0
-// What may stand on the wire: the common header, its chain of additional headers, the payloads of Discovery and Connect, and the
-// numbers of the refusals. Nothing here knows keys or remembers anything.
+// What may stand on the wire: the common header, its chain of additional headers, and the numbers of the
+// refusals. Nothing here knows keys or remembers anything.
 pub mod chain;
 pub mod header;
-pub mod payload;
 pub mod refusals;

@@ -14,7 +14,8 @@ use Rattle.laws.specs.Bytes.{be16, bytes16}
 use Rattle.laws.proofs.Bools.{or-true}
 use Rattle.laws.proofs.Cases.{on}
 use Rattle.laws.proofs.Numbers.{be16-at}
-use Rattle.wire.specs.Payload.{isDeviceAuthentication, isShaped, badPayload, certificateOf}
+use Rattle.payloads.specs.Shapes.{isDeviceAuthentication, isShaped, badPayload}
+use Rattle.payloads.specs.Reading.{certificateOf}
 use Rattle.writer.specs.Payload.{badDevice, deviceAuthentication}
 use Rattle.writer.proofs.Payloads.{device, length-device}
 use Rattle.writer.proofs.PayloadBack.{starts-back}

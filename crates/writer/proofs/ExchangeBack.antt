@@ -13,8 +13,9 @@ use Rattle.laws.specs.Bytes.{bytesAt}
 use Rattle.laws.proofs.Bools.{or-true}
 use Rattle.laws.proofs.Cases.{on}
 use Rattle.laws.proofs.Parts.{bytesAt-part}
-use Rattle.wire.specs.Payload.{exchanges, isConnectionRequest, isConnectionResponse, isShaped, badPayload, readRequest}
-use Rattle.wire.specs.declared.payload.Request.{Request}
+use Rattle.payloads.specs.Shapes.{exchanges, isConnectionRequest, isConnectionResponse, isShaped, badPayload}
+use Rattle.payloads.specs.Reading.{readRequest}
+use Rattle.payloads.specs.declared.reading.Request.{Request}
 use Rattle.writer.specs.Payload.{exchangeBytes, coded, connectionRequest, connectionResponse}
 use Rattle.writer.proofs.PayloadBack.{starts-back}
 

@@ -8,7 +8,8 @@ use native.Mathlib.Nat.{div-add-mod'}
 use borrow.Author.Tests.{le-leb, eq-eqb}
 use Rattle.laws.specs.Bytes.{bytes16}
 use Rattle.laws.proofs.Bools.{or-true}
-use Rattle.wire.specs.Payload.{starts, isPresenceRequest, isDoneRequest, isDoneResponse, isShaped, badPayload, codeOf}
+use Rattle.payloads.specs.Shapes.{starts, isPresenceRequest, isDoneRequest, isDoneResponse, isShaped, badPayload}
+use Rattle.payloads.specs.Reading.{codeOf}
 use Rattle.writer.specs.Payload.{coded, presenceRequest, doneRequest, doneResponse}
 
 pub starts-back : (mode connect : ℕ) (rest : List ℕ) → mode ≤ 2 → starts connect (bytes16 mode ++ (connect ∷ rest)) ≡ true

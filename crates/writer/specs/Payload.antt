@@ -6,7 +6,7 @@ use mathlib.Core.Bool.{Bool, cond, not, _&&_, _||_}
 use lib.ListN.{length}
 use lib.Dec.{ltb, eqb}
 use Rattle.laws.specs.Bytes.{bytes16, bytes32}
-use Rattle.wire.specs.declared.payload.Request.{Request}
+use Rattle.payloads.specs.declared.reading.Request.{Request}
 
 -- HMACSize, Nonce, fragment size, X length, X, Y length, Y.
 unfoldable pub exchangeBytes : Request → List ℕ

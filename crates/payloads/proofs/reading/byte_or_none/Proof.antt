@@ -1,0 +1,14 @@
+-- SPDX-License-Identifier: MPL-2.0
+-- Within the payload the default does not matter; past its end `getD` gives it.
+use mathlib.Core.Path.{sym}
+use lib.ListN.{List·getD-eq-default}
+use Rattle.laws.proofs.Lists.{getD-any}
+use borrow.Author.Needs.{needs}
+use Rattle.payloads.proofs.reading.byte_or_none.Statement.{statement}
+use Rattle.payloads.proofs.reading.byte_or_none.Tie as tie
+
+pub byte-or-none-spec : {M : Type 1} → statement M
+byte-or-none-spec =
+    tie.close (tie.spec
+    (λ c. search needs) (λ c. getD-any (c .before .before .args .p .now) (c .before .before .args .at) 0 255 (search needs))
+    (λ c. sym (List·getD-eq-default (c .before .args .p .now) 255 (c .if1 .left))))

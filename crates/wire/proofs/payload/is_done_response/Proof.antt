@@ -1,9 +1,0 @@
--- SPDX-License-Identifier: MPL-2.0
--- The code is the definition, with what the calls answer.
-use Rattle.wire.specs.Payload.{isDoneResponse}
-use Rattle.wire.proofs.payload.is_done_response.Statement.{statement}
-use Rattle.wire.proofs.payload.is_done_response.Tie as tie
-
-pub is-done-response-spec : {M : Type 1} → statement M
-unfolding isDoneResponse
-is-done-response-spec = tie.close (tie.spec _ _ (λ c. rw (c .byte .ensures, c .before .starts .ensures)))
