@@ -1,11 +1,9 @@
 -- SPDX-License-Identifier: MPL-2.0
 -- Cipher block chaining: lengths, and that decryption undoes encryption for any number of blocks.
-use mathlib.Core.Path.{_≡_, refl, _∙_}
-use mathlib.Core.List.{List}
-use Prim.Native.Nat.{ℕ, zero, suc, _+_, _*_, _/_, _%_, _<_}
-use native.Mathlib.Omega.{arith}
-use lib.ListN.{getD, length, take, drop, length-append, length-drop, take-append-drop}
-use lib.Seq.{take-all, take-at, drop-at, length-take-le, getD-take, getD-drop}
+use Rattle.laws.proofs.Kit.{ℕ, zero, suc, _+_, _*_, _/_, _%_, _<_, _≡_, refl, _∙_, List, length, take, drop, getD, length-append, length-drop}
+use Rattle.laws.proofs.Kit.{take-all, take-at, length-take-le, drop-at, getD-take, arith}
+use lib.ListN.{take-append-drop}
+use lib.Seq.{getD-drop}
 use Rattle.aes.specs.State.{Block, addRoundKey}
 use Rattle.aes.specs.Cipher.{invCipher}
 use Rattle.aes.specs.Cbc.{chain, cbcEncryptBlock, cbcDecryptBlock, cbcEncrypt, cbcDecrypt}

@@ -1,14 +1,8 @@
 -- SPDX-License-Identifier: MPL-2.0
 -- What the public calls of chaining answer, and what they leave in their target.
-use mathlib.Core.Path.{_≡_, sym, _∙_}
-use mathlib.Core.List.{List, _++_, append-nil}
-use Prim.Native.Nat.{ℕ, _+_, _/_, _%_, _≤_}
-use native.Mathlib.Omega.{arith}
-use mathlib.Core.Bool.{Bool, true, false, cond, not, _&&_}
-use borrow.Author.Tests.{eq-eqb, eqb-true, leb-true, not-false}
-use lib.Dec.{eqb, leb}
-use lib.ListN.{length, take, drop, replicate}
-use lib.Seq.{take-all, take-length, take-append-seam, drop-append-seam}
+use Rattle.laws.proofs.Kit.{ℕ, _+_, _/_, _%_, _≤_, _≡_, sym, _∙_, Bool, true, false, not, _&&_, cond, List, _++_, append-nil, length, take, drop}
+use Rattle.laws.proofs.Kit.{replicate, take-all, take-length, take-append-seam, eqb, leb, eq-eqb, eqb-true, leb-true, not-false, arith}
+use lib.Seq.{drop-append-seam}
 use Rattle.laws.proofs.Bools.{and-true}
 use Rattle.aes.specs.Cipher.{cipher}
 use Rattle.aes.specs.Cbc.{chain, cbcEncryptBlock, cbcEncrypt, fits, written}

@@ -1,12 +1,8 @@
 -- SPDX-License-Identifier: MPL-2.0
 -- Each block of a decrypted message by itself, the first and the last above all.
-use mathlib.Core.Path.{_≡_, refl, _∙_}
-use mathlib.Core.List.{List, _++_, append-nil}
-use Prim.Native.Nat.{ℕ, zero, suc, _+_, _*_, _/_, _%_, _≤_, _<_}
-use native.Mathlib.Omega.{arith}
-use borrow.Author.Tests.{eq-eqb, le-leb}
-use lib.ListN.{length, take, drop, length-append, length-drop, drop-of-length-le}
-use lib.Seq.{paste, length-paste, take-paste, take-all, take-at, drop-at, drop-drop}
+use Rattle.laws.proofs.Kit.{ℕ, zero, suc, _+_, _*_, _/_, _%_, _≤_, _<_, _≡_, refl, _∙_, List, _++_, append-nil, length, take, drop, length-append}
+use Rattle.laws.proofs.Kit.{length-drop, drop-of-length-le, take-all, take-at, drop-at, drop-drop, eq-eqb, le-leb, arith}
+use lib.Seq.{paste, length-paste, take-paste}
 use Rattle.aes.specs.State.{addRoundKey, loadBlock}
 use Rattle.aes.specs.Cipher.{invCipher}
 use Rattle.aes.specs.Cbc.{chain, cbcDecryptBlock, cbcDecrypt, blockBefore, written}

@@ -1,9 +1,7 @@
 -- SPDX-License-Identifier: MPL-2.0
 -- FIPS 197's own numbers, of the definitions: the round key after the first of appendix A.1, and round 1 of appendix B. The whole of both, and
 -- the way back, are run by the program `vectors`.
-use mathlib.Core.Path.{_≡_, refl}
-use mathlib.Core.List.{List, [], _∷_}
-use Prim.Native.Nat.{ℕ}
+use Rattle.laws.proofs.Kit.{ℕ, _≡_, refl, List, [], _∷_}
 use Rattle.laws.specs.Runs.{run}
 use Rattle.field.specs.Xor.{xor}
 use Rattle.field.specs.Field.{xtime, times, mul, square, ones, inverse}

@@ -1,10 +1,6 @@
 -- SPDX-License-Identifier: MPL-2.0
 -- The round keys: each is a block, and the code makes the next.
-use mathlib.Core.Path.{_≡_}
-use mathlib.Core.List.{List, [], _∷_}
-use Prim.Native.Nat.{ℕ, zero, suc, _+_, _/_, _%_, _<_}
-use lib.Dec.{lit<}
-use lib.ListN.{getD}
+use Rattle.laws.proofs.Kit.{ℕ, zero, suc, _+_, _/_, _%_, _<_, _≡_, List, [], _∷_, getD, lit<}
 use Rattle.laws.specs.Runs.{run}
 use Rattle.field.specs.Xor.{xor}
 use Rattle.field.specs.Sbox.{sbox}

@@ -1,11 +1,7 @@
 -- SPDX-License-Identifier: MPL-2.0
 -- The state as four words: their bytes, also with the words of a key added, and words that are made of a block's columns.
-use mathlib.Core.Path.{_≡_, refl, ap, _∙_}
-use mathlib.Core.List.{List, [], _∷_, _++_}
-use Prim.Native.Nat.{ℕ, _+_, _/_, _%_, _<_}
-use native.Mathlib.Omega.{arith}
-use lib.Bits.{xor-mod, xor-shr}
-use lib.ListN.{getD}
+use Rattle.laws.proofs.Kit.{ℕ, _+_, _/_, _%_, _<_, _≡_, refl, _∙_, ap, List, [], _∷_, _++_, getD, xor-shr, arith}
+use lib.Bits.{xor-mod}
 use Rattle.laws.specs.Bytes.{AreBytes}
 use Rattle.laws.proofs.ByteLists.{nil-bytes, cons-bytes, append-bytes}
 use Rattle.laws.specs.Runs.{run}

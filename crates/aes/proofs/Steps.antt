@@ -1,13 +1,9 @@
 -- SPDX-License-Identifier: MPL-2.0
 -- The steps of a round: each takes a block to a block, and each is undone by its inverse.
-use mathlib.Core.Path.{_≡_, refl, sym, subst}
-use mathlib.Core.List.{List}
-use Prim.Native.Nat.{ℕ, _+_, _*_, _/_, _%_, _<_, _≤_}
+use Rattle.laws.proofs.Kit.{ℕ, _+_, _*_, _/_, _%_, _≤_, _<_, _≡_, refl, sym, subst, List, length, getD, replicate, List·getD-eq-default, lit<, ⊎-elim}
+use Rattle.laws.proofs.Kit.{arith}
 use native.Mathlib.Nat.{add-mod-mod}
-use native.Mathlib.Omega.{arith}
-use lib.Dec.{lit<}
-use mathlib.Core.Logic.{⊎-elim}
-use lib.ListN.{getD, length, replicate, getD-replicate, List·getD-eq-default}
+use lib.ListN.{getD-replicate}
 use Rattle.laws.proofs.Order.{lt-or-ge}
 use Rattle.field.specs.Mix.{unmixed}
 use Rattle.laws.proofs.Below.{agree, bounded}

@@ -1,10 +1,7 @@
 -- SPDX-License-Identifier: MPL-2.0
 -- A round by its tables. What the lookups give is one law for both directions, over the substitution and the coefficients; what else differs
 -- is the order in which the words of the state are read. The cipher reads them as they stand, a b c d, its inverse turned, a d c b.
-use mathlib.Core.Path.{_≡_, _∙_}
-use mathlib.Core.List.{List}
-use Prim.Native.Nat.{ℕ, _/_, _%_, _<_}
-use native.Mathlib.Omega.{arith}
+use Rattle.laws.proofs.Kit.{ℕ, _/_, _%_, _<_, _≡_, _∙_, List, getD, arith}
 use Rattle.laws.specs.Runs.{run, table}
 use Rattle.field.specs.Xor.{xor}
 use Rattle.field.specs.Sbox.{sbox, invSbox}
@@ -12,7 +9,6 @@ use Rattle.field.specs.Mix.{mixed, unmixed}
 use Rattle.field.specs.Words.{word, column, Mixes}
 use Rattle.laws.proofs.Runs.{table-at}
 use Rattle.field.proofs.Sbox.{sbox-byte, invSbox-byte, invSbox-sbox}
-use lib.ListN.{getD}
 use Rattle.field.proofs.Words.{words, byte0, byte1, byte2, byte3, looked-up}
 use Rattle.aes.specs.declared.columns.State.{State}
 use Rattle.aes.specs.State.{block, Block, subBytes, shifted, shiftRows, down, mixColumns, addRoundKey}

@@ -1,11 +1,6 @@
 -- SPDX-License-Identifier: MPL-2.0
 -- Decryption undoes encryption, for every key and block; and the rounds as the code counts them.
-use mathlib.Core.Path.{_≡_}
-use mathlib.Core.List.{List, []}
-use Prim.Native.Nat.{ℕ, zero, suc, _-_, _≤_, _<_}
-use native.Mathlib.Omega.{arith}
-use lib.Dec.{lit<}
-use lib.ListN.{getD, length}
+use Rattle.laws.proofs.Kit.{ℕ, zero, suc, _-_, _≤_, _<_, _≡_, List, [], length, getD, lit<, arith}
 use Rattle.aes.specs.State.{Block, subBytes, shiftRows, addRoundKey, invShiftRows, invSubBytes, invMixColumns}
 use Rattle.aes.specs.Words.{InverseKeys}
 use Rattle.aes.specs.Key.{expandKey}

@@ -1,9 +1,6 @@
 -- SPDX-License-Identifier: MPL-2.0
 -- A course goes on by one piece.
-use Prim.Native.Nat.{ℕ, _+_, _*_}
-use mathlib.Core.Path.{_≡_}
-use mathlib.Core.List.{List}
-use native.Mathlib.Numerals.{add-one}
+use Rattle.laws.proofs.Kit.{ℕ, _+_, _*_, _≡_, List, add-one}
 use Rattle.joining.specs.declared.Progress.{Progress}
 use Rattle.joining.specs.declared.Joined.{Joined}
 use Rattle.joining.specs.Join.{join, reportAfter}

@@ -1,14 +1,12 @@
 -- SPDX-License-Identifier: MPL-2.0
 -- Ch and Maj by fewer operations than the standard writes, on words of any width. A term of ⊕ and ∧ is known by its half and its last bit, so
 -- two that agree on bits agree on words.
-use mathlib.Core.Path.{_≡_, refl, sym}
-use mathlib.Core.List.{List, [], _∷_, map}
-use Prim.Native.Nat.{ℕ, zero, suc, _-_, _*_, _/_, _%_, _^_, _<_}
-use native.Mathlib.Nat.{mod-lt, zero-lt-suc, pow-suc}
-use native.Mathlib.Omega.{arith}
+use Rattle.laws.proofs.Kit.{ℕ, zero, suc, _-_, _*_, _/_, _%_, _^_, _<_, _≡_, refl, sym, List, [], _∷_, getD, mod-lt, bitXor, xor-shr, arith}
+use mathlib.Core.List.{map}
+use native.Mathlib.Nat.{zero-lt-suc, pow-suc}
 use lib.Arith.{lt-one}
-use lib.Bits.{bitAnd, bitXor, and-shr, xor-shr, and-mod, xor-mod}
-use lib.ListN.{getD, List·getD-map}
+use lib.Bits.{bitAnd, and-shr, and-mod, xor-mod}
+use lib.ListN.{List·getD-map}
 
 -- The terms over words, which they name by their place.
 data Term : Type 0 where

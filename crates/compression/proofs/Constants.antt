@@ -1,9 +1,7 @@
 -- SPDX-License-Identifier: MPL-2.0
 -- The constants of four rounds, which the code finds by a match over t / 4.
-use mathlib.Core.Path.{_≡_}
-use Prim.Native.Nat.{ℕ, zero, suc, _+_, _*_, _/_, _%_, _≤_, zero-le}
-use native.Mathlib.Omega.{arith}
-use lib.ListN.{getD}
+use Rattle.laws.proofs.Kit.{ℕ, zero, suc, _+_, _*_, _/_, _%_, _≤_, _≡_, getD, arith}
+use Prim.Native.Nat.{zero-le}
 use Rattle.compression.specs.Constants.{K256}
 
 -- the four from t = 4 × i on

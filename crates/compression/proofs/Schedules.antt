@@ -1,12 +1,10 @@
 -- SPDX-License-Identifier: MPL-2.0
 -- The schedule, made in an array that has room for it, and the rounds on it.
-use mathlib.Core.Path.{_≡_}
-use mathlib.Core.List.{List}
-use Prim.Native.Nat.{ℕ, zero, suc, _+_, _-_, _<_, _≤_}
-use native.Mathlib.Nat.{add-zero, add-suc}
-use native.Mathlib.Omega.{arith}
-use lib.ListN.{getD, length, take, set, length-set, length-append, List·getD-append}
-use lib.Seq.{take-suc-set, getD-take}
+use Rattle.laws.proofs.Kit.{ℕ, zero, suc, _+_, _-_, _≤_, _<_, _≡_, List, length, take, getD, set, length-append, length-set, getD-take, add-zero}
+use Rattle.laws.proofs.Kit.{arith}
+use native.Mathlib.Nat.{add-suc}
+use lib.ListN.{List·getD-append}
+use lib.Seq.{take-suc-set}
 use Rattle.compression.specs.declared.Vars.{Vars}
 use Rattle.compression.specs.Constants.{K256}
 use Rattle.compression.specs.Compression.{nextWord, schedule, round, rounds}

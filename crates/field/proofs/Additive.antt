@@ -1,11 +1,8 @@
 -- SPDX-License-Identifier: MPL-2.0
 -- What keeps sums is known by its values at the eight binary digits: two such functions that agree there agree at every byte.
-use mathlib.Core.Path.{_≡_, sym, ap, _∙_, subst}
-use Prim.Native.Nat.{ℕ, zero, suc, _+_, _*_, _/_, _%_, _^_, _≤_, _<_}
-use native.Mathlib.Nat.{mod-lt, zero-mul, one-mul, div-lt-iff-lt-mul, pow-suc, mul-comm}
-use native.Mathlib.Omega.{arith}
+use Rattle.laws.proofs.Kit.{ℕ, zero, suc, _+_, _*_, _/_, _%_, _^_, _≤_, _<_, _≡_, sym, _∙_, ap, subst, lit<, mod-lt, arith}
+use native.Mathlib.Nat.{zero-mul, one-mul, div-lt-iff-lt-mul, pow-suc, mul-comm}
 use lib.Bits.{xor-shifted}
-use lib.Dec.{lit<}
 use lib.Pow.{split, pow-pos}
 use Rattle.field.specs.Xor.{xor}
 use Rattle.field.proofs.Xor.{is-bit-xor, self}

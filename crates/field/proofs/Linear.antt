@@ -1,10 +1,7 @@
 -- SPDX-License-Identifier: MPL-2.0
 -- A product with a fixed byte is a byte, and the product of a sum is the sum of the products.
-use mathlib.Core.Path.{_≡_, refl, sym}
-use Prim.Native.Nat.{ℕ, zero, suc, _*_, _/_, _%_, _<_, _≤_}
+use Rattle.laws.proofs.Kit.{ℕ, zero, suc, _*_, _/_, _%_, _≤_, _<_, _≡_, refl, sym, lit<, arith}
 use native.Mathlib.Nat.{zero-mul, one-mul, mul-le-mul-right}
-use native.Mathlib.Omega.{arith}
-use lib.Dec.{lit<}
 use Rattle.field.specs.Xor.{xor}
 use Rattle.field.specs.Field.{polynomial, xtime, times, mul}
 use Rattle.field.proofs.Xor.{self, zero-r, zero-l, byte, swap4, double, half, lowest, top}

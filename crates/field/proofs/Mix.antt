@@ -1,9 +1,6 @@
 -- SPDX-License-Identifier: MPL-2.0
 -- InvMixColumns undoes MixColumns: the inverse row times the row, turned four times, has the coefficients 1, 0, 0, 0.
-use mathlib.Core.Path.{_≡_, refl, sym, _∙_}
-use Prim.Native.Nat.{ℕ, _+_, _<_}
-use native.Mathlib.Omega.{arith}
-use lib.Dec.{lit<}
+use Rattle.laws.proofs.Kit.{ℕ, _+_, _<_, _≡_, refl, sym, _∙_, lit<, arith}
 use Rattle.field.specs.Xor.{xor}
 use Rattle.field.specs.Field.{xtime, times, mul}
 use Rattle.field.specs.Mix.{xor4, row, mixed, unmixed}

@@ -1,11 +1,7 @@
 -- SPDX-License-Identifier: MPL-2.0
 -- The product of bytes: either factor may come first, three may be put together either way, and 1 changes nothing. Both sides keep sums in each
 -- factor, so that a test over the binary digits is enough.
-use mathlib.Core.Path.{_≡_, refl, _∙_}
-use mathlib.Core.Bool.{Bool}
-use Prim.Native.Nat.{ℕ, _^_, _<_}
-use lib.Dec.{eqb, lit<}
-use borrow.Author.Tests.{eqb-true}
+use Rattle.laws.proofs.Kit.{ℕ, _^_, _<_, _≡_, refl, _∙_, Bool, eqb, lit<, eqb-true}
 use Rattle.field.specs.Xor.{xor}
 use Rattle.field.specs.Field.{xtime, times, mul}
 use Rattle.field.proofs.Linear.{mul-byte, mul-xor, xor-mul}

@@ -1,9 +1,6 @@
 -- SPDX-License-Identifier: MPL-2.0
 -- The substitution has the standard's rule at each byte, nothing else has it, and the substitution back undoes it.
-use mathlib.Core.Path.{_≡_, refl, sym, ap, _∙_}
-use Prim.Native.Nat.{ℕ, zero, suc, _<_, min}
-use native.Mathlib.Omega.{arith}
-use lib.Dec.{lit<}
+use Rattle.laws.proofs.Kit.{ℕ, zero, suc, min, _<_, _≡_, refl, sym, _∙_, ap, lit<, arith}
 use Rattle.field.specs.Xor.{xor}
 use Rattle.field.specs.Field.{xtime, times, mul, square, ones, inverse}
 use Rattle.field.specs.Sbox.{affine, unaffine, sbox, invSbox, Substitute}

@@ -1,12 +1,7 @@
 -- SPDX-License-Identifier: MPL-2.0
 -- Four looked-up words, added, are the column: the rows of their sum are the rows of the matrix, turned.
-use mathlib.Core.Path.{_≡_, refl, sym, _∙_}
-use Prim.Native.Nat.{ℕ, _+_, _*_, _/_, _%_, _<_}
+use Rattle.laws.proofs.Kit.{ℕ, _+_, _*_, _/_, _%_, _<_, _≡_, refl, sym, _∙_, List, getD, lit<, arith}
 use native.Mathlib.Nat.{mul-add-div-right, div-eq-of-lt}
-use native.Mathlib.Omega.{arith}
-use lib.Dec.{lit<}
-use mathlib.Core.List.{List}
-use lib.ListN.{getD}
 use lib.Bits.{xor-block}
 use Rattle.field.specs.Xor.{xor}
 use Rattle.field.specs.Field.{mul}

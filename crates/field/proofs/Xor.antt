@@ -1,10 +1,7 @@
 -- SPDX-License-Identifier: MPL-2.0
 -- The laws of `xor`.
-use mathlib.Core.Path.{_≡_, refl, sym}
-use Prim.Native.Nat.{ℕ, _*_, _/_, _%_, _<_}
-use native.Mathlib.Nat.{add-zero}
-use lib.Bits.{bitXor, xor-comm, xor-self, xor-zero-r, xor-zero-l, xor-shr, xor-mod, xor-lt, xor-block}
-use lib.Dec.{lit<}
+use Rattle.laws.proofs.Kit.{ℕ, _*_, _/_, _%_, _<_, _≡_, refl, sym, lit<, add-zero, bitXor, xor-shr}
+use lib.Bits.{xor-comm, xor-self, xor-zero-r, xor-zero-l, xor-mod, xor-lt, xor-block}
 use Rattle.laws.proofs.Xor.{xor-assoc}
 use Rattle.field.specs.Xor.{xor}
 

@@ -1,11 +1,6 @@
 -- SPDX-License-Identifier: MPL-2.0
 -- A certificate's place lies in its payload.
-use Prim.Native.Nat.{ℕ, _+_, _≤_}
-use mathlib.Core.List.{List}
-use native.Mathlib.Omega.{arith}
-use lib.Dec.{ltb}
-use lib.ListN.{length}
-use borrow.Author.Tests.{ltb-false}
+use Rattle.laws.proofs.Kit.{ℕ, _+_, _≤_, List, length, ltb, ltb-false, arith}
 use Rattle.laws.specs.Bytes.{be16}
 use Rattle.laws.proofs.Cases.{on}
 use Rattle.payloads.specs.Reading.{certificateOf}

@@ -1,11 +1,6 @@
 -- SPDX-License-Identifier: MPL-2.0
 -- What a Connect message does, by the row that applies: the table of "Host states" is gone through here, and nowhere else.
-use Prim.Native.Nat.{ℕ}
-use mathlib.Core.Path.{_≡_}
-use mathlib.Core.List.{List, [], _∷_}
-use mathlib.Core.Bool.{Bool, true, _&&_}
-use lib.Dec.{eqb}
-use borrow.Author.Tests.{eqb-true}
+use Rattle.laws.proofs.Kit.{ℕ, _≡_, Bool, true, _&&_, List, [], _∷_, eqb, eqb-true}
 use Rattle.laws.proofs.Bools.{and-true}
 use Rattle.laws.proofs.Cases.{on}
 use Rattle.payloads.specs.Reading.{connectType, readRequest}

@@ -1,9 +1,7 @@
 -- SPDX-License-Identifier: MPL-2.0
 -- A refusal and Again leave connection and report buffer alone.
-use Prim.Native.Nat.{ℕ}
-use mathlib.Core.Path.{_≡_, refl}
-use mathlib.Core.List.{List}
-use mathlib.Core.Bool.{true, false, false≢true}
+use Rattle.laws.proofs.Kit.{ℕ, _≡_, refl, true, false, List}
+use mathlib.Core.Bool.{false≢true}
 use Rattle.message.specs.Reading.{workingAfter}
 use Rattle.message.specs.Handed.{payload}
 use Rattle.joining.specs.declared.Piece.{Piece}

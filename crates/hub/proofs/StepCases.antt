@@ -1,12 +1,6 @@
 -- SPDX-License-Identifier: MPL-2.0
 -- A property of what a step answers and leaves, by the way that it went: a law of all steps is one of these cases.
-use Prim.Native.Nat.{ℕ}
-use mathlib.Core.Path.{_≡_, refl}
-use mathlib.Core.List.{List}
-use mathlib.Core.Bool.{Bool, true, false}
-use lib.Dec.{eqb, ltb}
-use lib.ListN.{length}
-use borrow.Author.Tests.{eqb-true}
+use Rattle.laws.proofs.Kit.{ℕ, _≡_, refl, Bool, true, false, List, length, eqb, ltb, eqb-true}
 use Rattle.laws.proofs.Cases.{on}
 use Rattle.wire.specs.declared.header.Header.{Header}
 use Rattle.message.specs.Reading.{readMessage, workingAfter}

@@ -1,10 +1,6 @@
 -- SPDX-License-Identifier: MPL-2.0
 -- The step as the machine of demand 3: a piece of the report that the reader reads is joined, and a quiet answer changes nothing.
-use Prim.Native.Nat.{ℕ}
-use mathlib.Core.Path.{_≡_, refl, ap}
-use mathlib.Core.List.{List}
-use mathlib.Core.Bool.{true, false}
-use borrow.Author.Tests.{eq-eqb}
+use Rattle.laws.proofs.Kit.{ℕ, _≡_, refl, ap, true, false, List, eq-eqb}
 use Rattle.wire.specs.declared.header.Header.{Header}
 use Rattle.joining.specs.declared.Progress.{Progress}
 use Rattle.joining.specs.declared.Piece.{Piece}

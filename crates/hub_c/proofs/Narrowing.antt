@@ -1,15 +1,9 @@
 -- SPDX-License-Identifier: MPL-2.0
 -- A field that is brought into its room changes nothing that the writer answers or writes: a number that has no room is refused by the row that
 -- tests its field, before and after.
-use Prim.Native.Nat.{ℕ, _≤_}
-use mathlib.Core.Path.{_≡_, refl, ap, _∙_}
-use mathlib.Core.Logic.{_⊎_, inl, inr, ⊎-elim}
-use mathlib.Core.List.{List, _++_}
-use mathlib.Core.Bool.{Bool, true, false, cond, _||_, true≢false}
-use native.Mathlib.Omega.{arith}
-use lib.Dec.{eqb, ltb}
-use lib.ListN.{length, drop}
-use borrow.Author.Tests.{lt-ltb, ltb-true, ltb-false, le-leb, ne-eqb}
+use Rattle.laws.proofs.Kit.{ℕ, _≤_, _≡_, refl, _∙_, ap, Bool, true, false, true≢false, _||_, cond, List, _++_, length, drop, eqb, ltb, ne-eqb, lt-ltb}
+use Rattle.laws.proofs.Kit.{ltb-true, ltb-false, le-leb, inl, inr, ⊎-elim, arith}
+use mathlib.Core.Logic.{_⊎_}
 use Rattle.laws.proofs.Cases.{on}
 use Rattle.laws.proofs.Bools.{or-true}
 use Rattle.wire.specs.Fields.{badType, badFlags, badPiece, mostPieces}

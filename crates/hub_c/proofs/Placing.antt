@@ -1,9 +1,6 @@
 -- SPDX-License-Identifier: MPL-2.0
 -- The place in words and the part that is handed out.
-use Prim.Native.Nat.{_+_}
-use mathlib.Core.Bool.{true, false}
-use lib.Dec.{ltb}
-use lib.ListN.{length}
+use Rattle.laws.proofs.Kit.{_+_, true, false, length, ltb}
 use Rattle.laws.proofs.Cases.{on}
 use Rattle.message.specs.Handed.{partOf, payload}
 use Rattle.hub_c.specs.Headers.{placeOf, PlaceHanded}

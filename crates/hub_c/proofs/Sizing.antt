@@ -1,12 +1,6 @@
 -- SPDX-License-Identifier: MPL-2.0
 -- Buffers that have their sizes, and what the calls over them come to, as laws over numbers and lists.
-use Prim.Native.Nat.{ℕ, _*_}
-use mathlib.Core.Path.{_≡_, refl, sym, ap, _∙_}
-use mathlib.Core.List.{List, [], _∷_}
-use mathlib.Core.Bool.{Bool, false, not, _||_}
-use lib.Dec.{eqb}
-use lib.ListN.{length}
-use borrow.Author.Tests.{eqb-true, eq-eqb, ne-eqb, not-false}
+use Rattle.laws.proofs.Kit.{ℕ, _*_, _≡_, refl, sym, _∙_, ap, Bool, false, not, _||_, List, [], _∷_, length, eqb, eq-eqb, ne-eqb, eqb-true, not-false}
 use Rattle.laws.specs.Bytes.{be16}
 use Rattle.laws.proofs.Bools.{or-false}
 use Rattle.wire.specs.Reader.{readHeader}

@@ -1,13 +1,7 @@
 -- SPDX-License-Identifier: MPL-2.0
 -- What is remembered of the expected message is which indexes were accepted, and each count that is answered is theirs: of any pieces whatever.
-use Prim.Native.Nat.{ℕ, _≤_, _<_}
-use mathlib.Core.Path.{_≡_, refl, sym, _∙_}
-use mathlib.Core.List.{List, [], _∷_}
-use mathlib.Core.Bool.{Bool, true, false, not, true≢false}
-use native.Mathlib.Omega.{arith}
-use lib.Dec.{eqb}
-use lib.ListN.{length, length-set, length-replicate}
-use borrow.Author.Tests.{eqb-true, ne-eqb, not-false}
+use Rattle.laws.proofs.Kit.{ℕ, _≤_, _<_, _≡_, refl, sym, _∙_, Bool, true, false, true≢false, not, List, [], _∷_, length, length-set, length-replicate}
+use Rattle.laws.proofs.Kit.{eqb, ne-eqb, eqb-true, not-false, arith}
 use Rattle.laws.proofs.Bools.{or-false}
 use Rattle.laws.proofs.Firsts.{row-false}
 use Rattle.laws.proofs.Cases.{on}

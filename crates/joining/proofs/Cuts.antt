@@ -1,14 +1,9 @@
 -- SPDX-License-Identifier: MPL-2.0
 -- What the rules of cutting come to: places and lengths of the pieces, over any number of them.
-use Prim.Native.Nat.{ℕ, zero, suc, _+_, _-_, _*_, _/_, _≤_, _<_, min}
-use mathlib.Core.Path.{_≡_, refl, ap}
-use mathlib.Core.List.{List, _++_}
-use mathlib.Core.Bool.{false}
-use native.Mathlib.Omega.{arith}
+use Rattle.laws.proofs.Kit.{ℕ, zero, suc, _+_, _-_, _*_, _/_, min, _≤_, _<_, _≡_, refl, ap, false, List, _++_, length, length-take, length-drop, eqb}
+use Rattle.laws.proofs.Kit.{ltb, leb, eqb-false, ltb-false, leb-false, arith}
 use native.Mathlib.Nat.{div-lt-iff-lt-mul, le-div-iff-mul-le, mul-le-mul, le-of-lt}
-use lib.Dec.{eqb, ltb, leb, eqb·suc-zero}
-use lib.ListN.{length, length-take, length-drop}
-use borrow.Author.Tests.{eqb-false, ltb-false, leb-false}
+use lib.Dec.{eqb·suc-zero}
 use Rattle.laws.specs.Parts.{part}
 use Rattle.laws.proofs.Bools.{or-false}
 use Rattle.laws.proofs.Firsts.{row-false}

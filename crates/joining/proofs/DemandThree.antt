@@ -1,16 +1,9 @@
 -- SPDX-License-Identifier: MPL-2.0
 -- Demand 3 in the abstract: over any machine that joins the pieces of a report and leaves all alone at what comes between, and over any
 -- course of pieces, in any order, with repeats.
-use Prim.Native.Nat.{ℕ, _+_, _≤_, _<_}
-use mathlib.Core.Path.{_≡_, refl, sym, ap, ap₂, _∙_}
-use mathlib.Core.List.{List, _∷_}
-use mathlib.Core.Logic.{⊎-elim}
-use mathlib.Core.Bool.{Bool, true, false, cond, _||_, true≢false}
-use native.Mathlib.Omega.{arith}
-use lib.Dec.{eqb}
-use lib.ListN.{length, take, length-set, length-replicate}
+use Rattle.laws.proofs.Kit.{ℕ, _+_, _≤_, _<_, _≡_, refl, sym, _∙_, ap, ap₂, Bool, true, false, true≢false, _||_, cond, List, _∷_, length, take}
+use Rattle.laws.proofs.Kit.{length-set, length-replicate, eqb, ne-eqb, eqb-false, ⊎-elim, arith}
 use lib.Seq.{ext-getD}
-use borrow.Author.Tests.{ne-eqb, eqb-false}
 use Rattle.laws.specs.Courses.{final}
 use Rattle.laws.proofs.Bools.{or-none, or-assoc}
 use Rattle.laws.proofs.Cases.{on}

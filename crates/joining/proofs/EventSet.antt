@@ -1,12 +1,7 @@
 -- SPDX-License-Identifier: MPL-2.0
 -- The set of the pieces that have come: it has just these, and as many.
-use Prim.Native.Nat.{ℕ, zero, suc, _≤_, _<_}
-use mathlib.Core.Path.{_≡_, refl, ap, _∙_}
-use mathlib.Core.List.{List, _∷_}
-use mathlib.Core.Bool.{Bool, false, or-comm}
-use native.Mathlib.Omega.{arith}
-use lib.Dec.{eqb}
-use lib.ListN.{length}
+use Rattle.laws.proofs.Kit.{ℕ, zero, suc, _≤_, _<_, _≡_, refl, _∙_, ap, Bool, false, List, _∷_, length, eqb, arith}
+use mathlib.Core.Bool.{or-comm}
 use Rattle.laws.specs.Courses.{final}
 use Rattle.joining.specs.Heard.{most, bit, tally, come, has, mark, none}
 use Rattle.joining.specs.Events.{Event, piece, between, came, howMany}

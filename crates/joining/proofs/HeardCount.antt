@@ -1,11 +1,6 @@
 -- SPDX-License-Identifier: MPL-2.0
 -- The heard count over any course: it is the number of different pieces that have come.
-use Prim.Native.Nat.{ℕ, _<_}
-use mathlib.Core.Path.{_≡_, sym, _∙_}
-use mathlib.Core.List.{List, _∷_}
-use mathlib.Core.Bool.{Bool, true, false}
-use native.Mathlib.Omega.{arith}
-use borrow.Author.Tests.{eqb-true, ne-eqb}
+use Rattle.laws.proofs.Kit.{ℕ, _<_, _≡_, sym, _∙_, Bool, true, false, List, _∷_, ne-eqb, eqb-true, arith}
 use Rattle.laws.specs.Courses.{final}
 use Rattle.joining.specs.declared.Arrival.the-variants.{Taken, Repeat}
 use Rattle.joining.specs.Heard.{tally, come, mark}

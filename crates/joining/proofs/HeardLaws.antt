@@ -1,15 +1,10 @@
 -- SPDX-License-Identifier: MPL-2.0
 -- Laws of the heard set, over any number of indexes.
-use Prim.Native.Nat.{ℕ, zero, suc, _+_, _≤_, _<_, zero-le}
-use mathlib.Core.Path.{_≡_, refl, sym, ap, _∙_}
-use mathlib.Core.List.{List, [], _∷_}
-use mathlib.Core.Bool.{Bool, true, false, _||_, true≢false}
-use native.Mathlib.Omega.{arith}
+use Rattle.laws.proofs.Kit.{ℕ, zero, suc, _+_, _≤_, _<_, _≡_, refl, sym, _∙_, ap, Bool, true, false, true≢false, _||_, List, [], _∷_, length, set}
+use Rattle.laws.proofs.Kit.{getD-set-same, getD-set-other, eqb, eq-eqb, ne-eqb, eqb-true, eqb-false, arith}
+use Prim.Native.Nat.{zero-le}
 use mir.Val.{boolByte}
-use lib.Dec.{eqb}
-use lib.ListN.{length, set}
-use lib.Seq.{set-getD, getD-set-same, getD-set-other, take-nil}
-use borrow.Author.Tests.{eqb-true, eqb-false, eq-eqb, ne-eqb}
+use lib.Seq.{set-getD, take-nil}
 use Rattle.laws.proofs.Bools.{or-true, or-none}
 use Rattle.laws.proofs.Cases.{on}
 use Rattle.joining.specs.Heard.{bit, tally, come, has, mark, none}

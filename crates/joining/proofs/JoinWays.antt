@@ -1,12 +1,6 @@
 -- SPDX-License-Identifier: MPL-2.0
 -- The cases of what joining answers.
-use Prim.Native.Nat.{ℕ, _+_, _-_, _*_}
-use mathlib.Core.Path.{_≡_}
-use mathlib.Core.List.{List}
-use mathlib.Core.Bool.{true, false}
-use lib.Dec.{eqb}
-use lib.ListN.{length}
-use borrow.Author.Tests.{eqb-true}
+use Rattle.laws.proofs.Kit.{ℕ, _+_, _-_, _*_, _≡_, true, false, List, length, eqb, eqb-true}
 use Rattle.laws.proofs.Cases.{on}
 use Rattle.joining.specs.declared.Progress.{Progress}
 use Rattle.joining.specs.declared.Piece.{Piece}

@@ -1,13 +1,7 @@
 -- SPDX-License-Identifier: MPL-2.0
 -- While pieces of a report are missing, each of its pieces passes every row; once all have come, 17 applies.
-use Prim.Native.Nat.{ℕ, _+_, _-_, _*_, _<_}
-use mathlib.Core.Path.{_≡_, refl}
-use mathlib.Core.List.{List}
-use mathlib.Core.Bool.{Bool, true, false, cond, and-false}
-use native.Mathlib.Omega.{arith}
-use lib.Dec.{eqb, ltb}
-use lib.ListN.{length}
-use borrow.Author.Tests.{eq-eqb, ne-eqb, lt-ltb, le-ltb, lt-leb, eqb-true, eqb-false, ltb-true}
+use Rattle.laws.proofs.Kit.{ℕ, _+_, _-_, _*_, _<_, _≡_, refl, Bool, true, false, cond, and-false, List, length, eqb, ltb, eq-eqb, ne-eqb, eqb-true}
+use Rattle.laws.proofs.Kit.{eqb-false, lt-ltb, le-ltb, ltb-true, lt-leb, arith}
 use Rattle.laws.proofs.Cases.{on}
 use Rattle.laws.proofs.Sames.{same-refl}
 use Rattle.joining.specs.Heard.{most, tally, has}

@@ -1,14 +1,7 @@
 -- SPDX-License-Identifier: MPL-2.0
 -- Piece i comes when S has come: then all is as when S with i has come.
-use Prim.Native.Nat.{ℕ, _+_, _-_, _*_, _<_}
-use mathlib.Core.Path.{_≡_, refl}
-use mathlib.Core.List.{List}
-use mathlib.Core.Bool.{Bool, true, false, cond}
-use native.Mathlib.Omega.{arith}
-use lib.Dec.{eqb}
-use lib.ListN.{length}
-use lib.Seq.{getD-set-same, getD-set-other}
-use borrow.Author.Tests.{ne-eqb, eqb-false}
+use Rattle.laws.proofs.Kit.{ℕ, _+_, _-_, _*_, _<_, _≡_, refl, Bool, true, false, cond, List, length, getD-set-same, getD-set-other, eqb, ne-eqb}
+use Rattle.laws.proofs.Kit.{eqb-false, arith}
 use Rattle.laws.proofs.Cases.{on}
 use Rattle.joining.specs.declared.Arrival.{Arrival}
 use Rattle.joining.specs.declared.Arrival.the-variants.{Refused, Taken, Repeat, Complete}

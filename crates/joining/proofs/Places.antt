@@ -1,12 +1,7 @@
 -- SPDX-License-Identifier: MPL-2.0
 -- Parts of a buffer, and a piece put into it.
-use Prim.Native.Nat.{ℕ, _+_, _≤_, min}
-use mathlib.Core.Path.{_≡_, sym, _∙_}
-use mathlib.Core.Logic.{⊎-elim}
-use mathlib.Core.List.{List, _++_}
-use native.Mathlib.Omega.{arith}
-use lib.ListN.{length, take, drop}
-use lib.Seq.{length-take-le, take-all, take-at, drop-at, drop-drop, take-append-seam}
+use Rattle.laws.proofs.Kit.{ℕ, _+_, min, _≤_, _≡_, sym, _∙_, List, _++_, length, take, drop, take-all, take-at, length-take-le, drop-at, drop-drop}
+use Rattle.laws.proofs.Kit.{take-append-seam, ⊎-elim, arith}
 use Rattle.laws.specs.Parts.{part}
 use Rattle.laws.proofs.Order.{lt-or-ge}
 use Rattle.joining.specs.Report.{put}

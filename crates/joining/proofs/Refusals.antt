@@ -1,13 +1,7 @@
 -- SPDX-License-Identifier: MPL-2.0
 -- What is known of a piece that no row refuses.
-use Prim.Native.Nat.{ℕ, _+_, _*_, _≤_, _<_}
-use mathlib.Core.Path.{_≡_, refl, sym, _∙_}
-use mathlib.Core.List.{List, _++_}
-use mathlib.Core.Bool.{Bool, true, false, _&&_}
-use native.Mathlib.Omega.{arith}
-use lib.Dec.{eqb, ltb, leb}
-use lib.ListN.{length}
-use borrow.Author.Tests.{eqb-true, eqb-false, ltb-false, leb-false, not-false}
+use Rattle.laws.proofs.Kit.{ℕ, _+_, _*_, _≤_, _<_, _≡_, refl, sym, _∙_, Bool, true, false, _&&_, List, _++_, length, eqb, ltb, leb, eqb-true}
+use Rattle.laws.proofs.Kit.{eqb-false, ltb-false, leb-false, not-false, arith}
 use Rattle.laws.specs.Rows.{first, testOf}
 use Rattle.laws.proofs.Bools.{or-false}
 use Rattle.laws.proofs.Firsts.{first-append, neither, row-false}

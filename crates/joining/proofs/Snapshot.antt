@@ -1,15 +1,11 @@
 -- SPDX-License-Identifier: MPL-2.0
 -- What is remembered, and what the report buffer holds, once a set of the pieces of one report has come: they depend on the set and on how
 -- they began, and on nothing else.
-use Prim.Native.Nat.{ℕ, zero, suc, _+_, _-_, _*_, _≤_, _<_, min}
-use mathlib.Core.Path.{_≡_, refl, sym}
-use mathlib.Core.List.{List, [], _++_}
-use mathlib.Core.Bool.{Bool, true, false, cond}
-use native.Mathlib.Omega.{arith}
+use Rattle.laws.proofs.Kit.{ℕ, zero, suc, _+_, _-_, _*_, min, _≤_, _<_, _≡_, refl, sym, Bool, true, false, cond, List, [], _++_, length, take, drop}
+use Rattle.laws.proofs.Kit.{length-append, length-take, length-drop, take-all, length-take-le, take-append-seam, eqb, arith}
 use native.Mathlib.Nat.{mul-zero}
-use lib.Dec.{eqb}
-use lib.ListN.{length, take, drop, length-append, length-take, length-drop, take-append-drop}
-use lib.Seq.{length-take-le, take-all, take-add, take-append-seam}
+use lib.ListN.{take-append-drop}
+use lib.Seq.{take-add}
 use Rattle.laws.specs.Parts.{part}
 use Rattle.joining.specs.declared.Progress.{Progress}
 use Rattle.joining.specs.declared.Piece.{Piece}

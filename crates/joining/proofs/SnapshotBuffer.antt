@@ -1,13 +1,7 @@
 -- SPDX-License-Identifier: MPL-2.0
 -- The report buffer with one piece more: where piece i is put once S has come, it is as once S with i has come.
-use Prim.Native.Nat.{ℕ, zero, suc, _+_, _*_, _≤_, _<_}
-use mathlib.Core.Path.{_≡_, refl, sym, _∙_}
-use mathlib.Core.Logic.{⊎-elim}
-use mathlib.Core.List.{List, _++_, append-assoc}
-use mathlib.Core.Bool.{Bool, true, false}
-use native.Mathlib.Omega.{arith}
-use lib.ListN.{length, drop}
-use lib.Seq.{getD-set-same, getD-set-other}
+use Rattle.laws.proofs.Kit.{ℕ, zero, suc, _+_, _*_, _≤_, _<_, _≡_, refl, sym, _∙_, Bool, true, false, List, _++_, append-assoc, length, drop}
+use Rattle.laws.proofs.Kit.{getD-set-same, getD-set-other, ⊎-elim, arith}
 use Rattle.laws.specs.Parts.{part}
 use Rattle.laws.proofs.Order.{lt-or-ge}
 use Rattle.joining.specs.Heard.{most, has, mark}

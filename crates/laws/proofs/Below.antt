@@ -1,11 +1,6 @@
 -- SPDX-License-Identifier: MPL-2.0
 -- What holds of each number below n, by one test that is computed, one number after the other.
-use mathlib.Core.Path.{_≡_}
-use mathlib.Core.Bool.{Bool, true, _&&_}
-use Prim.Native.Nat.{ℕ, zero, suc, _<_}
-use native.Mathlib.Nat.{le-of-suc-le-suc, not-suc-le-zero}
-use lib.Dec.{eqb, ltb}
-use borrow.Author.Tests.{eqb-true, ltb-true}
+use Rattle.laws.proofs.Kit.{ℕ, zero, suc, _<_, _≡_, Bool, true, _&&_, eqb, ltb, eqb-true, ltb-true, le-of-suc-le-suc, not-suc-le-zero}
 use Rattle.laws.proofs.Bools.{and-true}
 
 -- the test f passes at each number below n

@@ -1,7 +1,6 @@
 -- SPDX-License-Identifier: MPL-2.0
 -- A sum of tests is false where each is, a product true where each is.
-use mathlib.Core.Path.{_≡_, refl, sym}
-use mathlib.Core.Bool.{Bool, true, false, _&&_, _||_, true≢false}
+use Rattle.laws.proofs.Kit.{_≡_, refl, sym, Bool, true, false, true≢false, _&&_, _||_}
 
 pub or-false : (a b : Bool) → (a || b) ≡ false → (a ≡ false) × (b ≡ false)
 or-false true b e = absurd (true≢false e)

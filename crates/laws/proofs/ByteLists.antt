@@ -1,9 +1,6 @@
 -- SPDX-License-Identifier: MPL-2.0
 -- Lists of bytes: every element is below 256, and so is every element of their parts and of what is joined from them.
-use Prim.Native.Nat.{ℕ, zero, suc, _+_, _/_, _%_, _<_}
-use mathlib.Core.List.{List, [], _∷_, _++_}
-use native.Mathlib.Omega.{arith}
-use lib.ListN.{getD, take, drop, replicate}
+use Rattle.laws.proofs.Kit.{ℕ, zero, suc, _+_, _/_, _%_, _<_, List, [], _∷_, _++_, take, drop, getD, replicate, arith}
 use lib.Seq.{getD-drop}
 use Rattle.laws.specs.Bytes.{AreBytes, bytesAt, bytes16, bytes32, bytes64}
 

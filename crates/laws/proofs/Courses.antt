@@ -1,7 +1,6 @@
 -- SPDX-License-Identifier: MPL-2.0
 -- A machine that is given inputs one after the other: where it stands after a course of them, by what each of them was.
-use mathlib.Core.Path.{_≡_}
-use mathlib.Core.List.{List, [], _∷_}
+use Rattle.laws.proofs.Kit.{_≡_, List, [], _∷_}
 use Rattle.laws.specs.Courses.{final}
 
 -- Inputs from the state c on, and the events that they are: `Is c x e` says that in state c the input x is the event e.

@@ -1,14 +1,8 @@
 -- SPDX-License-Identifier: MPL-2.0
 -- What a table's answer says, for every table: a number other than 0 is that of the first row whose test holds, and 0 says that no
 -- test holds. Of two tables one after the other the second is asked where no row of the first applies.
-use Prim.Native.Nat.{ℕ, _≤_}
-use mathlib.Core.Path.{_≡_, refl, sym}
-use mathlib.Core.Logic.{inl, inr}
-use mathlib.Core.List.{List, [], _∷_, _++_}
-use mathlib.Core.Bool.{Bool, true, false, cond, not, _&&_, true≢false}
-use native.Mathlib.Omega.{arith}
-use lib.Dec.{leb, eqb}
-use borrow.Author.Tests.{leb-true, eqb-true, eqb-false}
+use Rattle.laws.proofs.Kit.{ℕ, _≤_, _≡_, refl, sym, Bool, true, false, true≢false, not, _&&_, cond, List, [], _∷_, _++_, eqb, leb, eqb-true}
+use Rattle.laws.proofs.Kit.{eqb-false, leb-true, inl, inr, arith}
 use Rattle.laws.proofs.Bools.{and-true}
 use Rattle.laws.proofs.Cases.{on}
 use Rattle.laws.specs.Rows.{first, orElse, numbered, quiet, testOf, leads, upTo}

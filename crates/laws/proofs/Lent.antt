@@ -1,12 +1,9 @@
 -- SPDX-License-Identifier: MPL-2.0
 -- A part of a list is lent on and comes back changed: what the whole then is.
-use Prim.Native.Nat.{ℕ, _+_, _-_, _≤_}
-use mathlib.Core.Path.{_≡_, sym, _∙_}
-use mathlib.Core.List.{List, _++_, append-nil, append-assoc}
-use native.Mathlib.Omega.{arith}
+use Rattle.laws.proofs.Kit.{ℕ, _+_, _-_, _≤_, _≡_, sym, _∙_, List, _++_, append-nil, append-assoc, length, take, drop, drop-of-length-le, sets}
+use Rattle.laws.proofs.Kit.{take-length, drop-drop, arith}
 use borrow.Rule.Slice.PartMut.{putMid}
-use lib.ListN.{length, take, drop, drop-of-length-le}
-use lib.Seq.{sets, sets-eq, take-length, drop-drop}
+use lib.Seq.{sets-eq}
 use Rattle.laws.proofs.Lists.{part-from}
 
 module _ (b p : List ℕ) (at : ℕ) (fits : at + length p ≤ length b) (y : List ℕ)

@@ -1,4 +1,5 @@
 -- SPDX-License-Identifier: MPL-2.0
+pub mod Kit
 pub mod Tests
 pub mod ByteLists
 pub mod Firsts

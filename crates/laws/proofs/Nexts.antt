@@ -1,12 +1,8 @@
 -- SPDX-License-Identifier: MPL-2.0
 -- The code goes down a table row by row with `next`, and answers what the table answers. Where it stops between two tables, because the rows
 -- below are dear or need what those above leave, the answer is that of the two tables together.
-use Prim.Native.Nat.{ℕ, zero, suc}
-use mathlib.Core.Path.{_≡_, refl, _∙_}
-use mathlib.Core.List.{List, [], _∷_, _++_}
-use mathlib.Core.Bool.{Bool, true, false, cond}
-use lib.Dec.{eqb, eqb·suc-zero}
-use borrow.Author.Tests.{ne-eqb}
+use Rattle.laws.proofs.Kit.{ℕ, zero, suc, _≡_, refl, _∙_, Bool, true, false, cond, List, [], _∷_, _++_, eqb, ne-eqb}
+use lib.Dec.{eqb·suc-zero}
 use Rattle.laws.specs.Rows.{first, orElse, after, down, numbered}
 use Rattle.laws.proofs.Firsts.{numbered-both, first-append}
 

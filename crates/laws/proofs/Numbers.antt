@@ -1,11 +1,7 @@
 -- SPDX-License-Identifier: MPL-2.0
 -- Bytes as numbers: the bounds of what is read, and what stands after the front of a list.
-use Prim.Native.Nat.{ℕ, _+_, _<_}
-use mathlib.Core.Path.{_≡_, sym, ap, _∙_}
-use mathlib.Core.List.{List, _++_}
-use native.Mathlib.Omega.{arith}
-use native.Mathlib.Nat.{add-zero, add-assoc}
-use lib.ListN.{length}
+use Rattle.laws.proofs.Kit.{ℕ, _+_, _<_, _≡_, sym, _∙_, ap, List, _++_, length, add-zero, arith}
+use native.Mathlib.Nat.{add-assoc}
 use lib.Seq.{getD-append-add}
 use Rattle.laws.specs.Bytes.{be8, be16, be32, be64}
 

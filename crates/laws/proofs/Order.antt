@@ -1,7 +1,8 @@
 -- SPDX-License-Identifier: MPL-2.0
 -- Two numbers compared, as a choice of two cases.
-use mathlib.Core.Logic.{_⊎_, inl, inr, ⊎-elim}
-use Prim.Native.Nat.{ℕ, zero, suc, _<_, _≤_, zero-le, suc-le-suc}
+use Rattle.laws.proofs.Kit.{ℕ, zero, suc, _≤_, _<_, inl, inr, ⊎-elim}
+use mathlib.Core.Logic.{_⊎_}
+use Prim.Native.Nat.{zero-le, suc-le-suc}
 
 pub lt-or-ge : (a b : ℕ) → (a < b) ⊎ (b ≤ a)
 lt-or-ge a zero = inr zero-le

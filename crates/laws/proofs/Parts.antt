@@ -1,13 +1,9 @@
 -- SPDX-License-Identifier: MPL-2.0
 -- The bytes at a place, `bytesAt`: how many they are, that they are a part of the list where it has them, and that a list filled from
 -- its start one byte after the other comes to hold them.
-use Prim.Native.Nat.{ℕ, zero, suc, _+_, _≤_, _<_}
-use mathlib.Core.Path.{_≡_, refl, sym}
-use mathlib.Core.List.{List, [], _∷_, _++_, append-assoc, append-nil}
-use native.Mathlib.Omega.{arith}
-use native.Mathlib.Numerals.{add-one}
-use lib.ListN.{length, getD, take, drop, set, length-append, length-drop}
-use lib.Seq.{take-at, drop-at, drop-length, take-suc, drop-cons, getD-take, getD-drop, set-at}
+use Rattle.laws.proofs.Kit.{ℕ, zero, suc, _+_, _≤_, _<_, _≡_, refl, sym, List, [], _∷_, _++_, append-nil, append-assoc, length, take, drop}
+use Rattle.laws.proofs.Kit.{getD, set, length-append, length-drop, take-at, take-suc, drop-at, drop-length, getD-take, add-one, arith}
+use lib.Seq.{drop-cons, getD-drop, set-at}
 use Rattle.laws.specs.Bytes.{be8, bytesAt}
 
 pub length-bytesAt : (m : List ℕ) (at n : ℕ) → length (bytesAt m at n) ≡ n

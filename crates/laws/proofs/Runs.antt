@@ -1,13 +1,9 @@
 -- SPDX-License-Identifier: MPL-2.0
 -- A list given by its elements has them; a list that has them is that list, also where a loop filled them in one by one.
-use mathlib.Core.Path.{_≡_, refl, sym, ap, _∙_}
-use mathlib.Core.List.{List}
-use Prim.Native.Nat.{ℕ, zero, suc, _+_, _≤_, _<_}
-use native.Mathlib.Nat.{add-zero, zero-add, le-of-suc-le-suc, not-suc-le-zero}
+use Rattle.laws.proofs.Kit.{ℕ, zero, suc, _+_, _≤_, _<_, _≡_, refl, sym, _∙_, ap, List, length, getD, set, length-set, getD-set-same}
+use Rattle.laws.proofs.Kit.{getD-set-other, add-zero, le-of-suc-le-suc, not-suc-le-zero, zero-add, arith}
 use native.Mathlib.Decide.{ℕ-discrete}
-use native.Mathlib.Omega.{arith}
-use lib.ListN.{getD, length, set, length-set}
-use lib.Seq.{getD-set-same, getD-set-other, ext-getD}
+use lib.Seq.{ext-getD}
 use Rattle.laws.specs.Runs.{run, table}
 
 pub run-length {ℓ} : {A : Type ℓ} (f : ℕ → A) (i n : ℕ) → length (run f i n) ≡ n

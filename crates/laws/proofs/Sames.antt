@@ -1,13 +1,7 @@
 -- SPDX-License-Identifier: MPL-2.0
 -- `same` decides equality of lists of bytes, both ways; how it goes over lists that end in a byte each.
-use Prim.Native.Nat.{ℕ}
-use mathlib.Core.Path.{_≡_, refl, ap, ap₂, sym}
-use mathlib.Core.List.{List, [], _∷_, _++_}
-use mathlib.Core.Bool.{Bool, true, false, _&&_, true≢false}
-use native.Mathlib.Omega.{arith}
-use lib.Dec.{eqb}
-use lib.ListN.{length}
-use borrow.Author.Tests.{eq-eqb, eqb-true}
+use Rattle.laws.proofs.Kit.{ℕ, _≡_, refl, sym, ap, ap₂, Bool, true, false, true≢false, _&&_, List, [], _∷_, _++_, length, eqb, eq-eqb}
+use Rattle.laws.proofs.Kit.{eqb-true, arith}
 use Rattle.laws.proofs.Bools.{and-true, and-one, and-assoc}
 use Rattle.laws.specs.Same.{same}
 

@@ -1,12 +1,8 @@
 -- SPDX-License-Identifier: MPL-2.0
 -- Runs of stores: two, the second where the first ends, are one; what is stored past the end is dropped.
-use Prim.Native.Nat.{ℕ, zero, suc, _+_, _≤_}
-use mathlib.Core.Path.{_≡_, refl, sym, ap, _∙_}
-use mathlib.Core.List.{List, [], _∷_, _++_}
-use native.Mathlib.Omega.{arith}
-use native.Mathlib.Nat.{add-zero, zero-add}
-use lib.ListN.{length, take, drop, set, length-append, length-set}
-use lib.Seq.{sets, sets-eq, set-out}
+use Rattle.laws.proofs.Kit.{ℕ, zero, suc, _+_, _≤_, _≡_, refl, sym, _∙_, ap, List, [], _∷_, _++_, length, take, drop, set, length-append}
+use Rattle.laws.proofs.Kit.{length-set, sets, add-zero, zero-add, arith}
+use lib.Seq.{sets-eq, set-out}
 
 pub sets-sets : (a b l : List ℕ) (i j : ℕ) → j ≡ i + length a → sets (sets l i a) j b ≡ sets l i (a ++ b)
 sets-sets [] b l i j e = ap (λ (k : ℕ). sets l k b) (e ∙ add-zero i)

@@ -1,10 +1,7 @@
 -- SPDX-License-Identifier: MPL-2.0
 -- What closes the returns of `if … { return n; }` code against a table of rows: each branch's fact turns a test into true or false,
 -- and a `cond` on a test that is known gives its arm.
-use borrow.Author.Needs.{needs}
-use borrow.Author.Tests.{lt-ltb, le-ltb, le-leb, lt-leb, eq-eqb, ne-eqb}
-use mathlib.Core.Path.{_≡_}
-use mathlib.Core.Bool.{Bool, true, false, cond}
+use Rattle.laws.proofs.Kit.{_≡_, Bool, true, false, cond, eq-eqb, ne-eqb, lt-ltb, le-ltb, le-leb, lt-leb, needs}
 
 pub cond-true : {A : Type 0} (b : Bool) (x y : A) → b ≡ true → cond b x y ≡ x
 cond-true b x y e = rw e

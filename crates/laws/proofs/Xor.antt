@@ -1,11 +1,10 @@
 -- SPDX-License-Identifier: MPL-2.0
 -- `bitXor` is associative, and 0 of equals only; an or is 0 of zeros only.
-use mathlib.Core.Path.{_≡_, _∙_, sym, ap, ap₂, refl}
-use Prim.Native.Nat.{ℕ, zero, suc, _+_, _*_, _/_, _%_, _<_, _≤_}
-use native.Mathlib.Nat.{mod-lt, not-suc-le-zero, le-of-suc-le-suc, zero-lt-suc}
-use native.Mathlib.Omega.{arith}
+use Rattle.laws.proofs.Kit.{ℕ, zero, suc, _+_, _*_, _/_, _%_, _≤_, _<_, _≡_, refl, sym, _∙_, ap, ap₂, le-of-suc-le-suc, mod-lt}
+use Rattle.laws.proofs.Kit.{not-suc-le-zero, bitXor, xor-shr, arith}
+use native.Mathlib.Nat.{zero-lt-suc}
 use lib.Arith.{bin-ind}
-use lib.Bits.{bitXor, bitOr, bitAnd, differ, xor-step, xor-self, xor-zero-l, xor-zero-r, xor-shr, or-add-and, and-le-l, and-le-r}
+use lib.Bits.{bitOr, bitAnd, differ, xor-step, xor-self, xor-zero-l, xor-zero-r, or-add-and, and-le-l, and-le-r}
 
 differ-lt : (x y : ℕ) → x < 2 → y < 2 → differ x y < 2
 differ-lt zero y hx hy = hy

@@ -1,12 +1,8 @@
 -- SPDX-License-Identifier: MPL-2.0
 -- Digits: how many they are, and that they may be put into a buffer the last one first.
-use Prim.Native.Nat.{ℕ, zero, suc, _+_, _-_, _/_, _%_, _≤_, _<_}
-use mathlib.Core.Path.{_≡_, refl}
-use mathlib.Core.List.{List, [], _∷_}
-use native.Mathlib.Omega.{arith}
+use Rattle.laws.proofs.Kit.{ℕ, zero, suc, _+_, _-_, _/_, _%_, _≤_, _<_, _≡_, refl, List, [], _∷_, length, set, length-append, sets, arith}
 use native.Mathlib.Numerals.{sub-one}
-use lib.ListN.{length, set, length-append}
-use lib.Seq.{sets, set-comm}
+use lib.Seq.{set-comm}
 use Rattle.laws.proofs.Firsts.{first-upTo}
 use Rattle.laws.proofs.Stores.{sets-sets}
 use Rattle.lines.specs.Text.{digits, digitRows, digitCount, field}

@@ -1,8 +1,6 @@
 -- SPDX-License-Identifier: MPL-2.0
 -- The listing's example, computed.
-use mathlib.Core.Path.{_≡_, refl}
-use mathlib.Core.List.{[]}
-use mathlib.Core.Bool.{true}
+use Rattle.laws.proofs.Kit.{_≡_, refl, true, []}
 use Rattle.wire.specs.Examples.{p1}
 use Rattle.wire.specs.Chain.{entryOf, chain, mostEntries, readChain}
 use Rattle.wire.specs.Fields.{badType, badFlags, badPiece, mostPieces, isSealed, tagSize}

@@ -1,14 +1,7 @@
 -- SPDX-License-Identifier: MPL-2.0
 -- A text that is put, with room and without, and parts put one after the other.
-use Prim.Native.Nat.{ℕ, _+_, _≤_, _<_}
-use mathlib.Core.Path.{_≡_, refl, sym, _∙_}
-use mathlib.Core.List.{List, [], _∷_, _++_}
-use mathlib.Core.Bool.{Bool, true, false}
-use native.Mathlib.Omega.{arith}
-use borrow.Author.Tests.{lt-ltb, le-ltb, ltb-true, ltb-false}
-use lib.Dec.{ltb}
-use lib.ListN.{length, set, length-append}
-use lib.Seq.{sets}
+use Rattle.laws.proofs.Kit.{ℕ, _+_, _≤_, _<_, _≡_, refl, sym, _∙_, Bool, true, false, List, [], _∷_, _++_, length, set, length-append, sets, ltb}
+use Rattle.laws.proofs.Kit.{lt-ltb, le-ltb, ltb-true, ltb-false, arith}
 use Rattle.laws.proofs.Stores.{stored-twice}
 use Rattle.lines.specs.Text.{digits, digitCount, field, put, putEnd}
 use Rattle.lines.proofs.Digits.{length-digits}

@@ -1,12 +1,6 @@
 -- SPDX-License-Identifier: MPL-2.0
 -- The first message of a stream: its bounds.
-use Prim.Native.Nat.{ℕ, _≤_, _<_}
-use mathlib.Core.List.{List}
-use mathlib.Core.Bool.{Bool}
-use native.Mathlib.Omega.{arith}
-use borrow.Author.Tests.{leb-true}
-use lib.ListN.{length}
-use lib.Dec.{ltb, leb, eqb}
+use Rattle.laws.proofs.Kit.{ℕ, _≤_, _<_, Bool, List, length, eqb, ltb, leb, leb-true, arith}
 use Rattle.laws.specs.Bytes.{be8, be16}
 use Rattle.laws.proofs.Cases.{on}
 use Rattle.laws.proofs.Numbers.{be16-below}

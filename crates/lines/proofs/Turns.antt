@@ -1,14 +1,8 @@
 -- SPDX-License-Identifier: MPL-2.0
 -- Turns of a listing, one after the other: what they take, and where they lead.
-use Prim.Native.Nat.{ℕ, zero, suc, _+_, _-_, _/_, _≤_, _<_}
-use mathlib.Core.Path.{_≡_, refl}
-use mathlib.Core.List.{List}
-use mathlib.Core.Bool.{Bool, true, false}
-use native.Mathlib.Omega.{arith}
+use Rattle.laws.proofs.Kit.{ℕ, zero, suc, _+_, _-_, _/_, _≤_, _<_, _≡_, refl, Bool, true, false, List, length, drop, length-append, length-drop, sets}
+use Rattle.laws.proofs.Kit.{ltb, arith}
 use native.Mathlib.Numerals.{sub-one}
-use lib.ListN.{length, drop, length-append, length-drop}
-use lib.Dec.{ltb}
-use lib.Seq.{sets}
 use Rattle.laws.proofs.Cases.{on}
 use Rattle.laws.proofs.Stores.{stored-twice}
 use Rattle.lines.specs.declared.listing.Listed.{Listed}

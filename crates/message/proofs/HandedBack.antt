@@ -1,12 +1,6 @@
 -- SPDX-License-Identifier: MPL-2.0
 -- The payload that is handed out of an opened message is that of its plain text; out of a written message, the one that was written.
-use Prim.Native.Nat.{ℕ, _+_, _≤_}
-use mathlib.Core.Path.{_≡_, _∙_}
-use mathlib.Core.List.{List}
-use mathlib.Core.Bool.{true, false}
-use native.Mathlib.Omega.{arith}
-use borrow.Author.Tests.{le-ltb}
-use lib.ListN.{length}
+use Rattle.laws.proofs.Kit.{ℕ, _+_, _≤_, _≡_, _∙_, true, false, List, length, le-ltb, arith}
 use Rattle.laws.specs.Bytes.{AreBytes, be32}
 use Rattle.wire.specs.Fields.{isSealed}
 use Rattle.wire.specs.declared.header.Header.{Header}

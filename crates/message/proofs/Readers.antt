@@ -1,12 +1,6 @@
 -- SPDX-License-Identifier: MPL-2.0
 -- The way through the reader of a sealed message: opened or not, and the payload judged in the working buffer.
-use Prim.Native.Nat.{ℕ, _+_, _-_}
-use mathlib.Core.Path.{_≡_, sym, _∙_}
-use mathlib.Core.List.{List}
-use mathlib.Core.Bool.{true}
-use native.Mathlib.Nat.{add-sub-cancel-left}
-use lib.ListN.{length, take, drop}
-use borrow.Author.Tests.{ne-eqb}
+use Rattle.laws.proofs.Kit.{ℕ, _+_, _-_, _≡_, sym, _∙_, true, List, length, take, drop, ne-eqb, add-sub-cancel-left}
 use Rattle.laws.specs.Bytes.{be32}
 use Rattle.laws.specs.Rows.{first}
 use Rattle.wire.specs.declared.header.Header.{Header}

@@ -1,13 +1,8 @@
 -- SPDX-License-Identifier: MPL-2.0
 -- The way through `write`: what the table leaves, and the output step by step.
-use Prim.Native.Nat.{ℕ, _+_, _≤_}
-use mathlib.Core.Path.{_≡_, refl, _∙_}
-use mathlib.Core.List.{List, _++_}
-use mathlib.Core.Bool.{true, false}
-use native.Mathlib.Omega.{arith}
-use borrow.Author.Tests.{ltb-false, ne-eqb, eqb-true, not-false}
-use lib.ListN.{length, drop, length-append, length-drop}
-use lib.Seq.{sets, take-append-seam, drop-append-add, drop-drop}
+use Rattle.laws.proofs.Kit.{ℕ, _+_, _≤_, _≡_, refl, _∙_, true, false, List, _++_, length, drop, length-append, length-drop, sets, drop-drop}
+use Rattle.laws.proofs.Kit.{take-append-seam, ne-eqb, eqb-true, ltb-false, not-false, arith}
+use lib.Seq.{drop-append-add}
 use Rattle.laws.specs.Bytes.{AreBytes}
 use Rattle.laws.specs.Rows.{testOf}
 use Rattle.laws.proofs.Bools.{and-false-right}

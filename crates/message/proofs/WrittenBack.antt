@@ -1,12 +1,7 @@
 -- SPDX-License-Identifier: MPL-2.0
 -- What the writer wrote the reader reads back: the same fields, and the payload's bytes where it says they are.
-use Prim.Native.Nat.{ℕ, _+_, _%_, _≤_, _<_}
-use mathlib.Core.Path.{_≡_, sym, ap, _∙_}
-use mathlib.Core.List.{List, [], _++_, append-assoc, append-nil}
-use mathlib.Core.Bool.{true, false, true≢false}
-use native.Mathlib.Omega.{arith}
-use lib.ListN.{length, take, drop, length-append}
-use lib.Seq.{drop-at, take-length}
+use Rattle.laws.proofs.Kit.{ℕ, _+_, _%_, _≤_, _<_, _≡_, sym, _∙_, ap, true, false, true≢false, List, [], _++_, append-nil, append-assoc, length, take}
+use Rattle.laws.proofs.Kit.{drop, length-append, take-length, drop-at, arith}
 use Rattle.laws.specs.Bytes.{AreBytes, be32}
 use Rattle.laws.proofs.ByteLists.{append-bytes, cons-bytes, nil-bytes, bytes16-bytes, bytes32-bytes, bytes64-bytes}
 use Rattle.wire.specs.Fields.{isSealed, tagSize}

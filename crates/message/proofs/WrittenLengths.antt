@@ -1,11 +1,6 @@
 -- SPDX-License-Identifier: MPL-2.0
 -- How long the messages are that the writer writes, and what they are: the payload as it is, or sealed.
-use Prim.Native.Nat.{ℕ, _+_, _*_, _/_, _≤_}
-use mathlib.Core.Path.{_≡_, refl}
-use mathlib.Core.List.{List, _++_}
-use mathlib.Core.Bool.{Bool, true, false}
-use native.Mathlib.Omega.{arith}
-use lib.ListN.{length, length-append}
+use Rattle.laws.proofs.Kit.{ℕ, _+_, _*_, _/_, _≤_, _≡_, refl, Bool, true, false, List, _++_, length, length-append, arith}
 use Rattle.laws.proofs.Cases.{on}
 use Rattle.wire.specs.Fields.{isSealed}
 use Rattle.wire.specs.declared.header.Header.{Header}

@@ -1,13 +1,7 @@
 -- SPDX-License-Identifier: MPL-2.0
 -- A chain that the writer accepts has at most 8 × 257 + 2 bytes, and a payload at most 16,384.
-use Prim.Native.Nat.{ℕ, zero, suc, _+_, _*_, _≤_}
-use mathlib.Core.Path.{_≡_, sym}
-use mathlib.Core.List.{List, [], _∷_}
-use mathlib.Core.Bool.{Bool, true, false, cond, not, _&&_, _||_, true≢false}
-use native.Mathlib.Omega.{arith}
-use borrow.Author.Tests.{ltb-false, leb-true, eqb-true, not-false}
-use lib.ListN.{length, drop, length-drop}
-use lib.Dec.{ltb, leb, eqb}
+use Rattle.laws.proofs.Kit.{ℕ, zero, suc, _+_, _*_, _≤_, _≡_, sym, Bool, true, false, true≢false, not, _&&_, _||_, cond, List, [], _∷_, length, drop}
+use Rattle.laws.proofs.Kit.{length-drop, eqb, ltb, leb, eqb-true, ltb-false, leb-true, not-false, arith}
 use Rattle.laws.specs.Bytes.{AreBytes, be8, be16}
 use Rattle.laws.proofs.Bools.{or-false, or-none, and-true, and-false-right}
 use Rattle.laws.proofs.Cases.{on}

@@ -1,11 +1,6 @@
 -- SPDX-License-Identifier: MPL-2.0
 -- Two answers of different kinds are not the same: `cc` makes 0 ≡ 1 of an equation between them, and from that anything follows.
-use Prim.Native.Nat.{ℕ}
-use mathlib.Core.Path.{_≡_}
-use mathlib.Core.Bool.{cond}
-use native.Mathlib.Omega.{arith}
-use lib.Dec.{eqb}
-use borrow.Author.Tests.{eqb-true}
+use Rattle.laws.proofs.Kit.{ℕ, _≡_, cond, eqb, eqb-true, arith}
 use Rattle.laws.proofs.Cases.{on}
 use Rattle.joining.specs.declared.Arrival.{Arrival}
 use Rattle.joining.specs.declared.Arrival.the-variants.{Refused, Taken, Repeat, Complete}

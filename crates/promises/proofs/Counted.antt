@@ -1,8 +1,6 @@
 -- SPDX-License-Identifier: MPL-2.0
 -- Demand 2's count: joining counts the indexes accepted, and nothing but joining touches what is remembered of them.
-use Prim.Native.Nat.{ℕ}
-use mathlib.Core.Path.{refl, sym, ap, _∙_}
-use mathlib.Core.List.{List, [], _∷_}
+use Rattle.laws.proofs.Kit.{ℕ, refl, sym, _∙_, ap, List, [], _∷_}
 use Rattle.wire.specs.declared.header.Header.{Header}
 use Rattle.message.specs.Reading.{workingAfter}
 use Rattle.message.specs.Handed.{payload}

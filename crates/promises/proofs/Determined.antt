@@ -1,6 +1,6 @@
 -- SPDX-License-Identifier: MPL-2.0
 -- Two values that equal a third are equal.
-use mathlib.Core.Path.{sym, _∙_}
+use Rattle.laws.proofs.Kit.{sym, _∙_}
 use Rattle.promises.specs.Determinacy.{OneResult, OneOutcome}
 
 pub one-result : OneResult

@@ -1,12 +1,6 @@
 -- SPDX-License-Identifier: MPL-2.0
 -- The premises of `RepeatedStep` can be met: three messages, as the writer writes them, enrol a gateway.
-use Prim.Native.Nat.{ℕ, _≤_, _<_}
-use mathlib.Core.Path.{_≡_, refl, ap, _∙_}
-use mathlib.Core.List.{List, [], _∷_, _++_}
-use mathlib.Core.Bool.{false, not, and-false}
-use native.Mathlib.Omega.{arith}
-use lib.ListN.{length, replicate}
-use borrow.Author.Tests.{le-ltb}
+use Rattle.laws.proofs.Kit.{ℕ, _≤_, _<_, _≡_, refl, _∙_, ap, false, not, and-false, List, [], _∷_, _++_, length, replicate, le-ltb, arith}
 use Rattle.laws.specs.Bytes.{AreBytes}
 use Rattle.wire.specs.Fields.{badType, badFlags, badPiece, mostPieces, isSealed}
 use Rattle.payloads.specs.Shapes.{starts, exchanges, isConnectionRequest, isDeviceAuthentication, isDoneRequest, isShaped, badPayload}

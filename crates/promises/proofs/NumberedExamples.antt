@@ -1,6 +1,6 @@
 -- SPDX-License-Identifier: MPL-2.0
 -- The numbered examples, computed.
-use mathlib.Core.Path.{refl}
+use Rattle.laws.proofs.Kit.{refl}
 use Rattle.field.specs.Xor.{xor}
 use Rattle.field.specs.Field.{xtime, times, mul, square, ones, inverse}
 use Rattle.field.specs.Sbox.{affine, sbox}

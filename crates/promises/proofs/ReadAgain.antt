@@ -1,11 +1,6 @@
 -- SPDX-License-Identifier: MPL-2.0
 -- A message that was read is read alike with another working buffer that is long enough: only 12 looks at it.
-use Prim.Native.Nat.{ℕ, _≤_}
-use mathlib.Core.Path.{_≡_, sym, ap, _∙_}
-use mathlib.Core.List.{List, []}
-use mathlib.Core.Bool.{Bool, true, cond}
-use lib.ListN.{length}
-use borrow.Author.Tests.{le-ltb}
+use Rattle.laws.proofs.Kit.{ℕ, _≤_, _≡_, sym, _∙_, ap, Bool, true, cond, List, [], length, le-ltb}
 use Rattle.laws.proofs.Cases.{on}
 use Rattle.laws.proofs.Firsts.{neither}
 use Rattle.wire.specs.Chain.{leaves}

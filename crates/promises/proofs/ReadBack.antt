@@ -1,12 +1,6 @@
 -- SPDX-License-Identifier: MPL-2.0
 -- Demand 2's messages: what the writer's answer and output say gives message's theorems their premises.
-use Prim.Native.Nat.{ℕ, _+_, _≤_}
-use mathlib.Core.Path.{_≡_, refl, _∙_}
-use mathlib.Core.List.{List}
-use mathlib.Core.Bool.{true, false}
-use lib.ListN.{length, drop}
-use lib.Seq.{take-at}
-use borrow.Author.Tests.{le-ltb}
+use Rattle.laws.proofs.Kit.{ℕ, _+_, _≤_, _≡_, refl, _∙_, true, false, List, length, drop, take-at, le-ltb}
 use Rattle.laws.proofs.Cases.{on}
 use Rattle.wire.specs.Fields.{isSealed}
 use Rattle.wire.specs.declared.header.Header.{Header}

@@ -1,12 +1,7 @@
 -- SPDX-License-Identifier: MPL-2.0
 -- The number of the reader's refusal, 0 where there is none: wire's of 1 to 9, then seal's where the message is sealed, then 14. What is
 -- read, and what the working buffer then holds, follow from it.
-use Prim.Native.Nat.{ℕ}
-use mathlib.Core.Path.{_≡_}
-use mathlib.Core.List.{List}
-use mathlib.Core.Bool.{cond}
-use lib.ListN.{length}
-use lib.Dec.{eqb}
+use Rattle.laws.proofs.Kit.{ℕ, _≡_, cond, List, length, eqb}
 use Rattle.laws.specs.Bytes.{be8, be32}
 use Rattle.laws.specs.Rows.{first, orElse}
 use Rattle.laws.proofs.Cases.{on}

@@ -1,11 +1,6 @@
 -- SPDX-License-Identifier: MPL-2.0
 -- What a repeat is compared with: a message that was answered with a reply is known to the connection since, and a known message gets Again.
-use Prim.Native.Nat.{ℕ, _≤_}
-use mathlib.Core.Path.{_≡_, refl, sym, _∙_}
-use mathlib.Core.List.{List}
-use mathlib.Core.Bool.{true, false}
-use native.Mathlib.Omega.{arith}
-use borrow.Author.Tests.{eqb-true, eq-eqb, ne-eqb, le-leb, not-false}
+use Rattle.laws.proofs.Kit.{ℕ, _≤_, _≡_, refl, sym, _∙_, true, false, List, eq-eqb, ne-eqb, eqb-true, le-leb, not-false, arith}
 use Rattle.laws.specs.Same.{same}
 use Rattle.laws.proofs.Sames.{same-refl}
 use Rattle.payloads.specs.Reading.{connectType, readRequest}

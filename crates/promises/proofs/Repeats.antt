@@ -1,8 +1,6 @@
 -- SPDX-License-Identifier: MPL-2.0
 -- Demand 2's conversation: the message of an enrolment step is known until a Failure, and is read again as it was.
-use Prim.Native.Nat.{ℕ}
-use mathlib.Core.Path.{_≡_, refl, ap, _∙_}
-use mathlib.Core.List.{List, [], _∷_}
+use Rattle.laws.proofs.Kit.{ℕ, _≡_, refl, _∙_, ap, List, [], _∷_}
 use Rattle.wire.specs.declared.header.Header.{Header}
 use Rattle.message.specs.Reading.{workingAfter}
 use Rattle.message.specs.Handed.{payload}

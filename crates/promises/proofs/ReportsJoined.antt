@@ -1,11 +1,6 @@
 -- SPDX-License-Identifier: MPL-2.0
 -- Demand 3: the step is the machine over which joining proved it for any number of pieces.
-use Prim.Native.Nat.{ℕ, _*_, _<_}
-use mathlib.Core.Path.{_≡_, refl, sym, ap, _∙_}
-use mathlib.Core.List.{List}
-use mathlib.Core.Bool.{false}
-use lib.ListN.{length, take}
-use borrow.Author.Tests.{lt-leb}
+use Rattle.laws.proofs.Kit.{ℕ, _*_, _<_, _≡_, refl, sym, _∙_, ap, false, List, length, take, lt-leb}
 use Rattle.laws.proofs.Courses.{end, goes}
 use Rattle.laws.specs.Parts.{part}
 use Rattle.joining.specs.Cut.{badSize, cutRefusal, cutCount}

@@ -1,9 +1,6 @@
 -- SPDX-License-Identifier: MPL-2.0
 -- What an enrolment step remembers is never overwritten until a step names Failure, which only a verdict of 0 makes it do.
-use Prim.Native.Nat.{ℕ, _≤_}
-use mathlib.Core.Path.{_≡_, refl}
-use mathlib.Core.List.{List}
-use native.Mathlib.Omega.{arith}
+use Rattle.laws.proofs.Kit.{ℕ, _≤_, _≡_, refl, List, arith}
 use Rattle.sha256.specs.Digests.{digest}
 use Rattle.joining.specs.declared.Progress.{Progress}
 use Rattle.hub.specs.declared.Connection.{Connection}

@@ -1,12 +1,6 @@
 -- SPDX-License-Identifier: MPL-2.0
 -- Demand 1 for the step: its table is that of 25 and 24, the reader's, and the host's.
-use Prim.Native.Nat.{ℕ}
-use mathlib.Core.Path.{_≡_, refl, sym, ap, _∙_}
-use mathlib.Core.List.{List, [], _∷_}
-use mathlib.Core.Bool.{Bool, true, false, cond, not, _&&_}
-use lib.ListN.{length}
-use lib.Dec.{eqb}
-use borrow.Author.Tests.{eqb-true, le-ltb, lt-leb}
+use Rattle.laws.proofs.Kit.{ℕ, _≡_, refl, sym, _∙_, ap, Bool, true, false, not, _&&_, cond, List, [], _∷_, length, eqb, eqb-true, le-ltb, lt-leb}
 use Rattle.laws.specs.Bytes.{AreBytes}
 use Rattle.laws.specs.Rows.{first, orElse}
 use Rattle.laws.proofs.Bools.{and-true}

@@ -1,14 +1,8 @@
 -- SPDX-License-Identifier: MPL-2.0
 -- The premises of demand 3 can be met: a Ready connection of fragment size 4, and a report of ten bytes that comes in five calls, its three
 -- fragments in another order, one of them twice, and something between.
-use Prim.Native.Nat.{ℕ, _≤_, _<_}
-use mathlib.Core.Path.{_≡_, refl}
-use mathlib.Core.List.{List, [], _∷_}
-use mathlib.Core.Bool.{Bool, true, false, _&&_}
-use native.Mathlib.Omega.{arith}
-use lib.ListN.{length, replicate}
-use lib.Dec.{ltb, eqb}
-use borrow.Author.Tests.{ltb-true, eq-eqb, eqb-false}
+use Rattle.laws.proofs.Kit.{ℕ, _≤_, _<_, _≡_, refl, Bool, true, false, _&&_, List, [], _∷_, length, replicate, eqb, ltb, eq-eqb, eqb-false, ltb-true}
+use Rattle.laws.proofs.Kit.{arith}
 use Rattle.laws.specs.Bytes.{AreBytes}
 use Rattle.laws.proofs.ByteLists.{nil-bytes, cons-bytes}
 use Rattle.laws.proofs.Bools.{and-true}

@@ -1,12 +1,6 @@
 -- SPDX-License-Identifier: MPL-2.0
 -- The working buffer's rule: it changes exactly where a sealed message got past 13.
-use Prim.Native.Nat.{ℕ}
-use mathlib.Core.Path.{_≡_, sym, ap, _∙_}
-use mathlib.Core.List.{List, _++_}
-use mathlib.Core.Bool.{Bool, cond}
-use lib.ListN.{length}
-use lib.Dec.{ltb}
-use borrow.Author.Tests.{ne-eqb}
+use Rattle.laws.proofs.Kit.{ℕ, _≡_, sym, _∙_, ap, Bool, cond, List, _++_, length, ltb, ne-eqb}
 use Rattle.laws.specs.Bytes.{AreBytes}
 use Rattle.laws.specs.Rows.{first}
 use Rattle.laws.proofs.Bools.{or-false}

@@ -1,13 +1,7 @@
 -- SPDX-License-Identifier: MPL-2.0
 -- What the writer does not refuse it writes; and every fragment of a report is of that kind.
-use Prim.Native.Nat.{ℕ, _+_, _*_, _≤_, _<_}
-use mathlib.Core.Path.{_≡_, refl, sym}
-use mathlib.Core.List.{List, [], _∷_}
-use mathlib.Core.Bool.{Bool, true, false, and-false}
-use native.Mathlib.Omega.{arith}
-use lib.ListN.{length, drop, replicate, length-replicate}
-use lib.Seq.{take-at}
-use borrow.Author.Tests.{ne-eqb, le-ltb, lt-leb}
+use Rattle.laws.proofs.Kit.{ℕ, _+_, _*_, _≤_, _<_, _≡_, refl, sym, Bool, true, false, and-false, List, [], _∷_, length, drop, replicate}
+use Rattle.laws.proofs.Kit.{length-replicate, take-at, ne-eqb, le-ltb, lt-leb, arith}
 use Rattle.wire.specs.Fields.{badType, badFlags, badPiece, isSealed, mostPieces}
 use Rattle.payloads.specs.Shapes.{badPayload}
 use Rattle.wire.specs.declared.header.Header.{Header}

@@ -1,15 +1,9 @@
 -- SPDX-License-Identifier: MPL-2.0
 -- What holds of a message whose sealed part was opened: its tag is right, its plain text is as the padding rule gives, and that plain text stands
 -- at the start of the working buffer.
-use Prim.Native.Nat.{ℕ, _+_, _≤_}
-use mathlib.Core.Path.{_≡_, refl, _∙_}
-use mathlib.Core.List.{List, _++_}
-use mathlib.Core.Bool.{true, false, not}
-use native.Mathlib.Omega.{arith}
-use lib.ListN.{length, take, drop, length-drop, length-append}
+use Rattle.laws.proofs.Kit.{ℕ, _+_, _≤_, _≡_, refl, _∙_, true, false, not, List, _++_, length, take, drop, length-append, length-drop, eqb, eqb-true}
+use Rattle.laws.proofs.Kit.{ltb-false, not-false, arith}
 use lib.Seq.{drop-append-le, take-append-le}
-use lib.Dec.{eqb}
-use borrow.Author.Tests.{ltb-false, eqb-true, not-false}
 use Rattle.laws.specs.Bytes.{be32}
 use Rattle.laws.specs.Rows.{testOf}
 use Rattle.laws.specs.Same.{same}

@@ -1,12 +1,6 @@
 -- SPDX-License-Identifier: MPL-2.0
 -- The end of a block against a run of one byte, from the block's end down: one byte more.
-use Prim.Native.Nat.{ℕ, suc, _-_, _≤_, _<_}
-use mathlib.Core.Path.{_≡_}
-use mathlib.Core.List.{List}
-use mathlib.Core.Bool.{Bool, not, true, false, _&&_, _||_}
-use native.Mathlib.Omega.{arith}
-use lib.Dec.{eqb}
-use lib.ListN.{length, getD, drop, replicate}
+use Rattle.laws.proofs.Kit.{ℕ, suc, _-_, _≤_, _<_, _≡_, Bool, true, false, not, _&&_, _||_, List, length, drop, getD, replicate, eqb, arith}
 use lib.Seq.{drop-cons}
 use Rattle.laws.specs.Same.{same}
 use Rattle.laws.proofs.Bools.{or-none, or-true}

@@ -1,11 +1,8 @@
 -- SPDX-License-Identifier: MPL-2.0
 -- What is written into the room of a sealed part: of sixteen padding bytes those stay that have room.
-use Prim.Native.Nat.{ℕ, _+_, _-_}
-use mathlib.Core.Path.{_≡_, sym, ap, _∙_}
-use mathlib.Core.List.{List, _++_, append-nil, append-assoc}
-use native.Mathlib.Omega.{arith}
-use lib.ListN.{length, replicate, replicate-append-replicate}
-use lib.Seq.{sets, take-at, drop-length}
+use Rattle.laws.proofs.Kit.{ℕ, _+_, _-_, _≡_, sym, _∙_, ap, List, _++_, append-nil, append-assoc, length, replicate, sets, take-at, drop-length}
+use Rattle.laws.proofs.Kit.{arith}
+use lib.ListN.{replicate-append-replicate}
 use Rattle.laws.proofs.Stores.{sets-start, sets-cut}
 use Rattle.laws.specs.Bytes.{bytes32}
 use Rattle.seal.specs.Padding.{padding, sealedSize, paddingBytes, plainText}

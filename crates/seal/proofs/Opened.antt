@@ -1,14 +1,7 @@
 -- SPDX-License-Identifier: MPL-2.0
 -- Opening: a sealed part by its first and its last block, what the rows before the tag leave, and the table as a whole.
-use Prim.Native.Nat.{ℕ, _-_, _*_, _/_, _%_, _≤_, _<_}
-use mathlib.Core.Path.{_≡_, refl, sym}
-use mathlib.Core.List.{List, _++_}
-use mathlib.Core.Bool.{Bool, false}
-use native.Mathlib.Omega.{arith}
-use lib.ListN.{length, take, drop, length-drop}
-use lib.Seq.{take-all}
-use lib.Dec.{leb}
-use borrow.Author.Tests.{ltb-false, leb-false, ne-eqb, eqb-true, not-false}
+use Rattle.laws.proofs.Kit.{ℕ, _-_, _*_, _/_, _%_, _≤_, _<_, _≡_, refl, sym, Bool, false, List, _++_, length, take, drop, length-drop, take-all, leb}
+use Rattle.laws.proofs.Kit.{ne-eqb, eqb-true, ltb-false, leb-false, not-false, arith}
 use Rattle.laws.proofs.Bools.{or-false}
 use Rattle.laws.specs.Rows.{first, testOf}
 use Rattle.laws.proofs.Firsts.{first-append, row-false}

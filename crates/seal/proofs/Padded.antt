@@ -1,15 +1,9 @@
 -- SPDX-License-Identifier: MPL-2.0
 -- Laws of the padding rule, for all who seal and open: a change of the rule is proved here and nowhere else.
-use Prim.Native.Nat.{ℕ, _+_, _-_, _%_, _≤_, _<_, _^_}
-use mathlib.Core.Path.{_≡_, refl}
-use mathlib.Core.List.{List, _++_}
-use mathlib.Core.Bool.{false}
-use native.Mathlib.Omega.{arith}
-use native.Mathlib.Nat.{div-add-mod'}
-use lib.Dec.{eqb}
-use lib.ListN.{length, getD, take, drop, length-append, length-replicate, List·getD-append}
-use lib.Seq.{drop-drop, getD-take, take-append-seam, drop-append-seam}
-use borrow.Author.Tests.{eq-eqb, eqb-true}
+use Rattle.laws.proofs.Kit.{ℕ, _+_, _-_, _%_, _^_, _≤_, _<_, _≡_, refl, false, List, _++_, length, take, drop, getD, length-append, length-replicate}
+use Rattle.laws.proofs.Kit.{drop-drop, getD-take, take-append-seam, eqb, eq-eqb, eqb-true, div-add-mod', arith}
+use lib.ListN.{List·getD-append}
+use lib.Seq.{drop-append-seam}
 use Rattle.laws.specs.Bytes.{be32}
 use Rattle.laws.proofs.Cases.{on}
 use Rattle.laws.proofs.Sames.{same-refl}

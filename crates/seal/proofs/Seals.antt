@@ -1,14 +1,8 @@
 -- SPDX-License-Identifier: MPL-2.0
 -- The way through `seal`: part and tag, one after the other, make the sealed message.
-use Prim.Native.Nat.{ℕ, _+_, _-_, _≤_, _<_}
-use mathlib.Core.Path.{_≡_, refl, sym, _∙_}
-use mathlib.Core.List.{List, _++_, append-assoc}
-use mathlib.Core.Bool.{false}
-use native.Mathlib.Omega.{arith}
+use Rattle.laws.proofs.Kit.{ℕ, _+_, _-_, _≤_, _<_, _≡_, refl, sym, _∙_, false, List, _++_, append-assoc, length, take, drop, length-append, sets}
+use Rattle.laws.proofs.Kit.{take-at, length-take-le, ne-eqb, eqb-true, le-ltb, ltb-false, not-false, arith}
 use borrow.Rule.Slice.PartMut.{putMid, post-is}
-use borrow.Author.Tests.{ne-eqb, le-ltb, ltb-false, eqb-true, not-false}
-use lib.ListN.{length, take, drop, length-append}
-use lib.Seq.{sets, length-take-le, take-at}
 use Rattle.laws.specs.Bytes.{bytesAt}
 use Rattle.laws.specs.Rows.{testOf}
 use Rattle.laws.proofs.Parts.{bytesAt-take}

@@ -1,12 +1,8 @@
 -- SPDX-License-Identifier: MPL-2.0
 -- Opening what was sealed gives it back: the tag is over the same bytes, the vector of the same header, and decryption undoes encryption.
-use Prim.Native.Nat.{ℕ, _+_, _-_, _/_, _%_, _≤_, _<_}
-use mathlib.Core.Path.{_≡_, _∙_}
-use mathlib.Core.List.{List, _++_, append-assoc}
-use native.Mathlib.Omega.{arith}
-use borrow.Author.Tests.{le-ltb, lt-leb}
-use lib.ListN.{length, take, drop, length-append, length-drop}
-use lib.Seq.{take-at, drop-at, take-append-seam, drop-append-seam, length-take-le}
+use Rattle.laws.proofs.Kit.{ℕ, _+_, _-_, _/_, _%_, _≤_, _<_, _≡_, _∙_, List, _++_, append-assoc, length, take, drop, length-append, length-drop}
+use Rattle.laws.proofs.Kit.{take-at, length-take-le, drop-at, take-append-seam, le-ltb, lt-leb, arith}
+use lib.Seq.{drop-append-seam}
 use Rattle.laws.specs.Bytes.{AreBytes}
 use Rattle.laws.proofs.Parts.{length-bytesAt}
 use Rattle.laws.proofs.Sames.{same-refl}

@@ -1,12 +1,6 @@
 -- SPDX-License-Identifier: MPL-2.0
 -- The digest of three parts, after `front`, which was hashed already.
-use mathlib.Core.Path.{_≡_}
-use mathlib.Core.Bool.{Bool, true, false}
-use mathlib.Core.List.{List, _++_, append-assoc}
-use Prim.Native.Nat.{ℕ, _+_, _^_}
-use native.Mathlib.Omega.{arith}
-use lib.Dec.{ltb}
-use lib.ListN.{length, replicate, length-append}
+use Rattle.laws.proofs.Kit.{ℕ, _+_, _^_, _≡_, Bool, true, false, List, _++_, append-assoc, length, replicate, length-append, ltb, arith}
 use Rattle.compression.specs.declared.Vars.{Vars}
 use Rattle.sha256.specs.Digests.{padding, H0, hashed, bytesOf, digest}
 

@@ -1,11 +1,6 @@
 -- SPDX-License-Identifier: MPL-2.0
 -- A block's words, the blocks of a message, and of a message after a block that was hashed already.
-use mathlib.Core.Path.{_≡_, ap, refl}
-use mathlib.Core.List.{List, [], _++_}
-use Prim.Native.Nat.{ℕ, zero, suc, _+_, _*_, _/_, _<_}
-use native.Mathlib.Numerals.{add-one}
-use native.Mathlib.Omega.{arith}
-use lib.ListN.{length, take, set, length-append}
+use Rattle.laws.proofs.Kit.{ℕ, zero, suc, _+_, _*_, _/_, _<_, _≡_, refl, ap, List, [], _++_, length, take, set, length-append, add-one, arith}
 use lib.Seq.{take-suc-set}
 use Rattle.laws.specs.Bytes.{be32, bytesAt}
 use Rattle.laws.proofs.Parts.{part-back}

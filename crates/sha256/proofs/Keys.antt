@@ -1,13 +1,9 @@
 -- SPDX-License-Identifier: MPL-2.0
 -- A key filled up to a block, and masked.
-use mathlib.Core.Path.{_≡_, refl}
-use mathlib.Core.List.{List, [], _∷_, _++_}
-use Prim.Native.Nat.{ℕ, _+_, _-_, _<_, _≤_}
-use native.Mathlib.Omega.{arith}
-use native.Mathlib.Numerals.{add-one}
-use lib.Bits.{bitXor}
-use lib.ListN.{getD, length, take, drop, set, replicate, length-replicate, replicate-append-replicate}
-use lib.Seq.{drop-at, take-length, take-suc, take-suc-set}
+use Rattle.laws.proofs.Kit.{ℕ, _+_, _-_, _≤_, _<_, _≡_, refl, List, [], _∷_, _++_, length, take, drop, getD, set, replicate, length-replicate}
+use Rattle.laws.proofs.Kit.{take-length, take-suc, drop-at, add-one, bitXor, arith}
+use lib.ListN.{replicate-append-replicate}
+use lib.Seq.{take-suc-set}
 use Rattle.sha256.specs.Macs.{filled, masked}
 
 -- zeros in two runs

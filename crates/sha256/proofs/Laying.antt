@@ -1,13 +1,8 @@
 -- SPDX-License-Identifier: MPL-2.0
 -- A block's bytes: where they stand in one part of the message, and as they are laid out of its parts.
-use mathlib.Core.Path.{_≡_, _∙_, sym, ap, refl}
-use mathlib.Core.Logic.{⊎-elim}
-use mathlib.Core.List.{List, [], _∷_, _++_}
-use Prim.Native.Nat.{ℕ, zero, suc, _+_, _-_, _<_, _≤_}
-use native.Mathlib.Numerals.{add-one}
-use native.Mathlib.Omega.{arith}
-use lib.ListN.{getD, length, take, drop, set, replicate, length-append, length-take, List·getD-eq-default}
-use lib.Seq.{getD-at, getD-append-add, getD-take, set-append-left, set-at, take-at, take-take, take-suc, length-take-le}
+use Rattle.laws.proofs.Kit.{ℕ, zero, suc, _+_, _-_, _≤_, _<_, _≡_, refl, sym, _∙_, ap, List, [], _∷_, _++_, length, take, drop, getD, set, replicate}
+use Rattle.laws.proofs.Kit.{length-append, length-take, List·getD-eq-default, take-at, take-suc, length-take-le, getD-take, add-one, ⊎-elim, arith}
+use lib.Seq.{getD-at, getD-append-add, set-append-left, set-at, take-take}
 use Rattle.laws.specs.Bytes.{bytesAt}
 use Rattle.laws.proofs.Order.{lt-or-ge}
 use Rattle.laws.proofs.Parts.{length-bytesAt, bytesAt-part, bytesAt-take}

@@ -1,11 +1,7 @@
 -- SPDX-License-Identifier: MPL-2.0
 -- A digest and an HMAC have thirty-two bytes.
-use Prim.Native.Nat.{ℕ, _^_}
-use mathlib.Core.Path.{_≡_}
-use mathlib.Core.List.{List}
-use lib.Dec.{ltb}
+use Rattle.laws.proofs.Kit.{ℕ, _^_, _≡_, List, length, ltb}
 use Rattle.laws.proofs.Cases.{on}
-use lib.ListN.{length}
 use Rattle.sha256.specs.Digests.{bytesOf, digest}
 use Rattle.sha256.specs.Macs.{hmac}
 

@@ -1,6 +1,6 @@
 -- SPDX-License-Identifier: MPL-2.0
 -- The worked examples, by computing.
-use mathlib.Core.Path.{refl}
+use Rattle.laws.proofs.Kit.{refl}
 use Rattle.laws.specs.Bytes.{bytesAt}
 use Rattle.compression.specs.Words.{plus, complement, SHR, ROTR, Ch, Maj, Σ0, Σ1, σ0, σ1}
 use Rattle.compression.specs.Constants.{K256}

@@ -1,11 +1,8 @@
 -- SPDX-License-Identifier: MPL-2.0
 -- A padding, made by stores.
-use mathlib.Core.Path.{_≡_}
-use mathlib.Core.List.{List, _∷_, _++_}
-use Prim.Native.Nat.{ℕ, _+_, _-_, _<_, _≤_}
-use native.Mathlib.Omega.{arith}
-use lib.ListN.{length, take, set, replicate, length-append, length-replicate}
-use lib.Seq.{sets, sets-eq, take-at}
+use Rattle.laws.proofs.Kit.{ℕ, _+_, _-_, _≤_, _<_, _≡_, List, _∷_, _++_, length, take, set, replicate, length-append, length-replicate, sets, take-at}
+use Rattle.laws.proofs.Kit.{arith}
+use lib.Seq.{sets-eq}
 use Rattle.sha256.proofs.Keys.{zeros-split}
 
 -- a first byte, zeros, and a run of stores after them

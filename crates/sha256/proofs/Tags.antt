@@ -1,16 +1,8 @@
 -- SPDX-License-Identifier: MPL-2.0
 -- Differences or-ed together are 0 exactly where there are none.
-use mathlib.Core.Path.{_≡_, _∙_, sym}
-use mathlib.Core.Bool.{_&&_}
-use mathlib.Core.List.{List}
-use Prim.Native.Nat.{ℕ, _+_, _<_}
-use native.Mathlib.Numerals.{add-one}
-use native.Mathlib.Omega.{arith}
-use lib.Dec.{eqb}
-use lib.Bits.{bitOr, bitXor, or-zero-l, xor-self}
-use lib.ListN.{getD, length, take}
-use lib.Seq.{take-suc, length-take-le}
-use borrow.Author.Tests.{eq-eqb, ne-eqb, eqb-true, eqb-false}
+use Rattle.laws.proofs.Kit.{ℕ, _+_, _<_, _≡_, sym, _∙_, _&&_, List, length, take, getD, take-suc, length-take-le, eqb, eq-eqb, ne-eqb, eqb-true}
+use Rattle.laws.proofs.Kit.{eqb-false, add-one, bitXor, arith}
+use lib.Bits.{bitOr, or-zero-l, xor-self}
 use Rattle.laws.specs.Same.{same}
 use Rattle.laws.proofs.Cases.{on}
 use Rattle.laws.proofs.Sames.{same-snoc}

@@ -1,13 +1,8 @@
 -- SPDX-License-Identifier: MPL-2.0
 -- Eight indexes and their byte, both ways.
-use Prim.Native.Nat.{ℕ, zero, suc, _+_, _*_, _/_, _%_, _^_, _<_}
-use mathlib.Core.Path.{_≡_, refl, ap, _∙_}
-use mathlib.Core.List.{List, [], _∷_}
-use mathlib.Core.Bool.{Bool, true, false}
-use native.Mathlib.Omega.{arith}
+use Rattle.laws.proofs.Kit.{ℕ, zero, suc, _+_, _*_, _/_, _%_, _^_, _<_, _≡_, refl, _∙_, ap, Bool, true, false, List, [], _∷_, length, getD, eqb}
+use Rattle.laws.proofs.Kit.{arith}
 use native.Mathlib.Nat.{zero-div, div-one, pow-succ', div-div-eq-div-mul}
-use lib.Dec.{eqb}
-use lib.ListN.{length, getD}
 use Rattle.joining.specs.Heard.{bit, has}
 use Rattle.joining.proofs.HeardLaws.{bit-le}
 use Rattle.state.specs.State.{listed, value, eight}

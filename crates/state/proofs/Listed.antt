@@ -1,13 +1,9 @@
 -- SPDX-License-Identifier: MPL-2.0
 -- The first values of a function as a list: its elements, and the loops that fill an array and a buffer with it.
-use Prim.Native.Nat.{ℕ, zero, suc, _+_, _≤_, _<_}
-use mathlib.Core.Path.{_≡_, refl, sym, ap, _∙_}
-use mathlib.Core.Logic.{⊎-elim}
-use mathlib.Core.List.{List, [], _∷_, _++_, append-assoc, append-nil}
-use native.Mathlib.Omega.{arith}
-use native.Mathlib.Numerals.{add-one}
-use lib.ListN.{length, getD, set, drop, length-append, List·getD-append}
-use lib.Seq.{sets, drop-cons, drop-length, set-at, getD-at}
+use Rattle.laws.proofs.Kit.{ℕ, zero, suc, _+_, _≤_, _<_, _≡_, refl, sym, _∙_, ap, List, [], _∷_, _++_, append-nil, append-assoc, length, drop, getD}
+use Rattle.laws.proofs.Kit.{set, length-append, sets, drop-length, add-one, ⊎-elim, arith}
+use lib.ListN.{List·getD-append}
+use lib.Seq.{drop-cons, set-at, getD-at}
 use Rattle.laws.specs.Bytes.{be8, bytesAt}
 use Rattle.laws.proofs.Order.{lt-or-ge}
 use Rattle.laws.proofs.Stores.{sets-start, stored-twice}

@@ -1,11 +1,8 @@
 -- SPDX-License-Identifier: MPL-2.0
 -- Parts one after the other: as they are stored, and as they stand in a list, each at its place.
-use Prim.Native.Nat.{ℕ, zero, suc, _+_, _-_, _≤_}
-use mathlib.Core.Path.{_≡_, refl, sym, _∙_}
-use mathlib.Core.List.{List, [], _∷_, _++_, append-assoc, append-nil}
-use native.Mathlib.Nat.{add-zero, add-suc, add-assoc}
-use lib.ListN.{length, take, drop, length-append}
-use lib.Seq.{sets}
+use Rattle.laws.proofs.Kit.{ℕ, zero, suc, _+_, _-_, _≤_, _≡_, refl, sym, _∙_, List, [], _∷_, _++_, append-nil, append-assoc, length, take, drop}
+use Rattle.laws.proofs.Kit.{length-append, sets, add-zero}
+use native.Mathlib.Nat.{add-suc, add-assoc}
 use Rattle.laws.specs.Bytes.{bytesAt}
 use Rattle.laws.proofs.Lists.{copied-part}
 use Rattle.laws.proofs.Parts.{part-back, bytesAt-part}

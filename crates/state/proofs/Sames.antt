@@ -1,6 +1,6 @@
 -- SPDX-License-Identifier: MPL-2.0
 -- Two records are the same whose fields are.
-use mathlib.Core.Path.{_≡_}
+use Rattle.laws.proofs.Kit.{_≡_}
 use Rattle.joining.specs.declared.Progress.{Progress}
 use Rattle.hub.specs.declared.Connection.{Connection}
 

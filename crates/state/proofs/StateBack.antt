@@ -1,12 +1,7 @@
 -- SPDX-License-Identifier: MPL-2.0
 -- The connection that a state was made of is read back from it: the parts stand one after the other, each at its place.
-use Prim.Native.Nat.{ℕ, _+_, _*_, _/_, _%_, _<_}
-use mathlib.Core.Path.{_≡_, refl, sym, ap, _∙_}
-use mathlib.Core.List.{List, [], _∷_, append-nil}
-use mathlib.Core.Bool.{Bool, false}
-use native.Mathlib.Omega.{arith}
-use native.Mathlib.Nat.{div-add-mod'}
-use lib.ListN.{length, getD, length-append}
+use Rattle.laws.proofs.Kit.{ℕ, _+_, _*_, _/_, _%_, _<_, _≡_, refl, sym, _∙_, ap, Bool, false, List, [], _∷_, append-nil, length, getD, length-append}
+use Rattle.laws.proofs.Kit.{div-add-mod', arith}
 use lib.Seq.{ext-getD}
 use Rattle.laws.specs.Bytes.{be8, be16, be32, be64, bytesAt, bytes16, bytes32, bytes64}
 use Rattle.wire.specs.Fields.{mostPieces}

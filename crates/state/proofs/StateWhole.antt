@@ -1,14 +1,8 @@
 -- SPDX-License-Identifier: MPL-2.0
 -- The state of the connection that bytes are read as is those bytes.
-use Prim.Native.Nat.{ℕ, _+_, _*_, _/_, _%_, _^_, _≤_, _<_}
-use mathlib.Core.Path.{_≡_, refl, sym, ap, ap₂, _∙_}
-use mathlib.Core.List.{List, [], _∷_, _++_}
-use mathlib.Core.Bool.{false}
-use native.Mathlib.Omega.{arith}
-use native.Mathlib.Nat.{add-zero, mul-add-div-right, div-eq-of-lt, mul-add-mod-self-right, mod-eq-of-lt}
-use lib.Dec.{eqb}
-use lib.ListN.{length}
-use lib.Seq.{take-length}
+use Rattle.laws.proofs.Kit.{ℕ, _+_, _*_, _/_, _%_, _^_, _≤_, _<_, _≡_, refl, sym, _∙_, ap, ap₂, false, List, [], _∷_, _++_, length, take-length, eqb}
+use Rattle.laws.proofs.Kit.{add-zero, arith}
+use native.Mathlib.Nat.{mul-add-div-right, div-eq-of-lt, mul-add-mod-self-right, mod-eq-of-lt}
 use Rattle.laws.specs.Bytes.{be8, be16, be32, be64, bytesAt, bytes16, bytes32, bytes64}
 use Rattle.laws.proofs.Numbers.{be16-below, be32-below}
 use Rattle.laws.proofs.Parts.{bytesAt-part}

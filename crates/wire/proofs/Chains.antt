@@ -1,18 +1,12 @@
 -- SPDX-License-Identifier: MPL-2.0
 -- Laws of `chain`, each for one case of the entry at its start.
-use Prim.Native.Nat.{ℕ, zero, suc, _+_, _-_, _≤_, _<_}
-use mathlib.Core.Path.{_≡_, refl, sym, _∙_}
-use mathlib.Core.List.{List}
-use mathlib.Core.Bool.{false, not, true≢false}
-use borrow.Author.Tests.{ltb-false}
-use lib.Dec.{ltb, eqb}
+use Rattle.laws.proofs.Kit.{ℕ, zero, suc, _+_, _-_, _≤_, _<_, _≡_, refl, sym, _∙_, false, true≢false, not, List, length, take, drop, length-take}
+use Rattle.laws.proofs.Kit.{length-drop, eqb, ltb, ltb-false, arith}
 use Rattle.laws.specs.Bytes.{be8}
 use Rattle.laws.proofs.Lists.{part-from, part-shorter}
 use Rattle.laws.proofs.Cases.{on}
 use Rattle.laws.proofs.Bools.{or-false}
-use native.Mathlib.Omega.{arith}
 use native.Mathlib.Numerals.{sub-one}
-use lib.ListN.{length, take, drop, length-drop, length-take}
 use Rattle.wire.specs.Chain.{entryOf, follow, chain, readChain, mostEntries, leaves, isBroken, badChain}
 use Rattle.wire.specs.Reader.{roomOf}
 use Rattle.wire.specs.declared.chain.Chain.{Chain}

@@ -1,6 +1,6 @@
 -- SPDX-License-Identifier: MPL-2.0
 -- The numbered examples of the reader of headers, computed.
-use mathlib.Core.Path.{_≡_, refl}
+use Rattle.laws.proofs.Kit.{_≡_, refl}
 use mathlib.Core.List.{map}
 use Rattle.wire.specs.Examples.{p1, headerExamples}
 use Rattle.wire.specs.Chain.{entryOf, chain, mostEntries, readChain}

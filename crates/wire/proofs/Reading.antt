@@ -1,10 +1,6 @@
 -- SPDX-License-Identifier: MPL-2.0
 -- Laws of `readHeader`, by the number of the first refusal, and of headers.
-use Prim.Native.Nat.{ℕ, _-_}
-use mathlib.Core.Path.{_≡_}
-use mathlib.Core.List.{List}
-use borrow.Author.Tests.{eq-eqb, ne-eqb}
-use lib.ListN.{length}
+use Rattle.laws.proofs.Kit.{ℕ, _-_, _≡_, List, length, eq-eqb, ne-eqb}
 use Rattle.laws.specs.Bytes.{be16}
 use Rattle.wire.specs.Fields.{tagSize}
 use Rattle.wire.specs.Chain.{leaves}

@@ -1,15 +1,9 @@
 -- SPDX-License-Identifier: MPL-2.0
 -- What an accepted message is, for callers of `read_header`.
-use Prim.Native.Nat.{ℕ, _+_, _-_, _/_, _%_, _≤_, _<_}
-use mathlib.Core.Path.{_≡_, refl, sym, _∙_}
-use mathlib.Core.Logic.{_⊎_, inl, inr}
-use mathlib.Core.List.{List}
-use mathlib.Core.Bool.{true, false, not, _&&_, _||_, true≢false}
-use native.Mathlib.Omega.{arith}
-use native.Mathlib.Nat.{mod-lt, zero-lt-suc}
-use borrow.Author.Tests.{ltb-false, leb-false, eqb-true, eqb-false, not-false, eq-eqb}
-use lib.ListN.{length}
-use lib.Dec.{ltb, leb, eqb}
+use Rattle.laws.proofs.Kit.{ℕ, _+_, _-_, _/_, _%_, _≤_, _<_, _≡_, refl, sym, _∙_, true, false, true≢false, not, _&&_, _||_, List, length, eqb, ltb}
+use Rattle.laws.proofs.Kit.{leb, eq-eqb, eqb-true, eqb-false, ltb-false, leb-false, not-false, mod-lt, inl, inr, arith}
+use mathlib.Core.Logic.{_⊎_}
+use native.Mathlib.Nat.{zero-lt-suc}
 use Rattle.laws.specs.Bytes.{be8, be16}
 use Rattle.laws.specs.Rows.{testOf}
 use Rattle.laws.proofs.Firsts.{row-false}

@@ -1,14 +1,7 @@
 -- SPDX-License-Identifier: MPL-2.0
 -- A chain is the same whatever stands after it, so one that the writer accepts is read back.
-use Prim.Native.Nat.{ℕ, zero, suc, _+_, _-_}
-use mathlib.Core.Path.{_≡_, refl, ap}
-use mathlib.Core.List.{List, [], _∷_, _++_}
-use mathlib.Core.Bool.{false, not, true≢false}
-use borrow.Author.Tests.{ltb-false, le-ltb, eqb-true, not-false}
-use lib.Dec.{ltb, eqb}
-use native.Mathlib.Omega.{arith}
-use native.Mathlib.Nat.{zero-add}
-use lib.ListN.{length, drop, length-append}
+use Rattle.laws.proofs.Kit.{ℕ, zero, suc, _+_, _-_, _≡_, refl, ap, false, true≢false, not, List, [], _∷_, _++_, length, drop, length-append, eqb, ltb}
+use Rattle.laws.proofs.Kit.{eqb-true, le-ltb, ltb-false, not-false, zero-add, arith}
 use lib.Seq.{drop-append-le}
 use Rattle.laws.proofs.Bools.{or-false}
 use Rattle.laws.proofs.Cases.{on}

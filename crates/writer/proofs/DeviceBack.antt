@@ -1,15 +1,7 @@
 -- SPDX-License-Identifier: MPL-2.0
 -- A Device Authentication payload has its shape, and the certificate is read back from its place.
-use Prim.Native.Nat.{ℕ, _+_}
-use mathlib.Core.Path.{_≡_}
-use mathlib.Core.List.{List, [], _∷_, _++_, append-assoc}
-use mathlib.Core.Bool.{true, false, true≢false}
-use native.Mathlib.Omega.{arith}
-use native.Mathlib.Nat.{div-add-mod'}
-use borrow.Author.Tests.{le-leb, le-ltb, eq-eqb, eqb-true}
-use lib.ListN.{length, take, drop}
-use lib.Seq.{take-append-seam}
-use lib.Dec.{eqb}
+use Rattle.laws.proofs.Kit.{ℕ, _+_, _≡_, true, false, true≢false, List, [], _∷_, _++_, append-assoc, length, take, drop, take-append-seam, eqb}
+use Rattle.laws.proofs.Kit.{eq-eqb, eqb-true, le-ltb, le-leb, div-add-mod', arith}
 use Rattle.laws.specs.Bytes.{be16, bytes16}
 use Rattle.laws.proofs.Bools.{or-true}
 use Rattle.laws.proofs.Cases.{on}

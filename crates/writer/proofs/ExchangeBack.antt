@@ -1,14 +1,6 @@
 -- SPDX-License-Identifier: MPL-2.0
 -- A payload that carries nonce, X and Y has its shape, and they are read back.
-use Prim.Native.Nat.{ℕ, _+_, _≤_}
-use mathlib.Core.Path.{_≡_, refl, subst}
-use mathlib.Core.List.{List, [], _∷_, _++_}
-use mathlib.Core.Bool.{true, false}
-use native.Mathlib.Omega.{arith}
-use borrow.Author.Tests.{le-leb, eqb-true}
-use lib.ListN.{length}
-use lib.Seq.{take-all}
-use lib.Dec.{eqb}
+use Rattle.laws.proofs.Kit.{ℕ, _+_, _≤_, _≡_, refl, subst, true, false, List, [], _∷_, _++_, length, take-all, eqb, eqb-true, le-leb, arith}
 use Rattle.laws.specs.Bytes.{bytesAt}
 use Rattle.laws.proofs.Bools.{or-true}
 use Rattle.laws.proofs.Cases.{on}

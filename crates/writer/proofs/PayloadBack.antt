@@ -1,11 +1,6 @@
 -- SPDX-License-Identifier: MPL-2.0
 -- What the payload writers write has its shape: the payloads that carry no more than a number.
-use Prim.Native.Nat.{ℕ, _≤_}
-use mathlib.Core.Path.{_≡_, refl}
-use mathlib.Core.List.{List, [], _∷_, _++_}
-use mathlib.Core.Bool.{true, false}
-use native.Mathlib.Nat.{div-add-mod'}
-use borrow.Author.Tests.{le-leb, eq-eqb}
+use Rattle.laws.proofs.Kit.{ℕ, _≤_, _≡_, refl, true, false, List, [], _∷_, _++_, eq-eqb, le-leb, div-add-mod'}
 use Rattle.laws.specs.Bytes.{bytes16}
 use Rattle.laws.proofs.Bools.{or-true}
 use Rattle.payloads.specs.Shapes.{starts, isPresenceRequest, isDoneRequest, isDoneResponse, isShaped, badPayload}

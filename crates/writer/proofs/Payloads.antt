@@ -1,13 +1,6 @@
 -- SPDX-License-Identifier: MPL-2.0
 -- The length of a Device Authentication payload, and what its tests make sure of.
-use Prim.Native.Nat.{ℕ, _+_, _≤_}
-use mathlib.Core.Path.{_≡_}
-use mathlib.Core.List.{List}
-use mathlib.Core.Bool.{Bool, false, not, _&&_, _||_}
-use native.Mathlib.Omega.{arith}
-use borrow.Author.Tests.{ltb-false, eqb-false}
-use lib.ListN.{length, length-append}
-use lib.Dec.{ltb, eqb}
+use Rattle.laws.proofs.Kit.{ℕ, _+_, _≤_, _≡_, Bool, false, not, _&&_, _||_, List, length, length-append, eqb, ltb, eqb-false, ltb-false, arith}
 use Rattle.laws.proofs.Bools.{or-false, or4-false}
 use Rattle.writer.specs.Payload.{badMode, badDevice, deviceAuthentication}
 

@@ -1,16 +1,8 @@
 -- SPDX-License-Identifier: MPL-2.0
 -- What is written reads back: `readHeader` gives back every header that the writer accepts, with the place and the length of what stands
 -- between its chain and its tag.
-use Prim.Native.Nat.{ℕ, _+_, _-_, _%_, _≤_}
-use mathlib.Core.Path.{_≡_, refl, sym, ap, _∙_}
-use mathlib.Core.List.{List, _++_, append-assoc}
-use mathlib.Core.Bool.{true, false, not, _&&_, _||_}
-use native.Mathlib.Omega.{arith}
-use native.Mathlib.Nat.{div-add-mod'}
-use borrow.Author.Tests.{le-ltb, eq-eqb, ne-eqb}
-use lib.ListN.{length, length-append}
-use lib.Seq.{take-append-seam}
-use lib.Dec.{eqb}
+use Rattle.laws.proofs.Kit.{ℕ, _+_, _-_, _%_, _≤_, _≡_, refl, sym, _∙_, ap, true, false, not, _&&_, _||_, List, _++_, append-assoc, length}
+use Rattle.laws.proofs.Kit.{length-append, take-append-seam, eqb, eq-eqb, ne-eqb, le-ltb, div-add-mod', arith}
 use Rattle.laws.specs.Bytes.{be16}
 use Rattle.laws.specs.Rows.{first}
 use Rattle.laws.proofs.Cases.{on}

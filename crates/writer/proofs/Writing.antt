@@ -1,13 +1,7 @@
 -- SPDX-License-Identifier: MPL-2.0
 -- Laws of `written` and `output`: by the refusal, and for a writer whose stores make one run from the start of its output.
-use Prim.Native.Nat.{ℕ, _≤_, _<_}
-use mathlib.Core.Path.{_≡_, refl, sym, _∙_}
-use mathlib.Core.List.{List, [], _∷_}
-use mathlib.Core.Bool.{Bool, true, false}
-use borrow.Author.Tests.{eq-eqb, ne-eqb, ltb-false, lt-ltb, le-ltb}
-use lib.ListN.{length}
-use lib.Seq.{sets}
-use lib.Dec.{ltb}
+use Rattle.laws.proofs.Kit.{ℕ, _≤_, _<_, _≡_, refl, sym, _∙_, Bool, true, false, List, [], _∷_, length, sets, ltb, eq-eqb, ne-eqb, lt-ltb, le-ltb}
+use Rattle.laws.proofs.Kit.{ltb-false}
 use Rattle.laws.proofs.Firsts.{first-quiet}
 use Rattle.laws.proofs.Stores.{sets-start}
 use Rattle.wire.specs.Refusals.{wrongPayload, noRoom}

@@ -1,6 +1,6 @@
 -- SPDX-License-Identifier: MPL-2.0
 -- The rounds and the sum are the definition's.
-use borrow.Author.Needs.{needs}
+use Rattle.laws.proofs.Kit.{needs}
 use Rattle.compression.specs.Compression.{compress}
 use Rattle.compression.proofs.compress.Statement.{statement}
 use Rattle.compression.proofs.compress.Tie as tie

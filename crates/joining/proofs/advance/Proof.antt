@@ -1,8 +1,6 @@
 -- SPDX-License-Identifier: MPL-2.0
 -- The set has the new index; the length is that of the pieces before the last and of the last.
-use Prim.Native.Nat.{_*_, _-_, _≤_}
-use native.Mathlib.Omega.{arith}
-use borrow.Author.Needs.{needs}
+use Rattle.laws.proofs.Kit.{_-_, _*_, _≤_, arith, needs}
 use Rattle.joining.specs.Heard.{most}
 use Rattle.wire.specs.Fields.{mostPieces}
 use Rattle.joining.proofs.Cuts.{place-bound}

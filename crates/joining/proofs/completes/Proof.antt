@@ -1,9 +1,6 @@
 -- SPDX-License-Identifier: MPL-2.0
 -- A set of fewer than `count` has not all indexes under it.
-use mathlib.Core.Path.{_≡_, sym}
-use native.Mathlib.Omega.{arith}
-use borrow.Author.Needs.{needs}
-use borrow.Author.Tests.{ne-eqb}
+use Rattle.laws.proofs.Kit.{_≡_, sym, ne-eqb, arith, needs}
 use Rattle.joining.specs.Heard.{come}
 use Rattle.joining.proofs.HeardLaws.{come-tally}
 use Rattle.joining.proofs.completes.Statement.{statement}

@@ -1,9 +1,7 @@
 -- SPDX-License-Identifier: MPL-2.0
 -- A piece that was heard must be as long as the one taken and have its bytes.
-use mathlib.Core.Bool.{Bool}
-use native.Mathlib.Nat.{add-sub-cancel-left}
-use borrow.Author.Tests.{eq-eqb, ne-eqb, not-true, not-false}
-use borrow.Author.Needs.{needs}
+use Rattle.laws.proofs.Kit.{Bool, eq-eqb, ne-eqb, not-false, add-sub-cancel-left, needs}
+use borrow.Author.Tests.{not-true}
 use Rattle.joining.specs.Heard.{has}
 use Rattle.wire.specs.Fields.{mostPieces}
 use Rattle.joining.proofs.conflict.Statement.{statement}

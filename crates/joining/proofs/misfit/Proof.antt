@@ -1,6 +1,6 @@
 -- SPDX-License-Identifier: MPL-2.0
 -- By whether the piece is the last.
-use borrow.Author.Needs.{needs}
+use Rattle.laws.proofs.Kit.{needs}
 use Rattle.laws.proofs.Tests.{tests}
 use Rattle.joining.proofs.misfit.Statement.{statement}
 use Rattle.joining.proofs.misfit.Tie as tie

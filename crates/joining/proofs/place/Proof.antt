@@ -1,9 +1,6 @@
 -- SPDX-License-Identifier: MPL-2.0
 -- The rows from the top are the table. F × i stays small.
-use Prim.Native.Nat.{_*_, _≤_}
-use mathlib.Core.Path.{refl}
-use native.Mathlib.Omega.{arith}
-use borrow.Author.Needs.{needs}
+use Rattle.laws.proofs.Kit.{_*_, _≤_, refl, arith, needs}
 use Rattle.laws.proofs.Nexts.{down-first}
 use Rattle.wire.specs.Fields.{mostPieces}
 use Rattle.joining.specs.Heard.{most}

@@ -1,12 +1,6 @@
 -- SPDX-License-Identifier: MPL-2.0
 -- Three tables one after the other. What the first leaves is required by the second, and what the two leave by the third.
-use Prim.Native.Nat.{ℕ}
-use mathlib.Core.Bool.{Bool}
-use mathlib.Core.List.{List, _++_}
-use mathlib.Core.Path.{_≡_, refl, sym, _∙_}
-use lib.ListN.{length}
-use borrow.Author.Needs.{needs}
-use borrow.Author.Tests.{ltb-false}
+use Rattle.laws.proofs.Kit.{ℕ, _≡_, refl, sym, _∙_, Bool, List, _++_, length, ltb-false, needs}
 use Rattle.laws.specs.Rows.{first}
 use Rattle.laws.proofs.Firsts.{row-false}
 use Rattle.laws.proofs.Nexts.{above, onward, below}

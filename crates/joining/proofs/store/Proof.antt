@@ -1,7 +1,6 @@
 -- SPDX-License-Identifier: MPL-2.0
 -- The part that was lent comes back with the piece over its first bytes.
-use native.Mathlib.Omega.{arith}
-use borrow.Author.Needs.{needs}
+use Rattle.laws.proofs.Kit.{arith, needs}
 use Rattle.laws.proofs.Lent.{lent-copy}
 use Rattle.joining.proofs.store.Statement.{statement}
 use Rattle.joining.proofs.store.Tie as tie

@@ -1,10 +1,6 @@
 -- SPDX-License-Identifier: MPL-2.0
 -- The heard set is looked at only where count or channel differs: else there is nothing to find.
-use mathlib.Core.Path.{_≡_, refl}
-use mathlib.Core.Bool.{Bool, true, false, not, _&&_, _||_, and-false}
-use native.Mathlib.Omega.{arith}
-use lib.Seq.{take-all}
-use borrow.Author.Needs.{needs}
+use Rattle.laws.proofs.Kit.{_≡_, refl, Bool, true, false, not, _&&_, _||_, and-false, take-all, arith, needs}
 use Rattle.laws.proofs.Bools.{and-one}
 use Rattle.wire.specs.Fields.{mostPieces}
 use Rattle.joining.specs.Heard.{most}

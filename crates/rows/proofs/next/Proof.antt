@@ -1,6 +1,6 @@
 -- SPDX-License-Identifier: MPL-2.0
 -- By its two tests.
-use borrow.Author.Tests.{eq-eqb, ne-eqb}
+use Rattle.laws.proofs.Kit.{eq-eqb, ne-eqb}
 use Rattle.laws.specs.Rows.{after}
 use Rattle.rows.proofs.next.Statement.{statement}
 use Rattle.rows.proofs.next.Tie as tie

@@ -1,6 +1,6 @@
 -- SPDX-License-Identifier: MPL-2.0
 -- The two digests are those of the definition.
-use borrow.Author.Needs.{needs}
+use Rattle.laws.proofs.Kit.{needs}
 use Rattle.sha256.specs.Macs.{hmac}
 use Rattle.sha256.proofs.hmac_parts.Statement.{statement}
 use Rattle.sha256.proofs.hmac_parts.Tie as tie

@@ -1,6 +1,6 @@
 -- SPDX-License-Identifier: MPL-2.0
 -- The masked block stands in front of the message.
-use borrow.Author.Needs.{needs}
+use Rattle.laws.proofs.Kit.{needs}
 use Rattle.sha256.proofs.inner_digest.Statement.{statement}
 use Rattle.sha256.proofs.inner_digest.Tie as tie
 

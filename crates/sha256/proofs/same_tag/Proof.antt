@@ -1,8 +1,6 @@
 -- SPDX-License-Identifier: MPL-2.0
 -- Tags of different lengths are not the same.
-use mathlib.Core.Path.{sym}
-use native.Mathlib.Omega.{arith}
-use borrow.Author.Needs.{needs}
+use Rattle.laws.proofs.Kit.{sym, arith, needs}
 use Rattle.laws.proofs.Sames.{same-length}
 use Rattle.sha256.proofs.same_tag.Statement.{statement}
 use Rattle.sha256.proofs.same_tag.Tie as tie

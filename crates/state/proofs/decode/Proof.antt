@@ -1,6 +1,6 @@
 -- SPDX-License-Identifier: MPL-2.0
 -- Each part is what its load answers.
-use borrow.Author.Needs.{needs}
+use Rattle.laws.proofs.Kit.{needs}
 use Rattle.state.specs.State.{connectionAt}
 use Rattle.state.proofs.Sames.{same-connection}
 use Rattle.state.proofs.decode.Statement.{statement}

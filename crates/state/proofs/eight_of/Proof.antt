@@ -1,8 +1,6 @@
 -- SPDX-License-Identifier: MPL-2.0
 -- Each bit by its value.
-use native.Mathlib.Omega.{arith}
-use native.Mathlib.Nat.{add-zero}
-use borrow.Author.Needs.{needs}
+use Rattle.laws.proofs.Kit.{add-zero, arith, needs}
 use Rattle.wire.specs.Fields.{mostPieces}
 use Rattle.state.specs.State.{listed}
 use Rattle.state.proofs.eight_of.Statement.{statement}

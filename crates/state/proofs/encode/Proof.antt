@@ -1,7 +1,7 @@
 -- SPDX-License-Identifier: MPL-2.0
 -- The array is laid over its whole length.
 use Rattle.wire.specs.Fields.{mostPieces}
-use borrow.Author.Needs.{needs}
+use Rattle.laws.proofs.Kit.{needs}
 use Rattle.state.proofs.encode.Statement.{statement}
 use Rattle.state.proofs.encode.Tie as tie
 

@@ -1,11 +1,6 @@
 -- SPDX-License-Identifier: MPL-2.0
 -- The first i indexes are those of the state.
-use Prim.Native.Nat.{_≤_, _-_}
-use mathlib.Core.List.{_++_}
-use mathlib.Core.Path.{refl, sym, _∙_, _≡_}
-use native.Mathlib.Omega.{arith}
-use lib.ListN.{length, drop}
-use borrow.Author.Needs.{needs}
+use Rattle.laws.proofs.Kit.{_-_, _≤_, _≡_, refl, sym, _∙_, _++_, length, drop, arith, needs}
 use Rattle.wire.specs.Fields.{mostPieces}
 use Rattle.joining.specs.Heard.{most}
 use Rattle.state.specs.State.{heardAt}

@@ -1,7 +1,6 @@
 -- SPDX-License-Identifier: MPL-2.0
 -- A part copied over the whole of the array.
-use mathlib.Core.Path.{refl, _∙_}
-use borrow.Author.Needs.{needs}
+use Rattle.laws.proofs.Kit.{refl, _∙_, needs}
 use Rattle.state.proofs.Parted.{copied-bytes}
 use Rattle.state.proofs.key_at.Statement.{statement}
 use Rattle.state.proofs.key_at.Tie as tie

@@ -1,12 +1,11 @@
 -- SPDX-License-Identifier: MPL-2.0
 -- Eight parts, each where the one before it ends, over the whole of the state.
-use mathlib.Core.Path.{sym, _∙_}
+use Rattle.laws.proofs.Kit.{sym, _∙_, needs}
 use Rattle.state.specs.Layout.{sizePlace}
 use Rattle.state.specs.State.{Fits, stateParts, stateBytes}
 use Rattle.state.proofs.Listed.{sets-whole}
 use Rattle.state.proofs.Parted.{stored-joined}
 use Rattle.state.proofs.StateBack.{read-back}
-use borrow.Author.Needs.{needs}
 use Rattle.state.proofs.lay.Statement.{statement}
 use Rattle.state.proofs.lay.Tie as tie
 

@@ -1,11 +1,6 @@
 -- SPDX-License-Identifier: MPL-2.0
 -- The first i bytes are put.
-use Prim.Native.Nat.{_≤_, _-_}
-use mathlib.Core.Path.{refl, _≡_}
-use native.Mathlib.Omega.{arith}
-use lib.ListN.{length}
-use lib.Seq.{sets}
-use borrow.Author.Needs.{needs}
+use Rattle.laws.proofs.Kit.{_-_, _≤_, _≡_, refl, length, sets, arith, needs}
 use Rattle.wire.specs.Fields.{mostPieces}
 use Rattle.state.specs.Layout.{heardPlace, heardSize}
 use Rattle.state.specs.State.{heardBytes}

@@ -5,7 +5,7 @@ use Rattle.state.specs.Layout.{expectedPlace, heardSize}
 use Rattle.state.specs.State.{heardByte, progressParts, progressBytes}
 use Rattle.state.proofs.Listed.{length-listed}
 use Rattle.state.proofs.Parted.{stored-joined}
-use borrow.Author.Needs.{needs}
+use Rattle.laws.proofs.Kit.{needs}
 use Rattle.state.proofs.put_progress.Statement.{statement}
 use Rattle.state.proofs.put_progress.Tie as tie
 

@@ -1,6 +1,6 @@
 -- SPDX-License-Identifier: MPL-2.0
 -- The bit is set or not.
-use native.Mathlib.Omega.{arith}
+use Rattle.laws.proofs.Kit.{arith}
 use Rattle.state.proofs.weigh.Statement.{statement}
 use Rattle.state.proofs.weigh.Tie as tie
 

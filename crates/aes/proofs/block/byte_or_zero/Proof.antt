@@ -1,8 +1,6 @@
 -- SPDX-License-Identifier: MPL-2.0
 -- Past the end a list has the default.
-use mathlib.Core.Path.{sym}
-use lib.ListN.{List·getD-eq-default}
-use borrow.Author.Needs.{needs}
+use Rattle.laws.proofs.Kit.{sym, List·getD-eq-default, needs}
 use Rattle.aes.proofs.block.byte_or_zero.Statement.{statement}
 use Rattle.aes.proofs.block.byte_or_zero.Tie as tie
 

@@ -1,8 +1,7 @@
 -- SPDX-License-Identifier: MPL-2.0
 -- The first of a pair.
-use mathlib.Core.Path.{_∙_, ap}
+use Rattle.laws.proofs.Kit.{_∙_, ap, needs}
 use Rattle.aes.specs.Cipher.{invCipher}
-use borrow.Author.Needs.{needs}
 use Rattle.aes.proofs.block.decrypt_block.Statement.{statement}
 use Rattle.aes.proofs.block.decrypt_block.Tie as tie
 

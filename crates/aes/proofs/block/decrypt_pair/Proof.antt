@@ -1,11 +1,9 @@
 -- SPDX-License-Identifier: MPL-2.0
 -- Round by round, the same for both blocks.
-use mathlib.Core.Path.{_≡_, _∙_, refl}
-use Prim.Native.Nat.{_≤_}
+use Rattle.laws.proofs.Kit.{_≤_, _≡_, refl, _∙_, needs}
 use Rattle.aes.specs.Words.{bytesOf}
 use Rattle.aes.specs.Cipher.{unrounds}
 use Rattle.aes.proofs.Undo.{unrounds-less, invCipher-whole}
-use borrow.Author.Needs.{needs}
 use Rattle.aes.proofs.block.decrypt_pair.Statement.{statement}
 use Rattle.aes.proofs.block.decrypt_pair.Tie as tie
 

@@ -1,12 +1,8 @@
 -- SPDX-License-Identifier: MPL-2.0
 -- Round by round.
-use native.Mathlib.Omega.{arith}
-use mathlib.Core.Path.{_≡_}
-use Prim.Native.Nat.{_≤_, _-_}
+use Rattle.laws.proofs.Kit.{_-_, _≤_, _≡_, add-one, arith, needs}
 use Rattle.aes.specs.Words.{bytesOf}
 use Rattle.aes.specs.Cipher.{rounds, cipher}
-use native.Mathlib.Numerals.{add-one}
-use borrow.Author.Needs.{needs}
 use Rattle.aes.proofs.block.encrypt.Statement.{statement}
 use Rattle.aes.proofs.block.encrypt.Tie as tie
 

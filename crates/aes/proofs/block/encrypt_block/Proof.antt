@@ -1,8 +1,7 @@
 -- SPDX-License-Identifier: MPL-2.0
 -- The cipher on the words of the block.
-use mathlib.Core.Path.{_∙_, ap}
+use Rattle.laws.proofs.Kit.{_∙_, ap, needs}
 use Rattle.aes.specs.Cipher.{cipher}
-use borrow.Author.Needs.{needs}
 use Rattle.aes.proofs.block.encrypt_block.Statement.{statement}
 use Rattle.aes.proofs.block.encrypt_block.Tie as tie
 

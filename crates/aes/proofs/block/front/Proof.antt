@@ -1,9 +1,8 @@
 -- SPDX-License-Identifier: MPL-2.0
 -- The code is the definition.
-use mathlib.Core.Path.{refl}
+use Rattle.laws.proofs.Kit.{refl, needs}
 use Rattle.laws.specs.Runs.{run}
 use Rattle.aes.specs.State.{block, loadBlock}
-use borrow.Author.Needs.{needs}
 use Rattle.aes.proofs.block.front.Statement.{statement}
 use Rattle.aes.proofs.block.front.Tie as tie
 

@@ -1,13 +1,8 @@
 -- SPDX-License-Identifier: MPL-2.0
 -- Key by key.
-use native.Mathlib.Omega.{arith}
-use mathlib.Core.Path.{_≡_, refl}
-use Prim.Native.Nat.{_≤_, _<_, _-_}
-use mathlib.Core.List.{[]}
-use lib.ListN.{getD}
+use Rattle.laws.proofs.Kit.{_-_, _≤_, _<_, _≡_, refl, [], getD, arith, needs}
 use Rattle.laws.proofs.Runs.{Filled, fill-more}
 use Rattle.aes.specs.State.{Block, invMixColumns}
-use borrow.Author.Needs.{needs}
 use Rattle.aes.proofs.block.inverse_keys.Statement.{statement}
 use Rattle.aes.proofs.block.inverse_keys.Tie as tie
 

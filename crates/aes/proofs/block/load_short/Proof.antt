@@ -1,12 +1,8 @@
 -- SPDX-License-Identifier: MPL-2.0
 -- Byte by byte.
-use mathlib.Core.Path.{_≡_, refl}
-use native.Mathlib.Omega.{arith}
-use Prim.Native.Nat.{_-_}
-use lib.ListN.{getD}
+use Rattle.laws.proofs.Kit.{_-_, _≡_, refl, getD, arith, needs}
 use Rattle.laws.proofs.Runs.{Filled, fill-more, fill-all}
 use Rattle.aes.specs.State.{block, loadBlock}
-use borrow.Author.Needs.{needs}
 use Rattle.aes.proofs.block.load_short.Statement.{statement}
 use Rattle.aes.proofs.block.load_short.Tie as tie
 

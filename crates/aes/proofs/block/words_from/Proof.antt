@@ -1,7 +1,6 @@
 -- SPDX-License-Identifier: MPL-2.0
 -- Sixteen bytes, as words.
-use mathlib.Core.Path.{_∙_}
-use borrow.Author.Needs.{needs}
+use Rattle.laws.proofs.Kit.{_∙_, needs}
 use Rattle.aes.proofs.block.words_from.Statement.{statement}
 use Rattle.aes.proofs.block.words_from.Tie as tie
 

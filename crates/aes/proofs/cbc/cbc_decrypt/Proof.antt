@@ -1,10 +1,8 @@
 -- SPDX-License-Identifier: MPL-2.0
 -- By the contracts of what it calls.
-use mathlib.Core.Path.{refl, sym, _∙_}
-use borrow.Author.Tests.{not-true, not-false}
+use Rattle.laws.proofs.Kit.{refl, sym, _∙_, length, not-false, needs}
+use borrow.Author.Tests.{not-true}
 use Rattle.aes.proofs.ChainCalls.{roomy}
-use lib.ListN.{length}
-use borrow.Author.Needs.{needs}
 use Rattle.aes.proofs.cbc.cbc_decrypt.Statement.{statement}
 use Rattle.aes.proofs.cbc.cbc_decrypt.Tie as tie
 

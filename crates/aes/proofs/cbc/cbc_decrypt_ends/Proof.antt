@@ -1,10 +1,7 @@
 -- SPDX-License-Identifier: MPL-2.0
 -- A chain of two blocks.
-use mathlib.Core.Path.{refl}
-use native.Mathlib.Omega.{arith}
-use lib.ListN.{replicate}
+use Rattle.laws.proofs.Kit.{refl, replicate, arith, needs}
 use Rattle.aes.proofs.Ends.{both-ends}
-use borrow.Author.Needs.{needs}
 use Rattle.aes.proofs.cbc.cbc_decrypt_ends.Statement.{statement}
 use Rattle.aes.proofs.cbc.cbc_decrypt_ends.Tie as tie
 

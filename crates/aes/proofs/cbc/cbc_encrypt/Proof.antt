@@ -1,12 +1,8 @@
 -- SPDX-License-Identifier: MPL-2.0
 -- A copy, encrypted in place.
-use native.Mathlib.Omega.{arith}
-use mathlib.Core.Path.{refl, sym, _∙_}
-use Prim.Native.Nat.{_-_}
-use lib.ListN.{length}
+use Rattle.laws.proofs.Kit.{_-_, refl, sym, _∙_, length, not-false, arith, needs}
 use Rattle.aes.proofs.ChainCalls.{roomy, encrypted-copy}
-use borrow.Author.Tests.{not-true, not-false}
-use borrow.Author.Needs.{needs}
+use borrow.Author.Tests.{not-true}
 use Rattle.aes.proofs.cbc.cbc_encrypt.Statement.{statement}
 use Rattle.aes.proofs.cbc.cbc_encrypt.Tie as tie
 

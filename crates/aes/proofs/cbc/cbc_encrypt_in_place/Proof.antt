@@ -1,8 +1,6 @@
 -- SPDX-License-Identifier: MPL-2.0
 -- By the contracts of what it calls.
-use mathlib.Core.Path.{refl}
-use borrow.Author.Tests.{eq-eqb, ne-eqb}
-use borrow.Author.Needs.{needs}
+use Rattle.laws.proofs.Kit.{refl, eq-eqb, ne-eqb, needs}
 use Rattle.aes.proofs.cbc.cbc_encrypt_in_place.Statement.{statement}
 use Rattle.aes.proofs.cbc.cbc_encrypt_in_place.Tie as tie
 

@@ -1,7 +1,7 @@
 -- SPDX-License-Identifier: MPL-2.0
 -- A chain of one block after zeros is the cipher.
 use Rattle.aes.proofs.ChainCalls.{one-encrypted}
-use borrow.Author.Needs.{needs}
+use Rattle.laws.proofs.Kit.{needs}
 use Rattle.aes.proofs.cbc.cbc_encrypt_one.Statement.{statement}
 use Rattle.aes.proofs.cbc.cbc_encrypt_one.Tie as tie
 

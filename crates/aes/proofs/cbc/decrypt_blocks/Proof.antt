@@ -1,9 +1,7 @@
 -- SPDX-License-Identifier: MPL-2.0
 -- Two blocks at a time, or the one that is left.
+use Rattle.laws.proofs.Kit.{_-_, length, needs}
 use native.Mathlib.Decide.{ℕ-discrete}
-use Prim.Native.Nat.{_-_}
-use borrow.Author.Needs.{needs}
-use lib.ListN.{length}
 use Rattle.aes.specs.Words.{bytesOf}
 use Rattle.aes.specs.Cbc.{cbcDecryptBlock, cbcDecrypt}
 use Rattle.aes.proofs.ChainLoop.{Chained, begin, done, decrypt-two-more}

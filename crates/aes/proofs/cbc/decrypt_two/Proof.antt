@@ -1,12 +1,9 @@
 -- SPDX-License-Identifier: MPL-2.0
 -- By the contracts of what it calls.
-use native.Mathlib.Omega.{arith}
-use mathlib.Core.Path.{_≡_, _∙_}
+use Rattle.laws.proofs.Kit.{_≡_, _∙_, length, arith, needs}
 use Rattle.aes.specs.Cbc.{cbcDecryptBlock}
 use Rattle.aes.proofs.ChainLoop.{loaded}
-use lib.ListN.{length}
 use lib.Seq.{length-paste}
-use borrow.Author.Needs.{needs}
 use Rattle.aes.proofs.cbc.decrypt_two.Statement.{statement}
 use Rattle.aes.proofs.cbc.decrypt_two.Tie as tie
 

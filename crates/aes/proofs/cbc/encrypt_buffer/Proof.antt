@@ -1,17 +1,11 @@
 -- SPDX-License-Identifier: MPL-2.0
 -- Block by block; what is not done yet is as it was.
-use native.Mathlib.Omega.{arith}
+use Rattle.laws.proofs.Kit.{_-_, _<_, _∙_, ap, append-nil, length, take, drop-length, arith, needs}
 use native.Mathlib.Nat.{le-refl}
-use mathlib.Core.List.{append-nil}
-use lib.Seq.{drop-length}
-use Prim.Native.Nat.{_-_, _<_}
-use lib.ListN.{length, take}
 use Rattle.aes.specs.Words.{bytesOf}
 use Rattle.aes.specs.Cbc.{cbcEncryptBlock, cbcEncrypt}
 use Rattle.aes.proofs.ChainLoop.{enough, loaded, Chained, begin, more, done}
 use Rattle.aes.proofs.Chain.{encrypt-long}
-use mathlib.Core.Path.{ap, _∙_}
-use borrow.Author.Needs.{needs}
 use Rattle.aes.proofs.cbc.encrypt_buffer.Statement.{statement}
 use Rattle.aes.proofs.cbc.encrypt_buffer.Tie as tie
 

@@ -1,12 +1,7 @@
 -- SPDX-License-Identifier: MPL-2.0
 -- Byte by byte.
-use native.Mathlib.Omega.{arith}
-use native.Mathlib.Numerals.{add-one}
-use mathlib.Core.Path.{_≡_, refl}
-use Prim.Native.Nat.{_-_, _≤_}
-use lib.ListN.{length, length-set}
+use Rattle.laws.proofs.Kit.{_-_, _≤_, _≡_, refl, length, length-set, add-one, arith, needs}
 use lib.Seq.{paste, paste-zero, paste-suc}
-use borrow.Author.Needs.{needs}
 use Rattle.aes.proofs.cbc.put.Statement.{statement}
 use Rattle.aes.proofs.cbc.put.Tie as tie
 

@@ -1,10 +1,6 @@
 -- SPDX-License-Identifier: MPL-2.0
 -- The code is the definition; each part is a byte.
-use mathlib.Core.Path.{refl}
-use Prim.Native.Nat.{ℕ, _%_}
-use native.Mathlib.Nat.{mod-lt}
-use native.Mathlib.Omega.{arith}
-use lib.Dec.{lit<}
+use Rattle.laws.proofs.Kit.{ℕ, _%_, refl, lit<, mod-lt, arith}
 use mir.Val.{Fits}
 use mir.Syntax.{w8}
 use Rattle.aes.specs.Words.{bytesOf}

@@ -1,12 +1,10 @@
 -- SPDX-License-Identifier: MPL-2.0
 -- The words are made of the block's bytes.
-use lib.ListN.{getD}
+use Rattle.laws.proofs.Kit.{getD, arith, needs}
 use mir.Val.{Fits}
 use mir.Syntax.{w8}
-use native.Mathlib.Omega.{arith}
 use Rattle.aes.specs.State.{Block}
 use Rattle.aes.proofs.StateWords.{columns-bytes}
-use borrow.Author.Needs.{needs}
 use Rattle.aes.proofs.columns.words.Statement.{statement}
 use Rattle.aes.proofs.columns.words.Tie as tie
 

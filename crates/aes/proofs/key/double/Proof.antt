@@ -1,10 +1,9 @@
 -- SPDX-License-Identifier: MPL-2.0
 -- It computes what `xtime` says, a byte.
-use mathlib.Core.Path.{refl}
+use Rattle.laws.proofs.Kit.{refl, needs}
 use Rattle.field.specs.Xor.{xor}
 use Rattle.field.specs.Field.{xtime}
 use Rattle.field.proofs.Linear.{xtime-byte}
-use borrow.Author.Needs.{needs}
 use Rattle.aes.proofs.key.double.Statement.{statement}
 use Rattle.aes.proofs.key.double.Tie as tie
 

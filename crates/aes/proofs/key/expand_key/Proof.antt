@@ -1,13 +1,8 @@
 -- SPDX-License-Identifier: MPL-2.0
 -- Key by key.
-use native.Mathlib.Omega.{arith}
-use mathlib.Core.Path.{_≡_, refl}
-use mathlib.Core.List.{[]}
-use Prim.Native.Nat.{_+_, _-_, _≤_}
+use Rattle.laws.proofs.Kit.{_+_, _-_, _≤_, _≡_, refl, [], add-one, arith, needs}
 use Rattle.laws.proofs.Runs.{Filled, fill-more, fill-all}
 use Rattle.aes.specs.Key.{rcon, roundKey, expandKey}
-use native.Mathlib.Numerals.{add-one}
-use borrow.Author.Needs.{needs}
 use Rattle.aes.proofs.key.expand_key.Statement.{statement}
 use Rattle.aes.proofs.key.expand_key.Tie as tie
 

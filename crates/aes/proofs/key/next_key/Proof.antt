@@ -2,7 +2,7 @@
 -- Sixteen sums, by the four substitutes.
 use Rattle.field.specs.Xor.{xor}
 use Rattle.aes.proofs.Schedule.{next-by}
-use borrow.Author.Needs.{needs}
+use Rattle.laws.proofs.Kit.{needs}
 use Rattle.aes.proofs.key.next_key.Statement.{statement}
 use Rattle.aes.proofs.key.next_key.Tie as tie
 

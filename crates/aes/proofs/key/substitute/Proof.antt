@@ -1,12 +1,8 @@
 -- SPDX-License-Identifier: MPL-2.0
 -- The table holds the substitutes.
-use mathlib.Core.Path.{_∙_, ap}
-use mathlib.Core.List.{List}
-use Prim.Native.Nat.{ℕ}
-use lib.ListN.{getD}
+use Rattle.laws.proofs.Kit.{ℕ, _∙_, ap, List, getD, needs}
 use Rattle.field.specs.Sbox.{sbox}
 use Rattle.laws.proofs.Runs.{table-at}
-use borrow.Author.Needs.{needs}
 use Rattle.aes.proofs.key.substitute.Statement.{statement}
 use Rattle.aes.proofs.key.substitute.Tie as tie
 

@@ -1,10 +1,8 @@
 -- SPDX-License-Identifier: MPL-2.0
 -- The code is the definition.
-use mathlib.Core.Path.{refl}
-use native.Mathlib.Omega.{arith}
+use Rattle.laws.proofs.Kit.{refl, arith, needs}
 use Rattle.field.specs.Xor.{xor}
 use Rattle.aes.specs.Words.{lookedUp}
-use borrow.Author.Needs.{needs}
 use Rattle.aes.proofs.rounds.look.Statement.{statement}
 use Rattle.aes.proofs.rounds.look.Tie as tie
 

@@ -1,7 +1,7 @@
 -- SPDX-License-Identifier: MPL-2.0
 -- The code is the definition.
 use Rattle.aes.specs.Words.{lookedUpBytes}
-use borrow.Author.Needs.{needs}
+use Rattle.laws.proofs.Kit.{needs}
 use Rattle.aes.proofs.rounds.look_bytes.Statement.{statement}
 use Rattle.aes.proofs.rounds.look_bytes.Tie as tie
 

@@ -1,6 +1,6 @@
 -- SPDX-License-Identifier: MPL-2.0
 -- The four words are the columns mixed back.
-use mathlib.Core.Path.{_∙_}
+use Rattle.laws.proofs.Kit.{_∙_, needs}
 use Rattle.laws.specs.Runs.{run}
 use Rattle.field.specs.Mix.{unmixed}
 use Rattle.field.specs.Words.{column}
@@ -8,7 +8,6 @@ use Rattle.aes.specs.State.{block, down, invMixColumns}
 use Rattle.aes.specs.Words.{bytesOf}
 use Rattle.aes.proofs.Steps.{unmix-block}
 use Rattle.aes.proofs.StateWords.{bytesOf-block, columns-bytes}
-use borrow.Author.Needs.{needs}
 use Rattle.aes.proofs.rounds.unmix_key.Statement.{statement}
 use Rattle.aes.proofs.rounds.unmix_key.Tie as tie
 

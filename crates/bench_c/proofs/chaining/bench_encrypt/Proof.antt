@@ -1,6 +1,6 @@
 -- SPDX-License-Identifier: MPL-2.0
 -- What the callees answer, put together.
-use borrow.Author.Needs.{needs}
+use Rattle.laws.proofs.Kit.{needs}
 use Rattle.bench_c.proofs.chaining.bench_encrypt.Statement.{statement}
 use Rattle.bench_c.proofs.chaining.bench_encrypt.Tie as tie
 

@@ -1,10 +1,8 @@
 -- SPDX-License-Identifier: MPL-2.0
 -- No report has such pieces, or all of them come.
-use mathlib.Core.Path.{refl}
-use borrow.Author.Tests.{ltb-false}
+use Rattle.laws.proofs.Kit.{refl, ltb-false, needs}
 use Rattle.laws.proofs.Bools.{or-false}
 use Rattle.bench_c.specs.Course.{course}
-use borrow.Author.Needs.{needs}
 use Rattle.bench_c.proofs.joins.bench_join.Statement.{statement}
 use Rattle.bench_c.proofs.joins.bench_join.Tie as tie
 

@@ -1,12 +1,8 @@
 -- SPDX-License-Identifier: MPL-2.0
 -- After i turns the first i pieces have come.
-use Prim.Native.Nat.{_-_, _≤_}
-use mathlib.Core.Path.{_≡_, refl}
-use native.Mathlib.Omega.{arith}
-use lib.ListN.{length}
+use Rattle.laws.proofs.Kit.{_-_, _≤_, _≡_, refl, length, arith, needs}
 use Rattle.bench_c.specs.Course.{course}
 use Rattle.bench_c.proofs.Courses.{Came, came-more}
-use borrow.Author.Needs.{needs}
 use Rattle.bench_c.proofs.joins.join_all.Statement.{statement}
 use Rattle.bench_c.proofs.joins.join_all.Tie as tie
 

@@ -1,8 +1,7 @@
 -- SPDX-License-Identifier: MPL-2.0
 -- The place is small; the piece's bytes are the part that was cut.
-use native.Mathlib.Omega.{arith}
+use Rattle.laws.proofs.Kit.{arith, needs}
 use Rattle.joining.proofs.Cuts.{place-bound}
-use borrow.Author.Needs.{needs}
 use Rattle.bench_c.proofs.joins.join_next.Statement.{statement}
 use Rattle.bench_c.proofs.joins.join_next.Tie as tie
 

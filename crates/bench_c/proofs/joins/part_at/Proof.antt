@@ -1,13 +1,8 @@
 -- SPDX-License-Identifier: MPL-2.0
 -- There is no byte from that place on, or no more are taken than there are.
-use Prim.Native.Nat.{_≤_}
-use mathlib.Core.Path.{sym}
-use native.Mathlib.Nat.{add-sub-cancel-left}
-use native.Mathlib.Omega.{arith}
-use lib.ListN.{length, drop, length-drop, drop-of-length-le}
+use Rattle.laws.proofs.Kit.{_≤_, sym, length, drop, length-drop, drop-of-length-le, add-sub-cancel-left, arith, needs}
 use lib.Seq.{take-nil}
 use Rattle.joining.proofs.Places.{take-least}
-use borrow.Author.Needs.{needs}
 use Rattle.bench_c.proofs.joins.part_at.Statement.{statement}
 use Rattle.bench_c.proofs.joins.part_at.Tie as tie
 

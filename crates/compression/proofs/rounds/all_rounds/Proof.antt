@@ -1,11 +1,6 @@
 -- SPDX-License-Identifier: MPL-2.0
 -- The invariant: t rounds are done on the whole schedule, of which the array has as much as they needed; each time round adds four to both.
-use mathlib.Core.Path.{_≡_}
-use Prim.Native.Nat.{_+_, _≤_, _-_, _%_, min}
-use native.Mathlib.Omega.{arith}
-use lib.ListN.{length, take}
-use lib.Seq.{length-take-le}
-use borrow.Author.Needs.{needs}
+use Rattle.laws.proofs.Kit.{_+_, _-_, _%_, min, _≤_, _≡_, length, take, length-take-le, arith, needs}
 use Rattle.compression.specs.Compression.{schedule, rounds}
 use Rattle.compression.proofs.Schedules.{schedule-words}
 use Rattle.compression.proofs.rounds.all_rounds.Statement.{statement}

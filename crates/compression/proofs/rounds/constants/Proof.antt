@@ -1,6 +1,6 @@
 -- SPDX-License-Identifier: MPL-2.0
 -- The constants are the definition's, four by four: the one place where the two are compared.
-use mathlib.Core.Path.{refl}
+use Rattle.laws.proofs.Kit.{refl}
 use Rattle.compression.specs.Constants.{K256}
 use Rattle.compression.proofs.Constants.{constants-at, last-four}
 use Rattle.compression.proofs.rounds.constants.Statement.{statement}

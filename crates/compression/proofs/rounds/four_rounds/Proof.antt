@@ -1,8 +1,6 @@
 -- SPDX-License-Identifier: MPL-2.0
 -- Four rounds, each from what the one before gave.
-use Prim.Native.Nat.{_+_}
-use native.Mathlib.Omega.{arith}
-use borrow.Author.Needs.{needs}
+use Rattle.laws.proofs.Kit.{_+_, arith, needs}
 use Rattle.compression.proofs.Schedules.{round-more}
 use Rattle.compression.proofs.rounds.four_rounds.Statement.{statement}
 use Rattle.compression.proofs.rounds.four_rounds.Tie as tie

@@ -1,8 +1,6 @@
 -- SPDX-License-Identifier: MPL-2.0
 -- Four words, each put into what the one before left.
-use native.Mathlib.Omega.{arith}
-use Prim.Native.Nat.{_+_}
-use borrow.Author.Needs.{needs}
+use Rattle.laws.proofs.Kit.{_+_, arith, needs}
 use Rattle.compression.proofs.Schedules.{put-more}
 use Rattle.compression.proofs.schedule.put_four.Statement.{statement}
 use Rattle.compression.proofs.schedule.put_four.Tie as tie

@@ -1,9 +1,6 @@
 -- SPDX-License-Identifier: MPL-2.0
 -- By the place: there are words to put before the forty-eighth round only.
-use mathlib.Core.Path.{_≡_}
-use Prim.Native.Nat.{_+_, min}
-use native.Mathlib.Omega.{arith}
-use borrow.Author.Needs.{needs}
+use Rattle.laws.proofs.Kit.{_+_, min, _≡_, arith, needs}
 use Rattle.compression.proofs.schedule.put_next.Statement.{statement}
 use Rattle.compression.proofs.schedule.put_next.Tie as tie
 

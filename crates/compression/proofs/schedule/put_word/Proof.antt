@@ -1,6 +1,6 @@
 -- SPDX-License-Identifier: MPL-2.0
 -- The word is the next one, and its place the first free one.
-use borrow.Author.Needs.{needs}
+use Rattle.laws.proofs.Kit.{needs}
 use Rattle.compression.specs.Compression.{nextWord}
 use Rattle.compression.proofs.schedule.put_word.Statement.{statement}
 use Rattle.compression.proofs.schedule.put_word.Tie as tie

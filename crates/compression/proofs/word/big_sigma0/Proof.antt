@@ -1,6 +1,6 @@
 -- SPDX-License-Identifier: MPL-2.0
 -- The three rotations are those of the definition.
-use borrow.Author.Needs.{needs}
+use Rattle.laws.proofs.Kit.{needs}
 use Rattle.compression.specs.Words.{Σ0}
 use Rattle.compression.proofs.word.big_sigma0.Statement.{statement}
 use Rattle.compression.proofs.word.big_sigma0.Tie as tie

@@ -1,6 +1,6 @@
 -- SPDX-License-Identifier: MPL-2.0
 -- The three rotations are those of the definition.
-use borrow.Author.Needs.{needs}
+use Rattle.laws.proofs.Kit.{needs}
 use Rattle.compression.specs.Words.{Σ1}
 use Rattle.compression.proofs.word.big_sigma1.Statement.{statement}
 use Rattle.compression.proofs.word.big_sigma1.Tie as tie

@@ -1,6 +1,6 @@
 -- SPDX-License-Identifier: MPL-2.0
 -- Bit by bit the short form is the standard's.
-use native.Mathlib.Omega.{arith}
+use Rattle.laws.proofs.Kit.{arith}
 use Rattle.compression.specs.Words.{Ch, complement}
 use Rattle.compression.proofs.Bitwise.{ch-by}
 use Rattle.compression.proofs.word.ch.Statement.{statement}

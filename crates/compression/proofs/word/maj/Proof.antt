@@ -1,6 +1,6 @@
 -- SPDX-License-Identifier: MPL-2.0
 -- Bit by bit the short form is the standard's.
-use native.Mathlib.Omega.{arith}
+use Rattle.laws.proofs.Kit.{arith}
 use Rattle.compression.specs.Words.{Maj}
 use Rattle.compression.proofs.Bitwise.{maj-by}
 use Rattle.compression.proofs.word.maj.Statement.{statement}

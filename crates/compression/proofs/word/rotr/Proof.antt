@@ -1,7 +1,6 @@
 -- SPDX-License-Identifier: MPL-2.0
 -- The body is the definition.
-use mathlib.Core.Path.{refl}
-use borrow.Author.Needs.{needs}
+use Rattle.laws.proofs.Kit.{refl, needs}
 use Rattle.compression.specs.Words.{ROTR}
 use Rattle.compression.proofs.word.rotr.Statement.{statement}
 use Rattle.compression.proofs.word.rotr.Tie as tie

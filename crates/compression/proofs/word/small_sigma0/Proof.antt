@@ -1,6 +1,6 @@
 -- SPDX-License-Identifier: MPL-2.0
 -- The rotations and the shift are those of the definition.
-use borrow.Author.Needs.{needs}
+use Rattle.laws.proofs.Kit.{needs}
 use Rattle.compression.specs.Words.{σ0, SHR}
 use Rattle.compression.proofs.word.small_sigma0.Statement.{statement}
 use Rattle.compression.proofs.word.small_sigma0.Tie as tie

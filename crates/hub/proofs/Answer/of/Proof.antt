@@ -1,7 +1,6 @@
 -- SPDX-License-Identifier: MPL-2.0
 -- By the arrival's kind.
-use mathlib.Core.Path.{sym, ap}
-use borrow.Author.Needs.{needs}
+use Rattle.laws.proofs.Kit.{sym, ap, needs}
 use Rattle.hub.specs.Answers.{answerOf}
 use Rattle.hub.proofs.Answer.of.Statement.{statement}
 use Rattle.hub.proofs.Answer.of.Tie as tie

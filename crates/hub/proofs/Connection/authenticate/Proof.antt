@@ -1,6 +1,6 @@
 -- SPDX-License-Identifier: MPL-2.0
 -- Row by row: state 1 with either verdict, states 2 and 3 with the certificate's digest compared, all else.
-use borrow.Author.Needs.{needs}
+use Rattle.laws.proofs.Kit.{needs}
 use Rattle.hub.proofs.Connection.authenticate.Statement.{statement}
 use Rattle.hub.proofs.Connection.authenticate.Tie as tie
 

@@ -1,6 +1,6 @@
 -- SPDX-License-Identifier: MPL-2.0
 -- The row is that of the payload's type: 0, 2, 6, or none.
-use borrow.Author.Tests.{ne-eqb}
+use Rattle.laws.proofs.Kit.{ne-eqb}
 use Rattle.hub.specs.Host.{host}
 use Rattle.hub.specs.Hear.{connect}
 use Rattle.hub.proofs.Connection.connect.Statement.{statement}

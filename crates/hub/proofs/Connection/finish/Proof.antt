@@ -1,6 +1,6 @@
 -- SPDX-License-Identifier: MPL-2.0
 -- Row by row: state 2, state 3, all else.
-use borrow.Author.Tests.{eq-eqb, ne-eqb}
+use Rattle.laws.proofs.Kit.{eq-eqb, ne-eqb}
 use Rattle.hub.proofs.Connection.finish.Statement.{statement}
 use Rattle.hub.proofs.Connection.finish.Tie as tie
 

@@ -1,8 +1,6 @@
 -- SPDX-License-Identifier: MPL-2.0
 -- By the tests of 16 and 15: foreign, Connect, Session in state 3, none of these.
-use mathlib.Core.Path.{refl}
-use borrow.Author.Tests.{ne-eqb}
-use borrow.Author.Needs.{needs}
+use Rattle.laws.proofs.Kit.{refl, ne-eqb, needs}
 use Rattle.hub.specs.Hear.{hear, reportHeard}
 use Rattle.hub.proofs.Connection.hear.Statement.{statement}
 use Rattle.hub.proofs.Connection.hear.Tie as tie

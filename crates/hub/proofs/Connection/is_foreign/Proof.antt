@@ -1,6 +1,6 @@
 -- SPDX-License-Identifier: MPL-2.0
 -- The code is the definition.
-use mathlib.Core.Path.{refl}
+use Rattle.laws.proofs.Kit.{refl}
 use Rattle.hub.proofs.Connection.is_foreign.Statement.{statement}
 use Rattle.hub.proofs.Connection.is_foreign.Tie as tie
 

@@ -1,6 +1,6 @@
 -- SPDX-License-Identifier: MPL-2.0
 -- Three comparisons, one after the other.
-use borrow.Author.Needs.{needs}
+use Rattle.laws.proofs.Kit.{needs}
 use Rattle.hub.proofs.Connection.knows.Statement.{statement}
 use Rattle.hub.proofs.Connection.knows.Tie as tie
 

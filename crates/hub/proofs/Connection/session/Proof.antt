@@ -1,6 +1,6 @@
 -- SPDX-License-Identifier: MPL-2.0
 -- What joining answers and leaves, with the arrival as an answer.
-use borrow.Author.Needs.{needs}
+use Rattle.laws.proofs.Kit.{needs}
 use Rattle.hub.proofs.Connection.session.Statement.{statement}
 use Rattle.hub.proofs.Connection.session.Tie as tie
 

@@ -1,8 +1,6 @@
 -- SPDX-License-Identifier: MPL-2.0
 -- By the tests: 25, 24, the reader's refusal, and what is heard of a message that was read.
-use mathlib.Core.Path.{refl}
-use borrow.Author.Tests.{lt-ltb, le-ltb}
-use borrow.Author.Needs.{needs}
+use Rattle.laws.proofs.Kit.{refl, lt-ltb, le-ltb, needs}
 use Rattle.hub.specs.Step.{step, reportStepped, workingStepped}
 use Rattle.hub.proofs.Connection.step.Statement.{statement}
 use Rattle.hub.proofs.Connection.step.Tie as tie

@@ -1,11 +1,6 @@
 -- SPDX-License-Identifier: MPL-2.0
 -- The certificate's place lies in the payload, whatever the payload is.
-use Prim.Native.Nat.{_+_, _≤_}
-use mathlib.Core.Path.{_∙_}
-use native.Mathlib.Nat.{add-sub-cancel-left}
-use native.Mathlib.Omega.{arith}
-use lib.ListN.{length}
-use borrow.Author.Needs.{needs}
+use Rattle.laws.proofs.Kit.{_+_, _≤_, _∙_, length, add-sub-cancel-left, arith, needs}
 use Rattle.hub.proofs.Certificates.{certificate-inside}
 use Rattle.hub.proofs.hear.certificate_digest.Statement.{statement}
 use Rattle.hub.proofs.hear.certificate_digest.Tie as tie

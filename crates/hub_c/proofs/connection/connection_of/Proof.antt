@@ -1,6 +1,6 @@
 -- SPDX-License-Identifier: MPL-2.0
 -- The array holds the bytes of the buffer.
-use borrow.Author.Needs.{needs}
+use Rattle.laws.proofs.Kit.{needs}
 use Rattle.wire.specs.Fields.{mostPieces}
 use Rattle.hub_c.proofs.connection.connection_of.Statement.{statement}
 use Rattle.hub_c.proofs.connection.connection_of.Tie as tie

@@ -1,9 +1,7 @@
 -- SPDX-License-Identifier: MPL-2.0
 -- The state has its size or not.
-use borrow.Author.Tests.{eq-eqb, ne-eqb}
-use borrow.Author.Needs.{needs}
+use Rattle.laws.proofs.Kit.{refl, eq-eqb, ne-eqb, needs}
 use Rattle.wire.specs.Fields.{mostPieces}
-use mathlib.Core.Path.{refl}
 use Rattle.hub_c.proofs.connection.hub_open.Statement.{statement}
 use Rattle.hub_c.proofs.connection.hub_open.Tie as tie
 

@@ -2,8 +2,7 @@
 -- The buffers have their sizes or not; the step is that of the connection in the state.
 use Rattle.wire.specs.Fields.{mostPieces}
 use Rattle.hub_c.proofs.Sizing.{sizes}
-use borrow.Author.Needs.{needs}
-use mathlib.Core.Path.{refl}
+use Rattle.laws.proofs.Kit.{refl, needs}
 use Rattle.hub_c.proofs.connection.hub_step.Statement.{statement}
 use Rattle.hub_c.proofs.connection.hub_step.Tie as tie
 

@@ -1,7 +1,6 @@
 -- SPDX-License-Identifier: MPL-2.0
 -- The bytes of the connection fill the buffer.
-use mathlib.Core.Path.{_∙_}
-use borrow.Author.Needs.{needs}
+use Rattle.laws.proofs.Kit.{_∙_, needs}
 use Rattle.wire.specs.Fields.{mostPieces}
 use Rattle.hub_c.proofs.connection.put_connection.Statement.{statement}
 use Rattle.hub_c.proofs.connection.put_connection.Tie as tie

@@ -1,6 +1,6 @@
 -- SPDX-License-Identifier: MPL-2.0
 -- By the answer.
-use borrow.Author.Needs.{needs}
+use Rattle.laws.proofs.Kit.{needs}
 use Rattle.hub_c.specs.Answered.{said}
 use Rattle.hub_c.proofs.Sizing.{told}
 use Rattle.hub_c.proofs.connection.said_of.Statement.{statement}

@@ -1,9 +1,7 @@
 -- SPDX-License-Identifier: MPL-2.0
 -- A refusal leaves state and answer alone.
-use borrow.Author.Tests.{eq-eqb, ne-eqb}
-use borrow.Author.Needs.{needs}
+use Rattle.laws.proofs.Kit.{refl, sym, eq-eqb, ne-eqb, needs}
 use Rattle.hub_c.specs.Answered.{stateAfter, answerAfter}
-use mathlib.Core.Path.{refl, sym}
 use Rattle.hub_c.proofs.connection.settle.Statement.{statement}
 use Rattle.hub_c.proofs.connection.settle.Tie as tie
 

@@ -2,10 +2,7 @@
 -- The words have their size or not; the cutter refuses or not.
 use Rattle.joining.proofs.Cuts.{cuttable}
 use Rattle.hub_c.proofs.Sizing.{cut-refused, cut-told}
-use native.Mathlib.Omega.{arith}
-use borrow.Author.Tests.{eq-eqb, ne-eqb}
-use borrow.Author.Needs.{needs}
-use mathlib.Core.Path.{refl, sym, _∙_}
+use Rattle.laws.proofs.Kit.{refl, sym, _∙_, eq-eqb, ne-eqb, arith, needs}
 use Rattle.hub_c.proofs.cutting.hub_cut.Statement.{statement}
 use Rattle.hub_c.proofs.cutting.hub_cut.Tie as tie
 

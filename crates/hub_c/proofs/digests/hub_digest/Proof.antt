@@ -1,8 +1,6 @@
 -- SPDX-License-Identifier: MPL-2.0
 -- The output has its size or not.
-use borrow.Author.Tests.{eq-eqb, ne-eqb}
-use borrow.Author.Needs.{needs}
-use mathlib.Core.Path.{refl, _∙_}
+use Rattle.laws.proofs.Kit.{refl, _∙_, eq-eqb, ne-eqb, needs}
 use Rattle.hub_c.proofs.digests.hub_digest.Statement.{statement}
 use Rattle.hub_c.proofs.digests.hub_digest.Tie as tie
 

@@ -2,7 +2,7 @@
 -- Both tags have their size or not; they are the same or not.
 use Rattle.hub_c.specs.Digesting.{sameTag}
 use Rattle.hub_c.proofs.Sizing.{sizes}
-use borrow.Author.Needs.{needs}
+use Rattle.laws.proofs.Kit.{needs}
 use Rattle.hub_c.proofs.digests.hub_same_tag.Statement.{statement}
 use Rattle.hub_c.proofs.digests.hub_same_tag.Tie as tie
 

@@ -2,11 +2,7 @@
 -- The buffers have their sizes or not; the line is that of the message.
 use Rattle.lines.proofs.Puts.{room}
 use Rattle.hub_c.proofs.Sizing.{first-sized, second-sized, line-told}
-use native.Mathlib.Omega.{arith}
-use native.Mathlib.Nat.{zero-add}
-use lib.ListN.{length}
-use borrow.Author.Needs.{needs}
-use mathlib.Core.Path.{refl}
+use Rattle.laws.proofs.Kit.{refl, length, zero-add, arith, needs}
 use Rattle.hub_c.specs.Line.{lineText}
 use Rattle.hub_c.proofs.listing.hub_list.Statement.{statement}
 use Rattle.hub_c.proofs.listing.hub_list.Tie as tie

@@ -1,10 +1,8 @@
 -- SPDX-License-Identifier: MPL-2.0
 -- A refusal leaves the words alone; else the fields and the place fill them.
 use Rattle.hub_c.specs.Headers.{foundWords, handed}
-use mathlib.Core.Path.{refl, sym}
-use borrow.Author.Tests.{eq-eqb, ne-eqb}
+use Rattle.laws.proofs.Kit.{refl, sym, eq-eqb, ne-eqb, needs}
 use Rattle.state.proofs.Listed.{sets-whole}
-use borrow.Author.Needs.{needs}
 use Rattle.hub_c.proofs.reading.hand.Statement.{statement}
 use Rattle.hub_c.proofs.reading.hand.Tie as tie
 

@@ -1,8 +1,7 @@
 -- SPDX-License-Identifier: MPL-2.0
 -- A buffer of another size is answered with its number; else the place is that of the words.
 use Rattle.hub_c.proofs.Sizing.{second-sized}
-use borrow.Author.Needs.{needs}
-use mathlib.Core.Path.{refl}
+use Rattle.laws.proofs.Kit.{refl, needs}
 use Rattle.hub_c.proofs.reading.hub_payload.Statement.{statement}
 use Rattle.hub_c.proofs.reading.hub_payload.Tie as tie
 

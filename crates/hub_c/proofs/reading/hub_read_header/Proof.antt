@@ -1,8 +1,6 @@
 -- SPDX-License-Identifier: MPL-2.0
 -- The words have their size or not; what was read is handed out.
-use borrow.Author.Tests.{eq-eqb, ne-eqb}
-use borrow.Author.Needs.{needs}
-use mathlib.Core.Path.{refl}
+use Rattle.laws.proofs.Kit.{refl, eq-eqb, ne-eqb, needs}
 use Rattle.hub_c.proofs.reading.hub_read_header.Statement.{statement}
 use Rattle.hub_c.proofs.reading.hub_read_header.Tie as tie
 

@@ -1,7 +1,7 @@
 -- SPDX-License-Identifier: MPL-2.0
 -- By what the reader answered.
 use Rattle.hub_c.specs.Headers.{ofMessage}
-use borrow.Author.Needs.{needs}
+use Rattle.laws.proofs.Kit.{needs}
 use Rattle.hub_c.proofs.Sizing.{told}
 use Rattle.hub_c.proofs.reading.of_message.Statement.{statement}
 use Rattle.hub_c.proofs.reading.of_message.Tie as tie

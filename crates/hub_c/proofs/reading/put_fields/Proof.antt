@@ -1,6 +1,6 @@
 -- SPDX-License-Identifier: MPL-2.0
 -- The words of the fields, each where those before it end: one run.
-use borrow.Author.Needs.{needs}
+use Rattle.laws.proofs.Kit.{needs}
 use Rattle.hub_c.proofs.reading.put_fields.Statement.{statement}
 use Rattle.hub_c.proofs.reading.put_fields.Tie as tie
 

@@ -1,6 +1,6 @@
 -- SPDX-License-Identifier: MPL-2.0
 -- Three words after the fields.
-use borrow.Author.Needs.{needs}
+use Rattle.laws.proofs.Kit.{needs}
 use Rattle.hub_c.proofs.reading.put_place.Statement.{statement}
 use Rattle.hub_c.proofs.reading.put_place.Tie as tie
 

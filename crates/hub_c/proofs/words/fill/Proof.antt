@@ -1,8 +1,7 @@
 -- SPDX-License-Identifier: MPL-2.0
 -- A copy over the whole of the buffer.
-use mathlib.Core.Path.{_∙_}
+use Rattle.laws.proofs.Kit.{_∙_, needs}
 use Rattle.laws.proofs.Lists.{copied-whole}
-use borrow.Author.Needs.{needs}
 use Rattle.hub_c.proofs.words.fill.Statement.{statement}
 use Rattle.hub_c.proofs.words.fill.Tie as tie
 

@@ -1,7 +1,7 @@
 -- SPDX-License-Identifier: MPL-2.0
 -- Three words, each after the one before it.
-use borrow.Author.Needs.{needs}
-use native.Mathlib.Numerals.{add-one, add-two}
+use Rattle.laws.proofs.Kit.{add-one, needs}
+use native.Mathlib.Numerals.{add-two}
 use Rattle.hub_c.proofs.words.put_three.Statement.{statement}
 use Rattle.hub_c.proofs.words.put_three.Tie as tie
 

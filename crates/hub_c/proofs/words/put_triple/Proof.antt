@@ -1,9 +1,7 @@
 -- SPDX-License-Identifier: MPL-2.0
 -- Three words over the whole of the buffer.
-use mathlib.Core.List.{_∷_, []}
-use mathlib.Core.Path.{_∙_}
+use Rattle.laws.proofs.Kit.{_∙_, [], _∷_, needs}
 use Rattle.state.proofs.Listed.{sets-whole}
-use borrow.Author.Needs.{needs}
 use Rattle.hub_c.proofs.words.put_triple.Statement.{statement}
 use Rattle.hub_c.proofs.words.put_triple.Tie as tie
 

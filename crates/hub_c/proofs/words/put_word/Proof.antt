@@ -1,8 +1,7 @@
 -- SPDX-License-Identifier: MPL-2.0
 -- Past the end `set` changes nothing.
+use Rattle.laws.proofs.Kit.{sym, needs}
 use lib.Seq.{set-out}
-use mathlib.Core.Path.{sym}
-use borrow.Author.Needs.{needs}
 use Rattle.hub_c.proofs.words.put_word.Statement.{statement}
 use Rattle.hub_c.proofs.words.put_word.Tie as tie
 

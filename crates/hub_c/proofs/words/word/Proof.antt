@@ -1,8 +1,6 @@
 -- SPDX-License-Identifier: MPL-2.0
 -- Past the end `getD` gives its default.
-use lib.ListN.{List·getD-eq-default}
-use mathlib.Core.Path.{sym}
-use borrow.Author.Needs.{needs}
+use Rattle.laws.proofs.Kit.{sym, List·getD-eq-default, needs}
 use Rattle.hub_c.proofs.words.word.Statement.{statement}
 use Rattle.hub_c.proofs.words.word.Tie as tie
 

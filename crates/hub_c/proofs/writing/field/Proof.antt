@@ -1,8 +1,6 @@
 -- SPDX-License-Identifier: MPL-2.0
 -- A number that has room, or not.
-use mathlib.Core.Path.{sym}
-use native.Mathlib.Omega.{arith}
-use borrow.Author.Tests.{lt-ltb, le-ltb}
+use Rattle.laws.proofs.Kit.{sym, lt-ltb, le-ltb, arith}
 use Rattle.hub_c.proofs.Narrowing.{narrow-fits, narrow-over}
 use Rattle.hub_c.proofs.writing.field.Statement.{statement}
 use Rattle.hub_c.proofs.writing.field.Tie as tie

@@ -1,6 +1,6 @@
 -- SPDX-License-Identifier: MPL-2.0
 -- Each field is what its word gives.
-use borrow.Author.Needs.{needs}
+use Rattle.laws.proofs.Kit.{needs}
 use Rattle.wire.proofs.Reading.{same-header}
 use Rattle.hub_c.proofs.writing.header_of.Statement.{statement}
 use Rattle.hub_c.proofs.writing.header_of.Tie as tie

@@ -1,12 +1,9 @@
 -- SPDX-License-Identifier: MPL-2.0
 -- The words have their sizes or not; the writer answers to the narrowed header what it answers to the words.
-use lib.Dec.{ltb}
-use lib.ListN.{length}
+use Rattle.laws.proofs.Kit.{refl, length, ltb, needs}
 use Rattle.hub_c.specs.Written.{fieldsOf}
 use Rattle.hub_c.proofs.Narrowing.{narrow-answer, narrow-output}
-use borrow.Author.Needs.{needs}
 use Rattle.hub_c.proofs.Sizing.{sizes, third-false}
-use mathlib.Core.Path.{refl}
 use Rattle.hub_c.proofs.writing.hub_write.Statement.{statement}
 use Rattle.hub_c.proofs.writing.hub_write.Tie as tie
 

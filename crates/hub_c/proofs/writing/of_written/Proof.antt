@@ -1,6 +1,6 @@
 -- SPDX-License-Identifier: MPL-2.0
 -- By what the writer answered.
-use borrow.Author.Needs.{needs}
+use Rattle.laws.proofs.Kit.{needs}
 use Rattle.hub_c.specs.Written.{ofWritten}
 use Rattle.hub_c.proofs.Sizing.{told}
 use Rattle.hub_c.proofs.writing.of_written.Statement.{statement}

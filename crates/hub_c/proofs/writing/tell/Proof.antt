@@ -1,9 +1,7 @@
 -- SPDX-License-Identifier: MPL-2.0
 -- A refusal leaves the word alone.
 use Rattle.hub_c.specs.Written.{lengthAfter}
-use mathlib.Core.Path.{refl, sym}
-use borrow.Author.Tests.{eq-eqb, ne-eqb}
-use borrow.Author.Needs.{needs}
+use Rattle.laws.proofs.Kit.{refl, sym, eq-eqb, ne-eqb, needs}
 use Rattle.hub_c.proofs.writing.tell.Statement.{statement}
 use Rattle.hub_c.proofs.writing.tell.Tie as tie
 

@@ -1,6 +1,6 @@
 -- SPDX-License-Identifier: MPL-2.0
 -- The code is the definition.
-use mathlib.Core.Path.{refl}
+use Rattle.laws.proofs.Kit.{refl}
 use Rattle.wire.specs.Fields.{mostPieces}
 use Rattle.joining.proofs.Progress.expecting.Statement.{statement}
 use Rattle.joining.proofs.Progress.expecting.Tie as tie

@@ -1,11 +1,6 @@
 -- SPDX-License-Identifier: MPL-2.0
 -- A refusal, a Repeat or a new piece: each is one way of the definitions.
-use Prim.Native.Nat.{_+_, _*_, _≤_}
-use mathlib.Core.Path.{refl, sym, ap, _∙_}
-use native.Mathlib.Omega.{arith}
-use lib.ListN.{length}
-use borrow.Author.Needs.{needs}
-use borrow.Author.Tests.{eq-eqb, ne-eqb}
+use Rattle.laws.proofs.Kit.{_+_, _*_, _≤_, refl, sym, _∙_, ap, length, eq-eqb, ne-eqb, arith, needs}
 use Rattle.joining.specs.Heard.{tally}
 use Rattle.joining.specs.Join.{Fitting, join, reportAfter}
 use Rattle.wire.specs.Fields.{mostPieces}

@@ -1,7 +1,6 @@
 -- SPDX-License-Identifier: MPL-2.0
 -- The count stands beside no refusal.
-use mathlib.Core.Path.{sym, _∙_}
-use borrow.Author.Tests.{eq-eqb, ne-eqb}
+use Rattle.laws.proofs.Kit.{sym, _∙_, eq-eqb, ne-eqb}
 use Rattle.joining.proofs.Cuts.{cuttable}
 use Rattle.joining.proofs.cut.cut.Statement.{statement}
 use Rattle.joining.proofs.cut.cut.Tie as tie

@@ -1,13 +1,6 @@
 -- SPDX-License-Identifier: MPL-2.0
 -- What is not refused begins within the report.
-use Prim.Native.Nat.{_*_}
-use mathlib.Core.Path.{sym, _∙_}
-use native.Mathlib.Nat.{add-sub-cancel-left}
-use native.Mathlib.Omega.{arith}
-use lib.ListN.{drop, length-drop}
-use lib.ListN.{length}
-use borrow.Author.Tests.{eq-eqb, ne-eqb}
-use borrow.Author.Needs.{needs}
+use Rattle.laws.proofs.Kit.{_*_, sym, _∙_, length, drop, length-drop, eq-eqb, ne-eqb, add-sub-cancel-left, arith, needs}
 use Rattle.joining.proofs.Places.{take-least}
 use Rattle.joining.proofs.Cuts.{Cuttable, cuttable}
 use Rattle.joining.proofs.cut.cut_piece.Statement.{statement}

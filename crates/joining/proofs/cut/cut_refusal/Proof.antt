@@ -1,10 +1,6 @@
 -- SPDX-License-Identifier: MPL-2.0
 -- The row of the fragment size, then the one that divides by it.
-use Prim.Native.Nat.{ℕ, _≤_, _<_}
-use mathlib.Core.Bool.{Bool}
-use mathlib.Core.List.{List}
-use mathlib.Core.Path.{_≡_, refl, sym, _∙_}
-use native.Mathlib.Omega.{arith}
+use Rattle.laws.proofs.Kit.{ℕ, _≤_, _<_, _≡_, refl, sym, _∙_, Bool, List, arith}
 use Rattle.laws.specs.Rows.{first}
 use Rattle.laws.proofs.Firsts.{row-false}
 use Rattle.laws.proofs.Nexts.{down-first, above, below}

@@ -1,9 +1,7 @@
 -- SPDX-License-Identifier: MPL-2.0
 -- The empty report is one piece; a quotient is at most what is divided.
-use Prim.Native.Nat.{_-_}
-use native.Mathlib.Omega.{arith}
+use Rattle.laws.proofs.Kit.{_-_, arith, needs}
 use native.Mathlib.Nat.{div-le-self}
-use borrow.Author.Needs.{needs}
 use Rattle.laws.proofs.Tests.{tests}
 use Rattle.joining.proofs.cut.piece_count.Statement.{statement}
 use Rattle.joining.proofs.cut.piece_count.Tie as tie

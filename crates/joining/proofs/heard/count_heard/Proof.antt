@@ -1,10 +1,6 @@
 -- SPDX-License-Identifier: MPL-2.0
 -- The count so far is that of the indexes passed.
-use Prim.Native.Nat.{_≤_, _-_}
-use mathlib.Core.Path.{_≡_}
-use native.Mathlib.Omega.{arith}
-use native.Mathlib.Numerals.{add-one}
-use borrow.Author.Needs.{needs}
+use Rattle.laws.proofs.Kit.{_-_, _≤_, _≡_, add-one, arith, needs}
 use Rattle.joining.specs.Heard.{come, has}
 use Rattle.wire.specs.Fields.{mostPieces}
 use Rattle.joining.proofs.HeardLaws.{come-suc, bit-byte}

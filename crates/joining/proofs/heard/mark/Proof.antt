@@ -1,17 +1,8 @@
 -- SPDX-License-Identifier: MPL-2.0
 -- Up to the index the set is as it was, after it the index is marked; the places passed are counted.
-use Prim.Native.Nat.{ℕ, suc, _+_, _≤_, _<_, _-_}
-use mathlib.Core.Bool.{Bool, false, _||_}
-use mathlib.Core.List.{List}
-use mathlib.Core.Logic.{⊎-elim}
-use mathlib.Core.Path.{_≡_, refl, ap, _∙_}
-use native.Mathlib.Omega.{arith}
-use native.Mathlib.Numerals.{add-one}
-use lib.Dec.{eqb}
-use lib.ListN.{length, set, length-set}
-use lib.Seq.{getD-set-same, set-getD, take-all, take-set-le}
-use borrow.Author.Needs.{needs}
-use borrow.Author.Tests.{eq-eqb, ne-eqb}
+use Rattle.laws.proofs.Kit.{ℕ, suc, _+_, _-_, _≤_, _<_, _≡_, refl, _∙_, ap, Bool, false, _||_, List, length, set, length-set, take-all, getD-set-same}
+use Rattle.laws.proofs.Kit.{eqb, eq-eqb, ne-eqb, add-one, ⊎-elim, arith, needs}
+use lib.Seq.{set-getD, take-set-le}
 use Rattle.laws.proofs.Bools.{or-true, or-none}
 use Rattle.laws.proofs.Order.{lt-or-ge}
 use Rattle.joining.specs.Heard.{most, bit, has, mark, come, tally}

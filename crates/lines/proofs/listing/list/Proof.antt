@@ -1,10 +1,7 @@
 -- SPDX-License-Identifier: MPL-2.0
 -- Between two turns the run is that of the definition, with the turns that are left.
-use mathlib.Core.Path.{_≡_, refl}
-use native.Mathlib.Omega.{arith}
-use lib.ListN.{length}
+use Rattle.laws.proofs.Kit.{_≡_, refl, length, arith, needs}
 use Rattle.lines.proofs.Turns.{Reached, reached-first, reached-more, reached-stop, reached-last}
-use borrow.Author.Needs.{needs}
 use Rattle.lines.proofs.listing.list.Statement.{statement}
 use Rattle.lines.proofs.listing.list.Tie as tie
 

@@ -3,7 +3,7 @@
 use Rattle.lines.specs.Text.{field}
 use Rattle.lines.specs.Listing.{headerLine}
 use Rattle.lines.proofs.Puts.{putting, more}
-use borrow.Author.Needs.{needs}
+use Rattle.laws.proofs.Kit.{needs}
 use Rattle.lines.proofs.listing.put_header.Statement.{statement}
 use Rattle.lines.proofs.listing.put_header.Tie as tie
 

@@ -1,12 +1,9 @@
 -- SPDX-License-Identifier: MPL-2.0
 -- There is room or not; the line goes by the answer.
-use Prim.Native.Nat.{_+_, _≤_}
-use native.Mathlib.Omega.{arith}
-use lib.ListN.{length}
+use Rattle.laws.proofs.Kit.{_+_, _≤_, length, arith, needs}
 use Rattle.lines.specs.Text.{named}
 use Rattle.lines.specs.Listing.{headerLine, refusedName, lineOf}
 use Rattle.lines.proofs.Puts.{lacking, fitting, no-room, roomy}
-use borrow.Author.Needs.{needs}
 use Rattle.lines.proofs.listing.put_line.Statement.{statement}
 use Rattle.lines.proofs.listing.put_line.Tie as tie
 

@@ -1,6 +1,6 @@
 -- SPDX-License-Identifier: MPL-2.0
 -- Nothing is added.
-use native.Mathlib.Nat.{add-zero}
+use Rattle.laws.proofs.Kit.{add-zero}
 use Rattle.lines.proofs.listing.stopped.Statement.{statement}
 use Rattle.lines.proofs.listing.stopped.Tie as tie
 

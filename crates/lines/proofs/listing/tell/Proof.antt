@@ -1,7 +1,7 @@
 -- SPDX-License-Identifier: MPL-2.0
 -- The line is put after what is written.
 use Rattle.lines.proofs.Puts.{told}
-use borrow.Author.Needs.{needs}
+use Rattle.laws.proofs.Kit.{needs}
 use Rattle.lines.proofs.listing.tell.Statement.{statement}
 use Rattle.lines.proofs.listing.tell.Tie as tie
 

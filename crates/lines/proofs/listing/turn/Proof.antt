@@ -1,14 +1,10 @@
 -- SPDX-License-Identifier: MPL-2.0
 -- The turn by its cases: no room, and what the stream begins with.
-use Prim.Native.Nat.{_+_, _-_, _≤_}
-use mathlib.Core.Path.{_≡_, refl, sym, _∙_}
-use native.Mathlib.Omega.{arith}
+use Rattle.laws.proofs.Kit.{_+_, _-_, _≤_, _≡_, refl, sym, _∙_, length, drop, length-drop, arith, needs}
 use Rattle.lines.proofs.Puts.{fitting}
 use Rattle.laws.proofs.Lists.{part-from}
 use Rattle.lines.specs.Listing.{turnBy, turnAt}
 use Rattle.lines.proofs.Streams.{ahead-fits}
-use lib.ListN.{length, drop, length-drop}
-use borrow.Author.Needs.{needs}
 use Rattle.lines.proofs.listing.turn.Statement.{statement}
 use Rattle.lines.proofs.listing.turn.Tie as tie
 

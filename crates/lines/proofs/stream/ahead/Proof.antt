@@ -1,7 +1,6 @@
 -- SPDX-License-Identifier: MPL-2.0
 -- By the tests. What is taken fits sixteen bits, as MessageLength does.
-use Prim.Native.Nat.{_<_}
-use native.Mathlib.Omega.{arith}
+use Rattle.laws.proofs.Kit.{_<_, arith}
 use Rattle.laws.proofs.Tests.{tests}
 use Rattle.lines.specs.Stream.{ahead}
 use Rattle.lines.proofs.Streams.{wanted-below}

@@ -1,11 +1,6 @@
 -- SPDX-License-Identifier: MPL-2.0
 -- Putting what is left of the digits into the buffer as it is gives what putting them all into the first one gives.
-use borrow.Author.Needs.{needs}
-use Prim.Native.Nat.{_≤_}
-use mathlib.Core.Path.{_≡_, refl, _∙_}
-use native.Mathlib.Omega.{arith}
-use lib.ListN.{length, length-set}
-use lib.Seq.{sets}
+use Rattle.laws.proofs.Kit.{_≤_, _≡_, refl, _∙_, length, length-set, sets, arith, needs}
 use Rattle.lines.specs.Text.{digits}
 use Rattle.lines.proofs.Digits.{put-last}
 use Rattle.lines.proofs.text.put_digits.Statement.{statement}

@@ -1,11 +1,9 @@
 -- SPDX-License-Identifier: MPL-2.0
 -- The digits, then the byte after them: two stores, the second where the first ends.
-use Prim.Native.Nat.{_≤_}
-use native.Mathlib.Omega.{arith}
+use Rattle.laws.proofs.Kit.{_≤_, arith, needs}
 use lib.Seq.{length-sets}
 use Rattle.lines.proofs.Digits.{few-digits, length-field}
 use Rattle.lines.proofs.Puts.{field-put}
-use borrow.Author.Needs.{needs}
 use Rattle.lines.proofs.text.put_field.Statement.{statement}
 use Rattle.lines.proofs.text.put_field.Tie as tie
 

@@ -1,9 +1,8 @@
 -- SPDX-License-Identifier: MPL-2.0
 -- The name, then the number where the name ends.
-use mathlib.Core.Path.{refl}
+use Rattle.laws.proofs.Kit.{refl, needs}
 use Rattle.lines.specs.Text.{field, named}
 use Rattle.lines.proofs.Puts.{putting, more}
-use borrow.Author.Needs.{needs}
 use Rattle.lines.proofs.text.put_name.Statement.{statement}
 use Rattle.lines.proofs.text.put_name.Tie as tie
 

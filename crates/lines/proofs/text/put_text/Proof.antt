@@ -1,9 +1,7 @@
 -- SPDX-License-Identifier: MPL-2.0
 -- There is room or not.
-use mathlib.Core.Path.{refl}
-use native.Mathlib.Omega.{arith}
+use Rattle.laws.proofs.Kit.{refl, arith, needs}
 use Rattle.lines.proofs.Puts.{lacking, fitting, no-room, roomy}
-use borrow.Author.Needs.{needs}
 use Rattle.lines.proofs.text.put_text.Statement.{statement}
 use Rattle.lines.proofs.text.put_text.Tie as tie
 

@@ -1,13 +1,7 @@
 -- SPDX-License-Identifier: MPL-2.0
 -- One of the two, and there the part or nothing.
-use Prim.Native.Nat.{_+_, _≤_}
-use mathlib.Core.Path.{sym, _∙_}
-use native.Mathlib.Omega.{arith}
-use native.Mathlib.Nat.{add-sub-cancel-left}
-use borrow.Author.Tests.{ltb-false}
-use lib.ListN.{length}
+use Rattle.laws.proofs.Kit.{_+_, _≤_, sym, _∙_, length, ltb-false, add-sub-cancel-left, arith, needs}
 use Rattle.message.specs.Handed.{partOf, payload}
-use borrow.Author.Needs.{needs}
 use Rattle.message.proofs.payload.payload.Statement.{statement}
 use Rattle.message.proofs.payload.payload.Tie as tie
 

@@ -1,12 +1,10 @@
 -- SPDX-License-Identifier: MPL-2.0
 -- By what the header's reader answered.
-use mathlib.Core.Path.{_≡_, refl, sym, _∙_}
-use native.Mathlib.Omega.{arith}
+use Rattle.laws.proofs.Kit.{_≡_, refl, sym, _∙_, arith, needs}
 use Rattle.wire.specs.Reader.{readHeader}
 use Rattle.wire.specs.declared.header.HeaderRead.the-variants.{Read}
 use Rattle.wire.proofs.Sound.{read-sound}
 use Rattle.message.specs.Reading.{readMessage, workingAfter}
-use borrow.Author.Needs.{needs}
 use Rattle.message.proofs.reading.read.Statement.{statement}
 use Rattle.message.proofs.reading.read.Tie as tie
 

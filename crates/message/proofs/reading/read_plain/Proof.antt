@@ -1,8 +1,6 @@
 -- SPDX-License-Identifier: MPL-2.0
 -- The payload's part is judged where it stands.
-use native.Mathlib.Nat.{add-sub-cancel-left}
-use borrow.Author.Needs.{needs}
-use borrow.Author.Tests.{eq-eqb, ne-eqb}
+use Rattle.laws.proofs.Kit.{eq-eqb, ne-eqb, add-sub-cancel-left, needs}
 use Rattle.message.specs.Reading.{plainRead}
 use Rattle.message.proofs.reading.read_plain.Statement.{statement}
 use Rattle.message.proofs.reading.read_plain.Tie as tie

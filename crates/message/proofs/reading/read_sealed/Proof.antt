@@ -1,15 +1,10 @@
 -- SPDX-License-Identifier: MPL-2.0
 -- What was opened stands in the working buffer, and its payload is judged there.
-use mathlib.Core.Bool.{true}
-use mathlib.Core.Path.{_≡_}
-use native.Mathlib.Omega.{arith}
-use lib.ListN.{length}
-use borrow.Author.Tests.{eq-eqb, ne-eqb}
+use Rattle.laws.proofs.Kit.{_≡_, true, length, eq-eqb, ne-eqb, arith, needs}
 use Rattle.message.specs.Reading.{unless, sealedRead}
 use Rattle.message.specs.declared.reading.MessageRead.{MessageRead}
 use Rattle.message.specs.declared.reading.MessageRead.the-variants.{Read}
 use Rattle.message.proofs.Readers.{not-opened, is-held, judged}
-use borrow.Author.Needs.{needs}
 use Rattle.message.proofs.reading.read_sealed.Statement.{statement}
 use Rattle.message.proofs.reading.read_sealed.Tie as tie
 

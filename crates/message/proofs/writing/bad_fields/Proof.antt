@@ -1,6 +1,6 @@
 -- SPDX-License-Identifier: MPL-2.0
 -- The rows from the top are the table.
-use mathlib.Core.Path.{refl}
+use Rattle.laws.proofs.Kit.{refl}
 use Rattle.laws.proofs.Nexts.{down-first}
 use Rattle.message.specs.Writing.{fieldRows}
 use Rattle.message.proofs.writing.bad_fields.Statement.{statement}

@@ -1,9 +1,8 @@
 -- SPDX-License-Identifier: MPL-2.0
 -- The sums are short.
-use native.Mathlib.Omega.{arith}
+use Rattle.laws.proofs.Kit.{arith, needs}
 use Rattle.seal.proofs.Padded.{sizes}
 use Rattle.message.specs.Writing.{finishedLength}
-use borrow.Author.Needs.{needs}
 use Rattle.message.proofs.writing.finished_length.Statement.{statement}
 use Rattle.message.proofs.writing.finished_length.Tie as tie
 

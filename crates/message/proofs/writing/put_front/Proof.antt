@@ -1,13 +1,9 @@
 -- SPDX-License-Identifier: MPL-2.0
 -- The chain stands where the header ends.
-use mathlib.Core.Path.{_∙_}
-use native.Mathlib.Omega.{arith}
-use lib.ListN.{length}
-use borrow.Author.Tests.{le-ltb}
+use Rattle.laws.proofs.Kit.{_∙_, length, le-ltb, arith, needs}
 use Rattle.writer.specs.Header.{headerBytes}
 use Rattle.writer.specs.Written.{output, putRefusal}
 use Rattle.message.proofs.WrittenLengths.{length-header}
-use borrow.Author.Needs.{needs}
 use Rattle.laws.proofs.Stores.{put-after}
 use Rattle.message.proofs.writing.put_front.Statement.{statement}
 use Rattle.message.proofs.writing.put_front.Tie as tie

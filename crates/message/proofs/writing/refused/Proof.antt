@@ -1,10 +1,6 @@
 -- SPDX-License-Identifier: MPL-2.0
 -- Three tables one after the other. The length is formed where the rows above it leave a chain and a payload that are short.
-use Prim.Native.Nat.{ℕ}
-use mathlib.Core.Bool.{Bool, false}
-use mathlib.Core.List.{List, _++_}
-use mathlib.Core.Path.{_≡_, refl, sym, _∙_}
-use native.Mathlib.Omega.{arith}
+use Rattle.laws.proofs.Kit.{ℕ, _≡_, refl, sym, _∙_, Bool, false, List, _++_, arith}
 use Rattle.laws.specs.Rows.{first, testOf}
 use Rattle.laws.proofs.Firsts.{row-false}
 use Rattle.laws.proofs.Nexts.{above, onward, below}

@@ -1,11 +1,8 @@
 -- SPDX-License-Identifier: MPL-2.0
 -- Refused, or header, chain and payload one after the other, the payload as it is or sealed.
-use mathlib.Core.Path.{_≡_, sym, _∙_}
-use native.Mathlib.Omega.{arith}
-use lib.ListN.{length}
+use Rattle.laws.proofs.Kit.{_≡_, sym, _∙_, length, arith, needs}
 use Rattle.message.specs.Writing.{lengthOf, writeRefusal}
 use Rattle.message.proofs.Written.{Bounds, bounds, refused, wrote-plain, wrote-sealed}
-use borrow.Author.Needs.{needs}
 use Rattle.laws.specs.Bytes.{AreBytes}
 use Rattle.message.proofs.writing.write.Statement.{statement}
 use Rattle.message.proofs.writing.write.Tie as tie

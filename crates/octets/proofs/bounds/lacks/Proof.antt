@@ -1,10 +1,6 @@
 -- SPDX-License-Identifier: MPL-2.0
 -- Past the end at once, or by what is left.
-use Prim.Native.Nat.{ℕ, _+_, _-_, _≤_}
-use mathlib.Core.Path.{_≡_, sym}
-use native.Mathlib.Omega.{arith}
-use lib.Dec.{ltb}
-use borrow.Author.Tests.{lt-ltb, le-ltb, ltb-true, ltb-false}
+use Rattle.laws.proofs.Kit.{ℕ, _+_, _-_, _≤_, _≡_, sym, ltb, lt-ltb, le-ltb, ltb-true, ltb-false, arith}
 use Rattle.laws.proofs.Cases.{on}
 use Rattle.octets.proofs.bounds.lacks.Statement.{statement}
 use Rattle.octets.proofs.bounds.lacks.Tie as tie

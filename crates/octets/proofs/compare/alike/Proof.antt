@@ -1,15 +1,7 @@
 -- SPDX-License-Identifier: MPL-2.0
 -- What is known so far is of the bytes passed.
-use Prim.Native.Nat.{ℕ, _+_, _≤_, _<_, _-_}
-use mathlib.Core.Bool.{Bool, _&&_}
-use mathlib.Core.Path.{_≡_, sym, _∙_}
-use mathlib.Core.List.{List}
-use native.Mathlib.Omega.{arith}
-use native.Mathlib.Numerals.{add-one}
-use lib.Dec.{eqb}
-use lib.ListN.{length, getD, take}
-use lib.Seq.{take-all, take-suc, length-take-le}
-use borrow.Author.Needs.{needs}
+use Rattle.laws.proofs.Kit.{ℕ, _+_, _-_, _≤_, _<_, _≡_, sym, _∙_, Bool, _&&_, List, length, take, getD, take-all, take-suc, length-take-le, eqb}
+use Rattle.laws.proofs.Kit.{add-one, arith, needs}
 use Rattle.laws.specs.Same.{same}
 use Rattle.laws.proofs.Sames.{same-length, same-snoc}
 use Rattle.octets.proofs.compare.alike.Statement.{statement}

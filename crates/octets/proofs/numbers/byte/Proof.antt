@@ -1,8 +1,6 @@
 -- SPDX-License-Identifier: MPL-2.0
 -- Past the end `getD` gives its default.
-use mathlib.Core.Path.{sym}
-use lib.ListN.{List·getD-eq-default}
-use borrow.Author.Needs.{needs}
+use Rattle.laws.proofs.Kit.{sym, List·getD-eq-default, needs}
 use Rattle.octets.proofs.numbers.byte.Statement.{statement}
 use Rattle.octets.proofs.numbers.byte.Tie as tie
 

@@ -1,7 +1,6 @@
 -- SPDX-License-Identifier: MPL-2.0
 -- Two stores, the second where the first ends.
-use borrow.Author.Needs.{needs}
-use native.Mathlib.Numerals.{add-one}
+use Rattle.laws.proofs.Kit.{add-one, needs}
 use Rattle.octets.proofs.stores.store16.Statement.{statement}
 use Rattle.octets.proofs.stores.store16.Tie as tie
 

@@ -1,6 +1,6 @@
 -- SPDX-License-Identifier: MPL-2.0
 -- Two stores, the second where the first ends.
-use borrow.Author.Needs.{needs}
+use Rattle.laws.proofs.Kit.{needs}
 use native.Mathlib.Numerals.{add-four}
 use Rattle.octets.proofs.stores.store64.Statement.{statement}
 use Rattle.octets.proofs.stores.store64.Tie as tie

@@ -1,8 +1,7 @@
 -- SPDX-License-Identifier: MPL-2.0
 -- Past the end `set` changes nothing.
-use mathlib.Core.Path.{sym}
+use Rattle.laws.proofs.Kit.{sym, needs}
 use lib.Seq.{set-out}
-use borrow.Author.Needs.{needs}
 use Rattle.octets.proofs.stores.store8.Statement.{statement}
 use Rattle.octets.proofs.stores.store8.Tie as tie
 

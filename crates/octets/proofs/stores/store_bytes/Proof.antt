@@ -1,12 +1,8 @@
 -- SPDX-License-Identifier: MPL-2.0
 -- The part that was lent comes back with the bytes over its first ones; what has no room is dropped by `sets` too.
-use Prim.Native.Nat.{_-_}
-use mathlib.Core.Path.{sym, _∙_}
-use native.Mathlib.Omega.{arith}
-use lib.ListN.{length, take, length-take}
+use Rattle.laws.proofs.Kit.{_-_, sym, _∙_, length, take, length-take, arith, needs}
 use Rattle.laws.proofs.Lent.{lent-stores}
 use Rattle.laws.proofs.Stores.{sets-past, sets-cut}
-use borrow.Author.Needs.{needs}
 use Rattle.octets.proofs.stores.store_bytes.Statement.{statement}
 use Rattle.octets.proofs.stores.store_bytes.Tie as tie
 

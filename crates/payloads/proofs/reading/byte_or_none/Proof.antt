@@ -1,9 +1,7 @@
 -- SPDX-License-Identifier: MPL-2.0
 -- Within the payload the default does not matter; past its end `getD` gives it.
-use mathlib.Core.Path.{sym}
-use lib.ListN.{List·getD-eq-default}
+use Rattle.laws.proofs.Kit.{sym, List·getD-eq-default, needs}
 use Rattle.laws.proofs.Lists.{getD-any}
-use borrow.Author.Needs.{needs}
 use Rattle.payloads.proofs.reading.byte_or_none.Statement.{statement}
 use Rattle.payloads.proofs.reading.byte_or_none.Tie as tie
 

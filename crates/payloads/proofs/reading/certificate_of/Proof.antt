@@ -2,7 +2,7 @@
 -- By the test.
 use Rattle.laws.proofs.Tests.{tests}
 use Rattle.payloads.specs.Reading.{certificateOf}
-use borrow.Author.Needs.{needs}
+use Rattle.laws.proofs.Kit.{needs}
 use Rattle.payloads.proofs.reading.certificate_of.Statement.{statement}
 use Rattle.payloads.proofs.reading.certificate_of.Tie as tie
 

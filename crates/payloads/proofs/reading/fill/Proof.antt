@@ -1,11 +1,6 @@
 -- SPDX-License-Identifier: MPL-2.0
 -- The first `i` bytes are those of `s`, the others as they were.
-use borrow.Author.Needs.{needs}
-use Prim.Native.Nat.{_≤_, _<_, _-_}
-use mathlib.Core.Path.{_≡_, refl, _∙_}
-use mathlib.Core.List.{_++_}
-use native.Mathlib.Omega.{arith}
-use lib.ListN.{length, drop, length-set}
+use Rattle.laws.proofs.Kit.{_-_, _≤_, _<_, _≡_, refl, _∙_, _++_, length, drop, length-set, arith, needs}
 use Rattle.laws.specs.Bytes.{bytesAt}
 use Rattle.laws.proofs.Parts.{filled-more, filled-all}
 use Rattle.payloads.proofs.reading.fill.Statement.{statement}

@@ -1,7 +1,7 @@
 -- SPDX-License-Identifier: MPL-2.0
 -- Each array holds what `fill` put there.
 use Rattle.payloads.specs.Reading.{readRequest}
-use borrow.Author.Needs.{needs}
+use Rattle.laws.proofs.Kit.{needs}
 use Rattle.payloads.proofs.reading.read_request.Statement.{statement}
 use Rattle.payloads.proofs.reading.read_request.Tie as tie
 

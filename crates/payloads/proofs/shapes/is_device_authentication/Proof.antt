@@ -1,7 +1,7 @@
 -- SPDX-License-Identifier: MPL-2.0
 -- The code is the definition, with what the calls answer.
 use Rattle.payloads.specs.Shapes.{isDeviceAuthentication}
-use borrow.Author.Needs.{needs}
+use Rattle.laws.proofs.Kit.{needs}
 use Rattle.payloads.proofs.shapes.is_device_authentication.Statement.{statement}
 use Rattle.payloads.proofs.shapes.is_device_authentication.Tie as tie
 

@@ -1,7 +1,6 @@
 -- SPDX-License-Identifier: MPL-2.0
 -- The sixteen bytes are copied over the whole of the block.
-use borrow.Author.Needs.{needs}
-use mathlib.Core.Path.{_∙_, refl}
+use Rattle.laws.proofs.Kit.{refl, _∙_, needs}
 use Rattle.laws.proofs.Lists.{copied-part}
 use Rattle.seal.proofs.key.block_at.Statement.{statement}
 use Rattle.seal.proofs.key.block_at.Tie as tie

@@ -1,9 +1,8 @@
 -- SPDX-License-Identifier: MPL-2.0
 -- The parts handed on are the definition's, the last one being all of the body from 4 on.
-use mathlib.Core.Path.{_∙_}
+use Rattle.laws.proofs.Kit.{_∙_, needs}
 use Rattle.laws.proofs.Lists.{part-from}
 use Rattle.seal.specs.Keys.{tagOf}
-use borrow.Author.Needs.{needs}
 use Rattle.seal.proofs.key.tag_of.Statement.{statement}
 use Rattle.seal.proofs.key.tag_of.Tie as tie
 

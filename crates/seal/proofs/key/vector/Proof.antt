@@ -1,7 +1,7 @@
 -- SPDX-License-Identifier: MPL-2.0
 -- Each call gives one piece of the definition.
 use Rattle.seal.specs.Keys.{vector}
-use borrow.Author.Needs.{needs}
+use Rattle.laws.proofs.Kit.{needs}
 use Rattle.seal.proofs.key.vector.Statement.{statement}
 use Rattle.seal.proofs.key.vector.Tie as tie
 

@@ -1,9 +1,8 @@
 -- SPDX-License-Identifier: MPL-2.0
 -- Each field is read byte by byte at its place.
-use mathlib.Core.Path.{refl}
+use Rattle.laws.proofs.Kit.{refl, needs}
 use Rattle.laws.specs.Bytes.{bytesAt}
 use Rattle.seal.specs.Keys.{vectorBlock}
-use borrow.Author.Needs.{needs}
 use Rattle.seal.proofs.key.vector_block.Statement.{statement}
 use Rattle.seal.proofs.key.vector_block.Tie as tie
 

@@ -1,7 +1,7 @@
 -- SPDX-License-Identifier: MPL-2.0
 -- The two blocks are those of the opened sealed part.
 use Rattle.seal.proofs.Opened.{part-judged}
-use borrow.Author.Needs.{needs}
+use Rattle.laws.proofs.Kit.{needs}
 use Rattle.seal.proofs.opening.bad_part.Statement.{statement}
 use Rattle.seal.proofs.opening.bad_part.Tie as tie
 

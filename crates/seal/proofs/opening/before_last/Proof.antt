@@ -1,11 +1,7 @@
 -- SPDX-License-Identifier: MPL-2.0
 -- A sealed part of one block chains the vector into it, a longer one the block before the last.
-use Prim.Native.Nat.{suc, _-_, _*_, _/_}
-use mathlib.Core.Path.{_≡_}
-use native.Mathlib.Omega.{arith}
-use lib.ListN.{length}
+use Rattle.laws.proofs.Kit.{suc, _-_, _*_, _/_, _≡_, length, arith, needs}
 use Rattle.aes.specs.Cbc.{blockBefore}
-use borrow.Author.Needs.{needs}
 use Rattle.seal.proofs.opening.before_last.Statement.{statement}
 use Rattle.seal.proofs.opening.before_last.Tie as tie
 

@@ -1,9 +1,6 @@
 -- SPDX-License-Identifier: MPL-2.0
 -- Where the tag does not fit, nothing stands before it.
-use Prim.Native.Nat.{_-_}
-use native.Mathlib.Omega.{arith}
-use borrow.Author.Needs.{needs}
-use borrow.Author.Tests.{le-leb, lt-leb}
+use Rattle.laws.proofs.Kit.{_-_, le-leb, lt-leb, arith, needs}
 use Rattle.seal.proofs.opening.no_blocks.Statement.{statement}
 use Rattle.seal.proofs.opening.no_blocks.Tie as tie
 

@@ -1,12 +1,6 @@
 -- SPDX-License-Identifier: MPL-2.0
 -- The tables one after the other: the tag is judged where the part and the keys are there, the part is opened where the tag is right.
-use Prim.Native.Nat.{ℕ, _-_}
-use mathlib.Core.Bool.{Bool}
-use mathlib.Core.List.{List, _++_}
-use mathlib.Core.Path.{_≡_, refl, sym, _∙_}
-use native.Mathlib.Omega.{arith}
-use lib.ListN.{length}
-use borrow.Author.Needs.{needs}
+use Rattle.laws.proofs.Kit.{ℕ, _-_, _≡_, refl, sym, _∙_, Bool, List, _++_, length, arith, needs}
 use borrow.Rule.Slice.PartMut.{mid-len}
 use Rattle.laws.specs.Rows.{first}
 use Rattle.laws.proofs.Nexts.{above, below, onward}

@@ -1,11 +1,9 @@
 -- SPDX-License-Identifier: MPL-2.0
 -- Keys and vector are the definition's, so what is judged and written is the opened sealed part.
-use mathlib.Core.Path.{_≡_, refl, sym, _∙_}
-use borrow.Author.Tests.{lt-ltb, le-ltb, le-leb}
+use Rattle.laws.proofs.Kit.{_≡_, refl, sym, _∙_, lt-ltb, le-ltb, le-leb, needs}
 use Rattle.aes.specs.Cbc.{cbcDecrypt}
 use Rattle.aes.proofs.Chain.{cbcDecrypt-length}
 use Rattle.seal.specs.Opening.{plainOf, partRefusal, partInto, intoUnless}
-use borrow.Author.Needs.{needs}
 use Rattle.seal.proofs.opening.open_part.Statement.{statement}
 use Rattle.seal.proofs.opening.open_part.Tie as tie
 

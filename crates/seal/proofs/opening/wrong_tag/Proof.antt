@@ -1,8 +1,8 @@
 -- SPDX-License-Identifier: MPL-2.0
 -- The tag of the body, against the message's last bytes.
+use Rattle.laws.proofs.Kit.{needs}
 use native.Mathlib.Nat.{sub-zero}
 use Rattle.laws.proofs.Lists.{part-from}
-use borrow.Author.Needs.{needs}
 use Rattle.seal.proofs.opening.wrong_tag.Statement.{statement}
 use Rattle.seal.proofs.opening.wrong_tag.Tie as tie
 

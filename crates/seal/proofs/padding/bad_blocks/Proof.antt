@@ -1,10 +1,7 @@
 -- SPDX-License-Identifier: MPL-2.0
 -- The size that stands there, its padding and the last block's end are what `badBlocks` asks for.
-use Prim.Native.Nat.{_-_}
-use mathlib.Core.Path.{_≡_}
-use native.Mathlib.Omega.{arith}
+use Rattle.laws.proofs.Kit.{_-_, _≡_, arith, needs}
 use Rattle.seal.specs.Padding.{paddingBytes, badBlocks}
-use borrow.Author.Needs.{needs}
 use Rattle.seal.proofs.padding.bad_blocks.Statement.{statement}
 use Rattle.seal.proofs.padding.bad_blocks.Tie as tie
 

@@ -1,11 +1,6 @@
 -- SPDX-License-Identifier: MPL-2.0
 -- Going down from the block's end, the bytes looked at are `drop i block`: one byte more is one `∷` more on both sides of `same`.
-use mathlib.Core.Path.{_≡_}
-use mathlib.Core.Bool.{not}
-use Prim.Native.Nat.{_≤_, _-_}
-use native.Mathlib.Omega.{arith}
-use borrow.Author.Needs.{needs}
-use lib.ListN.{length, drop, replicate, drop-of-length-le}
+use Rattle.laws.proofs.Kit.{_-_, _≤_, _≡_, not, length, drop, replicate, drop-of-length-le, arith, needs}
 use Rattle.laws.specs.Same.{same}
 use Rattle.seal.proofs.Ends.{end-more}
 use Rattle.seal.proofs.padding.differs.Statement.{statement}

@@ -1,9 +1,7 @@
 -- SPDX-License-Identifier: MPL-2.0
 -- The code is the definition, and a remainder by 16 is below 16.
-use native.Mathlib.Omega.{arith}
-use mathlib.Core.Path.{refl}
+use Rattle.laws.proofs.Kit.{refl, arith, needs}
 use Rattle.seal.specs.Padding.{padding}
-use borrow.Author.Needs.{needs}
 use Rattle.seal.proofs.padding.padding.Statement.{statement}
 use Rattle.seal.proofs.padding.padding.Tie as tie
 

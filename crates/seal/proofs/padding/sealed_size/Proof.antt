@@ -1,7 +1,7 @@
 -- SPDX-License-Identifier: MPL-2.0
 -- Size, payload and padding.
 use Rattle.seal.specs.Padding.{sealedSize}
-use borrow.Author.Needs.{needs}
+use Rattle.laws.proofs.Kit.{needs}
 use Rattle.seal.proofs.padding.sealed_size.Statement.{statement}
 use Rattle.seal.proofs.padding.sealed_size.Tie as tie
 

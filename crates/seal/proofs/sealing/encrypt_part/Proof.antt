@@ -1,8 +1,7 @@
 -- SPDX-License-Identifier: MPL-2.0
 -- The plain text is whole blocks, so it is encrypted where it stands.
-use mathlib.Core.Path.{_∙_}
+use Rattle.laws.proofs.Kit.{_∙_, needs}
 use Rattle.seal.proofs.Padded.{plainText-blocks}
-use borrow.Author.Needs.{needs}
 use Rattle.seal.proofs.sealing.encrypt_part.Statement.{statement}
 use Rattle.seal.proofs.sealing.encrypt_part.Tie as tie
 

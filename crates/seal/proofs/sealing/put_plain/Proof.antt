@@ -1,13 +1,9 @@
 -- SPDX-License-Identifier: MPL-2.0
 -- Three runs one after the other fill the room.
-use Prim.Native.Nat.{_+_}
-use mathlib.Core.Path.{refl, _∙_}
-use native.Mathlib.Omega.{arith}
-use lib.ListN.{length, replicate, length-append}
+use Rattle.laws.proofs.Kit.{_+_, refl, _∙_, length, replicate, length-append, arith, needs}
 use Rattle.laws.specs.Bytes.{bytes32}
 use Rattle.laws.proofs.Stores.{run, then}
 use Rattle.seal.proofs.Filling.{plain-stored}
-use borrow.Author.Needs.{needs}
 use Rattle.seal.proofs.sealing.put_plain.Statement.{statement}
 use Rattle.seal.proofs.sealing.put_plain.Tie as tie
 

@@ -1,7 +1,7 @@
 -- SPDX-License-Identifier: MPL-2.0
 -- The tag of what stands before it.
+use Rattle.laws.proofs.Kit.{needs}
 use native.Mathlib.Nat.{sub-zero}
-use borrow.Author.Needs.{needs}
 use Rattle.seal.proofs.sealing.put_tag.Statement.{statement}
 use Rattle.seal.proofs.sealing.put_tag.Tie as tie
 

@@ -1,11 +1,6 @@
 -- SPDX-License-Identifier: MPL-2.0
 -- The room is judged where the rows above it leave a sum that fits.
-use Prim.Native.Nat.{ℕ, _+_, _≤_}
-use mathlib.Core.Bool.{Bool}
-use mathlib.Core.List.{List}
-use mathlib.Core.Path.{refl, sym, _∙_}
-use native.Mathlib.Omega.{arith}
-use borrow.Author.Tests.{ltb-false}
+use Rattle.laws.proofs.Kit.{ℕ, _+_, _≤_, refl, sym, _∙_, Bool, List, ltb-false, arith}
 use Rattle.laws.proofs.Firsts.{row-false}
 use Rattle.laws.proofs.Nexts.{above, below}
 use Rattle.wire.specs.Refusals.{wrongLength}

@@ -1,12 +1,8 @@
 -- SPDX-License-Identifier: MPL-2.0
 -- The part is encrypted in its room and the tag put after it, where none of the rows applies.
-use Prim.Native.Nat.{ℕ, _+_}
-use mathlib.Core.Path.{_∙_, sym, ap}
-use native.Mathlib.Omega.{arith}
+use Rattle.laws.proofs.Kit.{ℕ, _+_, sym, _∙_, ap, length, arith, needs}
 use borrow.Rule.Slice.PartMut.{mid-len}
-use lib.ListN.{length}
 use Rattle.seal.proofs.Seals.{Fit, fit, refused-into, sealed-into}
-use borrow.Author.Needs.{needs}
 use Rattle.seal.proofs.sealing.seal.Statement.{statement}
 use Rattle.seal.proofs.sealing.seal.Tie as tie
 

@@ -1,12 +1,6 @@
 -- SPDX-License-Identifier: MPL-2.0
 -- A start or a size past 65,535 makes the message too long.
-use Prim.Native.Nat.{ℕ, _+_, _<_}
-use mathlib.Core.Bool.{true}
-use mathlib.Core.Path.{_≡_, sym}
-use native.Mathlib.Omega.{arith}
-use borrow.Author.Needs.{needs}
-use borrow.Author.Tests.{lt-ltb}
-use lib.Dec.{ltb}
+use Rattle.laws.proofs.Kit.{ℕ, _+_, _<_, _≡_, sym, true, ltb, lt-ltb, arith, needs}
 use Rattle.seal.specs.Padding.{sealedSize}
 use Rattle.seal.proofs.Padded.{sizes}
 use Rattle.seal.proofs.sealing.too_long.Statement.{statement}

@@ -1,6 +1,6 @@
 -- SPDX-License-Identifier: MPL-2.0
 -- The words that were loaded are the block's.
-use borrow.Author.Needs.{needs}
+use Rattle.laws.proofs.Kit.{needs}
 use Rattle.sha256.specs.Digests.{afterBlock}
 use Rattle.sha256.proofs.block.absorb_block.Statement.{statement}
 use Rattle.sha256.proofs.block.absorb_block.Tie as tie

@@ -1,10 +1,6 @@
 -- SPDX-License-Identifier: MPL-2.0
 -- The invariant: the first n words are loaded.
-use mathlib.Core.Path.{_≡_}
-use Prim.Native.Nat.{_≤_, _-_}
-use native.Mathlib.Omega.{arith}
-use lib.ListN.{length, take}
-use borrow.Author.Needs.{needs}
+use Rattle.laws.proofs.Kit.{_-_, _≤_, _≡_, length, take, arith, needs}
 use Rattle.sha256.specs.Digests.{words}
 use Rattle.sha256.proofs.Hashing.{words-more}
 use Rattle.sha256.proofs.block.load.Statement.{statement}

@@ -1,7 +1,6 @@
 -- SPDX-License-Identifier: MPL-2.0
 -- The key copied over zeros.
-use native.Mathlib.Omega.{arith}
-use borrow.Author.Needs.{needs}
+use Rattle.laws.proofs.Kit.{arith, needs}
 use Rattle.sha256.proofs.Keys.{filled-by}
 use Rattle.sha256.proofs.key.filled.Statement.{statement}
 use Rattle.sha256.proofs.key.filled.Tie as tie

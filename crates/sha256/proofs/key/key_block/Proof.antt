@@ -1,7 +1,6 @@
 -- SPDX-License-Identifier: MPL-2.0
 -- By the key's length.
-use borrow.Author.Tests.{lt-ltb, le-ltb}
-use borrow.Author.Needs.{needs}
+use Rattle.laws.proofs.Kit.{lt-ltb, le-ltb, needs}
 use Rattle.sha256.specs.Macs.{filled, keyBlock}
 use Rattle.sha256.proofs.key.key_block.Statement.{statement}
 use Rattle.sha256.proofs.key.key_block.Tie as tie

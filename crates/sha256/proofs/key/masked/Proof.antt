@@ -1,11 +1,6 @@
 -- SPDX-License-Identifier: MPL-2.0
 -- The invariant: the bytes passed are masked.
-use mathlib.Core.Path.{_≡_}
-use Prim.Native.Nat.{_≤_, _-_}
-use native.Mathlib.Omega.{arith}
-use lib.ListN.{length, take}
-use lib.Seq.{take-all}
-use borrow.Author.Needs.{needs}
+use Rattle.laws.proofs.Kit.{_-_, _≤_, _≡_, length, take, take-all, arith, needs}
 use Rattle.sha256.specs.Macs.{masked}
 use Rattle.sha256.proofs.Keys.{masked-more}
 use Rattle.sha256.proofs.key.masked.Statement.{statement}

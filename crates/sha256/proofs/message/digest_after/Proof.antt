@@ -1,8 +1,6 @@
 -- SPDX-License-Identifier: MPL-2.0
 -- From the hash value after the block the parts are hashed as if they stood after it.
-use native.Mathlib.Omega.{arith}
-use borrow.Author.Tests.{ltb-true}
-use borrow.Author.Needs.{needs}
+use Rattle.laws.proofs.Kit.{ltb-true, arith, needs}
 use Rattle.sha256.specs.Digests.{H0}
 use Rattle.sha256.proofs.Hashing.{hashed-after}
 use Rattle.sha256.proofs.Digesting.{digest-by, digest-none}

@@ -1,9 +1,6 @@
 -- SPDX-License-Identifier: MPL-2.0
 -- A message that has a digest is hashed with its padding; another gives zeros.
-use mathlib.Core.Path.{refl}
-use mathlib.Core.List.{[]}
-use borrow.Author.Tests.{ltb-true}
-use borrow.Author.Needs.{needs}
+use Rattle.laws.proofs.Kit.{refl, [], ltb-true, needs}
 use Rattle.sha256.proofs.Digesting.{digest-by, digest-none}
 use Rattle.sha256.proofs.message.digest_from.Statement.{statement}
 use Rattle.sha256.proofs.message.digest_from.Tie as tie

@@ -1,9 +1,7 @@
 -- SPDX-License-Identifier: MPL-2.0
 -- The padding is a fourth part after the three.
-use Prim.Native.Nat.{_-_}
+use Rattle.laws.proofs.Kit.{_-_, append-assoc, needs}
 use native.Mathlib.Nat.{sub-zero}
-use mathlib.Core.List.{append-assoc}
-use borrow.Author.Needs.{needs}
 use Rattle.sha256.proofs.message.finish.Statement.{statement}
 use Rattle.sha256.proofs.message.finish.Tie as tie
 

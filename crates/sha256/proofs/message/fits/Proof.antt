@@ -1,10 +1,6 @@
 -- SPDX-License-Identifier: MPL-2.0
 -- A part that is too long by itself makes the sum too large.
-use mathlib.Core.Path.{sym}
-use Prim.Native.Nat.{ℕ, _+_, _^_}
-use native.Mathlib.Omega.{arith}
-use borrow.Author.Tests.{le-ltb}
-use borrow.Author.Needs.{needs}
+use Rattle.laws.proofs.Kit.{ℕ, _+_, _^_, sym, le-ltb, arith, needs}
 use Rattle.sha256.proofs.Digesting.{count}
 use Rattle.sha256.proofs.message.fits.Statement.{statement}
 use Rattle.sha256.proofs.message.fits.Tie as tie

@@ -1,6 +1,6 @@
 -- SPDX-License-Identifier: MPL-2.0
 -- The eight words are the definition's.
-use mathlib.Core.Path.{refl}
+use Rattle.laws.proofs.Kit.{refl}
 use Rattle.sha256.specs.Digests.{H0}
 use Rattle.sha256.proofs.message.initial.Statement.{statement}
 use Rattle.sha256.proofs.message.initial.Tie as tie

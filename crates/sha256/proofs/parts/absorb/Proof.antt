@@ -1,6 +1,6 @@
 -- SPDX-License-Identifier: MPL-2.0
 -- The block has the message's sixty-four bytes, where it stands or laid out of the parts.
-use borrow.Author.Needs.{needs}
+use Rattle.laws.proofs.Kit.{needs}
 use Rattle.sha256.proofs.parts.absorb.Statement.{statement}
 use Rattle.sha256.proofs.parts.absorb.Tie as tie
 

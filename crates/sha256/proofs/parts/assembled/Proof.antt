@@ -1,10 +1,6 @@
 -- SPDX-License-Identifier: MPL-2.0
 -- Zeros are the block of no message; each part laid makes it the block of the parts so far.
-use mathlib.Core.Path.{refl}
-use mathlib.Core.List.{[], _++_, append-assoc}
-use native.Mathlib.Omega.{arith}
-use lib.ListN.{length-append}
-use borrow.Author.Needs.{needs}
+use Rattle.laws.proofs.Kit.{refl, [], _++_, append-assoc, length-append, arith, needs}
 use Rattle.sha256.proofs.Laying.{no-message}
 use Rattle.sha256.proofs.parts.assembled.Statement.{statement}
 use Rattle.sha256.proofs.parts.assembled.Tie as tie

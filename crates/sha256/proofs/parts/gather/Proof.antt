@@ -1,8 +1,6 @@
 -- SPDX-License-Identifier: MPL-2.0
 -- A part that lies outside the block changes nothing; else the places laid are those that part and block have in common.
-use mathlib.Core.Path.{_∙_}
-use native.Mathlib.Omega.{arith}
-use borrow.Author.Needs.{needs}
+use Rattle.laws.proofs.Kit.{_∙_, arith, needs}
 use Rattle.sha256.proofs.Laying.{laid-none}
 use Rattle.sha256.proofs.parts.gather.Statement.{statement}
 use Rattle.sha256.proofs.parts.gather.Tie as tie

@@ -1,11 +1,6 @@
 -- SPDX-License-Identifier: MPL-2.0
 -- The invariant: n blocks of the message are hashed.
-use mathlib.Core.Path.{_≡_}
-use mathlib.Core.List.{_++_}
-use Prim.Native.Nat.{_≤_, _-_, _/_}
-use native.Mathlib.Omega.{arith}
-use lib.ListN.{length, length-append}
-use borrow.Author.Needs.{needs}
+use Rattle.laws.proofs.Kit.{_-_, _/_, _≤_, _≡_, _++_, length, length-append, arith, needs}
 use Rattle.sha256.specs.Digests.{blocks, hashed}
 use Rattle.sha256.proofs.Hashing.{blocks-more}
 use Rattle.sha256.proofs.parts.hash.Statement.{statement}

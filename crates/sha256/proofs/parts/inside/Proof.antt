@@ -1,7 +1,6 @@
 -- SPDX-License-Identifier: MPL-2.0
 -- Sixty-four bytes are handed out only where the block lies in the part.
-use native.Mathlib.Omega.{arith}
-use borrow.Author.Needs.{needs}
+use Rattle.laws.proofs.Kit.{arith, needs}
 use Rattle.sha256.proofs.Laying.{in-part}
 use Rattle.sha256.proofs.parts.inside.Statement.{statement}
 use Rattle.sha256.proofs.parts.inside.Tie as tie

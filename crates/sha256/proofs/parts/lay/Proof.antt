@@ -1,11 +1,6 @@
 -- SPDX-License-Identifier: MPL-2.0
 -- The invariant: the block has the bytes of the message so far, up to the place that comes next.
-use mathlib.Core.Path.{_≡_, _∙_}
-use mathlib.Core.List.{List, _++_}
-use Prim.Native.Nat.{ℕ, _≤_, _-_}
-use native.Mathlib.Omega.{arith}
-use lib.ListN.{length, take}
-use borrow.Author.Needs.{needs}
+use Rattle.laws.proofs.Kit.{ℕ, _-_, _≤_, _≡_, _∙_, List, _++_, length, take, arith, needs}
 use Rattle.laws.specs.Bytes.{bytesAt}
 use Rattle.sha256.proofs.Laying.{laid-first, laid-more, laid-last}
 use Rattle.sha256.proofs.parts.lay.Statement.{statement}

@@ -1,9 +1,6 @@
 -- SPDX-License-Identifier: MPL-2.0
 -- Each of the two parts with what stands before and after it is the message.
-use mathlib.Core.List.{[], _++_, append-assoc, append-nil}
-use native.Mathlib.Omega.{arith}
-use lib.ListN.{length-append}
-use borrow.Author.Needs.{needs}
+use Rattle.laws.proofs.Kit.{[], _++_, append-nil, append-assoc, length-append, arith, needs}
 use Rattle.sha256.proofs.parts.standing.Statement.{statement}
 use Rattle.sha256.proofs.parts.standing.Tie as tie
 

@@ -1,6 +1,6 @@
 -- SPDX-License-Identifier: MPL-2.0
 -- Eight runs of four fill the thirty-two bytes.
-use borrow.Author.Needs.{needs}
+use Rattle.laws.proofs.Kit.{needs}
 use Rattle.sha256.specs.Digests.{bytesOf}
 use Rattle.sha256.proofs.store.bytes_of.Statement.{statement}
 use Rattle.sha256.proofs.store.bytes_of.Tie as tie

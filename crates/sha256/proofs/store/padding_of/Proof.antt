@@ -1,8 +1,6 @@
 -- SPDX-License-Identifier: MPL-2.0
 -- The byte 0x80, zeros that were there, and eight bytes stored after them.
-use mathlib.Core.Path.{refl}
-use native.Mathlib.Omega.{arith}
-use borrow.Author.Needs.{needs}
+use Rattle.laws.proofs.Kit.{refl, arith, needs}
 use Rattle.sha256.specs.Digests.{padding}
 use Rattle.sha256.proofs.Stores.{padding-by}
 use Rattle.sha256.proofs.store.padding_of.Statement.{statement}

@@ -1,9 +1,6 @@
 -- SPDX-License-Identifier: MPL-2.0
 -- The part that was lent comes back with the word's bytes over its first ones.
-use mathlib.Core.Path.{_∙_, ap}
-use native.Mathlib.Omega.{arith}
-use lib.Seq.{sets}
-use borrow.Author.Needs.{needs}
+use Rattle.laws.proofs.Kit.{_∙_, ap, sets, arith, needs}
 use Rattle.laws.proofs.Lent.{lent-stores}
 use Rattle.sha256.proofs.store.put32.Statement.{statement}
 use Rattle.sha256.proofs.store.put32.Tie as tie

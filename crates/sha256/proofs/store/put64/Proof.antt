@@ -1,8 +1,6 @@
 -- SPDX-License-Identifier: MPL-2.0
 -- Two runs of four, one after the other, are a run of eight.
-use Prim.Native.Nat.{_/_, _%_}
-use native.Mathlib.Omega.{arith}
-use borrow.Author.Needs.{needs}
+use Rattle.laws.proofs.Kit.{_/_, _%_, arith, needs}
 use Rattle.laws.specs.Bytes.{bytes32}
 use Rattle.laws.proofs.Stores.{stored-twice}
 use Rattle.sha256.proofs.store.put64.Statement.{statement}

@@ -1,12 +1,6 @@
 -- SPDX-License-Identifier: MPL-2.0
 -- The invariant: no bit is set exactly where the bytes passed are the same.
-use mathlib.Core.Path.{_≡_}
-use Prim.Native.Nat.{_≤_, _-_}
-use native.Mathlib.Omega.{arith}
-use lib.Dec.{eqb}
-use lib.ListN.{take}
-use lib.Seq.{take-all}
-use borrow.Author.Needs.{needs}
+use Rattle.laws.proofs.Kit.{_-_, _≤_, _≡_, take, take-all, eqb, arith, needs}
 use Rattle.laws.specs.Same.{same}
 use Rattle.sha256.proofs.Tags.{differ-more}
 use Rattle.sha256.proofs.tag.differences.Statement.{statement}

@@ -1,10 +1,7 @@
 -- SPDX-License-Identifier: MPL-2.0
 -- By the entry at the start: each case is a law of `chain`. The bytes that are left fall.
-use lib.ListN.{length}
-use borrow.Author.Needs.{needs}
-use native.Mathlib.Omega.{arith}
+use Rattle.laws.proofs.Kit.{ℕ, _<_, length, arith, needs}
 use Rattle.wire.proofs.Chains.{walk-wrong, walk-end, walk-full, walk-on, end-fits, span-fits, span-less}
-use Prim.Native.Nat.{ℕ, _<_}
 use borrow.Fn.Kinds.{In}
 use borrow.Fn.PlainCycle.{Measures, is, falls, and}
 use Rattle.wire.proofs.chain.walk.Reads as walk

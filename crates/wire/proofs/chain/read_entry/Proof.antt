@@ -1,9 +1,8 @@
 -- SPDX-License-Identifier: MPL-2.0
 -- Test by test, as the definition.
 use Rattle.laws.proofs.Tests.{tests}
-use native.Mathlib.Omega.{arith}
+use Rattle.laws.proofs.Kit.{arith, needs}
 use Rattle.wire.specs.Chain.{entryOf}
-use borrow.Author.Needs.{needs}
 use Rattle.wire.proofs.chain.read_entry.Statement.{statement}
 use Rattle.wire.proofs.chain.read_entry.Tie as tie
 

@@ -1,6 +1,6 @@
 -- SPDX-License-Identifier: MPL-2.0
 -- The code is the definition.
-use mathlib.Core.Path.{refl}
+use Rattle.laws.proofs.Kit.{refl}
 use Rattle.wire.specs.Fields.{badPiece, mostPieces}
 use Rattle.wire.proofs.header.bad_piece.Statement.{statement}
 use Rattle.wire.proofs.header.bad_piece.Tie as tie

@@ -1,6 +1,6 @@
 -- SPDX-License-Identifier: MPL-2.0
 -- The code is the definition.
-use mathlib.Core.Path.{refl}
+use Rattle.laws.proofs.Kit.{refl}
 use Rattle.wire.specs.Fields.{badType}
 use Rattle.wire.proofs.header.bad_type.Statement.{statement}
 use Rattle.wire.proofs.header.bad_type.Tie as tie

@@ -1,9 +1,8 @@
 -- SPDX-License-Identifier: MPL-2.0
 -- The room is the part of the message from the fixed header to the tag.
-use mathlib.Core.Path.{sym}
+use Rattle.laws.proofs.Kit.{sym, needs}
 use Rattle.wire.proofs.Chains.{no-room}
 use Rattle.wire.specs.Reader.{roomOf}
-use borrow.Author.Needs.{needs}
 use Rattle.wire.proofs.header.chain_of.Statement.{statement}
 use Rattle.wire.proofs.header.chain_of.Tie as tie
 

@@ -1,6 +1,6 @@
 -- SPDX-License-Identifier: MPL-2.0
 -- The rows from the top are the table.
-use mathlib.Core.Path.{refl}
+use Rattle.laws.proofs.Kit.{refl}
 use Rattle.laws.proofs.Nexts.{down-first}
 use Rattle.wire.specs.Reader.{headerRows}
 use Rattle.wire.proofs.header.judge.Statement.{statement}

@@ -1,8 +1,6 @@
 -- SPDX-License-Identifier: MPL-2.0
 -- Each call answers its part of the definition. A message that is not refused has room for its tag and for what its chain leaves.
-use native.Mathlib.Omega.{arith}
-use Prim.Native.Nat.{_+_, _≤_}
-use lib.ListN.{length}
+use Rattle.laws.proofs.Kit.{_+_, _≤_, length, arith}
 use Rattle.wire.specs.Chain.{leaves}
 use Rattle.wire.proofs.Sound.{small-tag, refused, fits, accepted}
 use Rattle.wire.proofs.header.read_header.Statement.{statement}

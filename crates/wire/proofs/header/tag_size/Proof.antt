@@ -1,8 +1,7 @@
 -- SPDX-License-Identifier: MPL-2.0
 -- The code is the definition.
-use mathlib.Core.Path.{refl}
+use Rattle.laws.proofs.Kit.{refl, needs}
 use Rattle.wire.specs.Fields.{tagSize}
-use borrow.Author.Needs.{needs}
 use Rattle.wire.proofs.header.tag_size.Statement.{statement}
 use Rattle.wire.proofs.header.tag_size.Tie as tie
 

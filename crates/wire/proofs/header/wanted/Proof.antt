@@ -2,7 +2,7 @@
 -- By the test.
 use Rattle.laws.proofs.Tests.{tests}
 use Rattle.wire.specs.Reader.{wanted}
-use borrow.Author.Needs.{needs}
+use Rattle.laws.proofs.Kit.{needs}
 use Rattle.wire.proofs.header.wanted.Statement.{statement}
 use Rattle.wire.proofs.header.wanted.Tie as tie
 

@@ -1,10 +1,8 @@
 -- SPDX-License-Identifier: MPL-2.0
 -- Eleven stores, each where the one before it ends: one run. The names are those of the fields.
-use mathlib.Core.Path.{refl, ap, _∙_}
-use mathlib.Core.List.{[], _∷_}
+use Rattle.laws.proofs.Kit.{refl, _∙_, ap, [], _∷_, length}
 use Rattle.laws.specs.Bytes.{bytes16, bytes32, bytes64}
 use Rattle.laws.proofs.Stores.{run, then}
-use lib.ListN.{length}
 use lib.Seq.{length-sets}
 use Rattle.writer.specs.Header.{headerBytes}
 use Rattle.writer.proofs.header.put_header.Statement.{statement}

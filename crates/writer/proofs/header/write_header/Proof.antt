@@ -1,9 +1,8 @@
 -- SPDX-License-Identifier: MPL-2.0
 -- Refused, or one run of stores from the start of the output.
-use mathlib.Core.Path.{refl}
+use Rattle.laws.proofs.Kit.{refl, needs}
 use Rattle.writer.proofs.Writing.{refused, wrote}
 use Rattle.writer.specs.Header.{headerBytes}
-use borrow.Author.Needs.{needs}
 use Rattle.writer.proofs.header.write_header.Statement.{statement}
 use Rattle.writer.proofs.header.write_header.Tie as tie
 

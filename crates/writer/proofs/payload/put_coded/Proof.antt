@@ -1,6 +1,6 @@
 -- SPDX-License-Identifier: MPL-2.0
 -- Three stores, each where the one before it ends.
-use borrow.Author.Needs.{needs}
+use Rattle.laws.proofs.Kit.{needs}
 use Rattle.writer.proofs.payload.put_coded.Statement.{statement}
 use Rattle.writer.proofs.payload.put_coded.Tie as tie
 

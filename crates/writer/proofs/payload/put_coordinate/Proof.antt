@@ -1,7 +1,7 @@
 -- SPDX-License-Identifier: MPL-2.0
 -- Two stores, the second where the first ends.
+use Rattle.laws.proofs.Kit.{needs}
 use native.Mathlib.Numerals.{add-two}
-use borrow.Author.Needs.{needs}
 use Rattle.writer.proofs.payload.put_coordinate.Statement.{statement}
 use Rattle.writer.proofs.payload.put_coordinate.Tie as tie
 

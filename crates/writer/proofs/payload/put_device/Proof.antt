@@ -1,14 +1,9 @@
 -- SPDX-License-Identifier: MPL-2.0
 -- Five runs, each where the one before it ends.
-use mathlib.Core.Path.{refl}
-use native.Mathlib.Omega.{arith}
-use Prim.Native.Nat.{_+_}
-use mathlib.Core.List.{[], _∷_, _++_}
-use lib.ListN.{length, length-append}
+use Rattle.laws.proofs.Kit.{_+_, refl, [], _∷_, _++_, length, length-append, arith, needs}
 use Rattle.laws.specs.Bytes.{bytes16}
 use Rattle.laws.proofs.Stores.{run, then}
 use Rattle.writer.specs.Payload.{deviceAuthentication}
-use borrow.Author.Needs.{needs}
 use Rattle.writer.proofs.payload.put_device.Statement.{statement}
 use Rattle.writer.proofs.payload.put_device.Tie as tie
 

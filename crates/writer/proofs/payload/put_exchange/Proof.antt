@@ -1,12 +1,9 @@
 -- SPDX-License-Identifier: MPL-2.0
 -- Five runs, each where the one before it ends.
-use mathlib.Core.Path.{refl}
-use native.Mathlib.Omega.{arith}
-use lib.ListN.{length-append}
+use Rattle.laws.proofs.Kit.{refl, length-append, arith, needs}
 use Rattle.laws.specs.Bytes.{bytes16, bytes32}
 use Rattle.laws.proofs.Stores.{run, then}
 use Rattle.writer.specs.Payload.{exchangeBytes}
-use borrow.Author.Needs.{needs}
 use Rattle.writer.proofs.payload.put_exchange.Statement.{statement}
 use Rattle.writer.proofs.payload.put_exchange.Tie as tie
 

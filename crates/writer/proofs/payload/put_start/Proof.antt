@@ -1,6 +1,6 @@
 -- SPDX-License-Identifier: MPL-2.0
 -- Two stores, the second where the first ends.
-use borrow.Author.Needs.{needs}
+use Rattle.laws.proofs.Kit.{needs}
 use Rattle.writer.proofs.payload.put_start.Statement.{statement}
 use Rattle.writer.proofs.payload.put_start.Tie as tie
 

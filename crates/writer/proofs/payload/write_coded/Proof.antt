@@ -1,8 +1,7 @@
 -- SPDX-License-Identifier: MPL-2.0
 -- Refused, or one run of stores from the start of the output.
-use mathlib.Core.Path.{refl}
+use Rattle.laws.proofs.Kit.{refl, needs}
 use Rattle.writer.proofs.Writing.{refused, wrote}
-use borrow.Author.Needs.{needs}
 use Rattle.writer.proofs.payload.write_coded.Statement.{statement}
 use Rattle.writer.proofs.payload.write_coded.Tie as tie
 

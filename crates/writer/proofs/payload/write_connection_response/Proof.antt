@@ -1,9 +1,8 @@
 -- SPDX-License-Identifier: MPL-2.0
 -- By the Result: one that is Pending is an exchange, another is 4 bytes.
-use borrow.Author.Tests.{ne-eqb}
+use Rattle.laws.proofs.Kit.{ne-eqb, needs}
 use Rattle.laws.proofs.Bools.{or-none}
 use Rattle.writer.specs.Payload.{responseSize, connectionResponse}
-use borrow.Author.Needs.{needs}
 use Rattle.writer.proofs.payload.write_connection_response.Statement.{statement}
 use Rattle.writer.proofs.payload.write_connection_response.Tie as tie
 

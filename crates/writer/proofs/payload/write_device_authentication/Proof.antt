@@ -1,12 +1,8 @@
 -- SPDX-License-Identifier: MPL-2.0
 -- Refused by the first test or the second, or one run of stores from the start of the output.
-use Prim.Native.Nat.{_≤_}
-use mathlib.Core.Path.{refl}
-use lib.ListN.{length}
-use native.Mathlib.Omega.{arith}
+use Rattle.laws.proofs.Kit.{_≤_, refl, length, arith, needs}
 use Rattle.writer.proofs.Payloads.{length-device, device}
 use Rattle.writer.proofs.Writing.{told-bad, told-short, told-none, refused, wrote}
-use borrow.Author.Needs.{needs}
 use Rattle.writer.proofs.payload.write_device_authentication.Statement.{statement}
 use Rattle.writer.proofs.payload.write_device_authentication.Tie as tie
 

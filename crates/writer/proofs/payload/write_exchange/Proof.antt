@@ -1,8 +1,7 @@
 -- SPDX-License-Identifier: MPL-2.0
 -- Refused, or one run of stores from the start of the output.
-use native.Mathlib.Omega.{arith}
+use Rattle.laws.proofs.Kit.{arith, needs}
 use Rattle.writer.proofs.Writing.{refused, wrote}
-use borrow.Author.Needs.{needs}
 use Rattle.writer.proofs.payload.write_exchange.Statement.{statement}
 use Rattle.writer.proofs.payload.write_exchange.Tie as tie
 
