@@ -41,8 +41,10 @@ reads-back h chain bytes keys message w working room =
       sealed = true;
       from = 4;
       size = length bytes;
-      reads = read-sealed h chain bytes keys (length working) (length (w .output)) good s (w .of-keys) (w .of-chain) (w .of-payload) (w .widths) (room s);
-      handed = handed-sealed h chain bytes keys working (length (w .output)) good s (w .of-keys) (w .of-chain) (w .of-payload) (w .widths) (room s);
+      reads = read-sealed h chain bytes keys (length working) (length (w .output)) good s (w .of-keys) (w .of-chain) (w .of-payload)
+          (w .widths) (room s);
+      handed = handed-sealed h chain bytes keys working (length (w .output)) good s (w .of-keys) (w .of-chain) (w .of-payload)
+          (w .widths) (room s);
     })
     (λ s.
     record {
