@@ -1,6 +1,7 @@
 -- SPDX-License-Identifier: MPL-2.0
 -- Buffers that have their sizes, and what the calls over them come to, as laws over numbers and lists.
-use Rattle.laws.proofs.Kit.{ℕ, _*_, _≡_, refl, sym, _∙_, ap, Bool, false, not, _||_, List, [], _∷_, length, eqb, eq-eqb, ne-eqb, eqb-true, not-false}
+use Rattle.laws.proofs.Kit.{ℕ, _*_, _≡_, refl, sym, _∙_, ap, Bool, false, not, _||_, List, [], _∷_, length, sets, eqb, eq-eqb, ne-eqb, eqb-true}
+use Rattle.laws.proofs.Kit.{not-false}
 use Rattle.laws.specs.Bytes.{be16}
 use Rattle.laws.proofs.Bools.{or-false}
 use Rattle.wire.specs.Reader.{readHeader}
@@ -9,6 +10,7 @@ use Rattle.wire.specs.declared.header.HeaderRead.the-variants.{Refused, Read}
 use Rattle.wire.proofs.Sound.{read-sound}
 use Rattle.lines.specs.Listing.{headerLine, lineOf}
 use Rattle.joining.specs.Cut.{cutRefusal, cutCount, cutPiece}
+use Rattle.state.proofs.Listed.{sets-whole}
 use Rattle.hub_c.specs.Pieces.{cutWords}
 use Rattle.hub_c.specs.Line.{lineText}
 
@@ -27,6 +29,10 @@ module _ (a m b n : ℕ) where
   second-of-three t e = second-sized (or-false (not (eqb a m) || not (eqb b n)) t e .0)
 
 pub ruleset sizes = (first-sized, second-sized, second-of-three)
+
+-- Words stored over the whole of a buffer.
+pub stored-whole : (a l m : List ℕ) → length l ≡ length a → m ≡ sets l 0 a → m ≡ a
+stored-whole a l m e p = p ∙ sets-whole a l e
 
 -- What is made of a value, where the value is known.
 pub told : {A B : Type 0} (f : A → B) (a b : A) (s : B) → a ≡ b → s ≡ f b → s ≡ f a

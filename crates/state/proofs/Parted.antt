@@ -43,7 +43,7 @@ stand-joined s p (x ∷ xs) w =
     rw (length-append x (joined xs), bytesAt-append s p (length x) (length (joined xs)), w .0, ← stand-joined s (p + length x) xs (w .1))
 
 -- A copy of the part `&s[p..p + n]` over the whole of an array of n holds the bytes there.
-pub copied-bytes : (n p : ℕ) (s target : List ℕ) → p + n ≤ length s → length target ≡ n
-    → take (length (take (p + n - p) (drop p s))) (take (p + n - p) (drop p s)) ++ drop (length (take (p + n - p) (drop p s))) target
-    ≡ bytesAt s p n
-copied-bytes n p s target h e = copied-part n p s target h e ∙ sym (bytesAt-part s p n h)
+pub copied-bytes : (n p : ℕ) (s target r : List ℕ) → p + n ≤ length s → length target ≡ n
+    → r ≡ take (length (take (p + n - p) (drop p s))) (take (p + n - p) (drop p s)) ++ drop (length (take (p + n - p) (drop p s))) target
+    → r ≡ bytesAt s p n
+copied-bytes n p s target r h e q = q ∙ copied-part n p s target h e ∙ sym (bytesAt-part s p n h)

@@ -132,6 +132,9 @@ sound-all m =
 pub read-sound : (m : List ℕ) (h : Header) (start size : ℕ) → readHeader m ≡ Read h start size → Sound m h start size
 read-sound m h start size r = rw r at (sound-all m)
 
+pub tag-small : (m : List ℕ) (h : Header) (tag : ℕ) → h ≡ headerOf m → tag ≡ tagSize (h .flags) → tag ≤ 32
+tag-small m h tag e t = rw (t, e) (small-tag m)
+
 -- The way through `read_header`: each call answers its part of the definition.
 module _ (m : List ℕ) (h : Header) (tag : ℕ) (k : Chain) (n : ℕ)
     (fields : h ≡ headerOf m) (tags : tag ≡ tagSize (h .flags)) (chains : k ≡ readChain (roomOf tag m)) (first : n ≡ refusalWith m h k) where
@@ -142,9 +145,15 @@ module _ (m : List ℕ) (h : Header) (tag : ℕ) (k : Chain) (n : ℕ)
   pub refused : (n ≡ 0 → ⊥) → Refused n ≡ readHeader m
   refused p = sym (read-refused m n told p)
 
-  pub fits : n ≡ 0 → leaves k + 42 + tag ≤ length m
+  fits : n ≡ 0 → leaves k + 42 + tag ≤ length m
   unfolding chainOf
   fits z = rw (chains, tags, fields) (room-left (tagSize (be16 m 6)) m (good m (sym told ∙ z) .chained))
+
+  pub tag-fits : n ≡ 0 → tag ≤ length m
+  tag-fits z = omega (arith, fits z)
+
+  pub rest-fits : n ≡ 0 → leaves k ≤ length m - tag
+  rest-fits z = omega (arith, fits z)
 
   pub accepted : n ≡ 0 → Read h (length m - tag - leaves k) (leaves k) ≡ readHeader m
   unfolding chainOf

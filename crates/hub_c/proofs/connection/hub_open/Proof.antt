@@ -5,13 +5,9 @@ use Rattle.wire.specs.Fields.{mostPieces}
 use Rattle.hub_c.proofs.connection.hub_open.Statement.{statement}
 use Rattle.hub_c.proofs.connection.hub_open.Tie as tie
 
-returns-2 : tie.Need-returns-2
-unfolding mostPieces
-returns-2 c =
-    let at-open : tie.After-open = search in
-    rw (eq-eqb _ _ (at-open .before .if1 .left), ← at-open .«open» .ensures) (refl, c .before .before .put-connection .ensures)
-
 pub hub-open-spec : {M : Type 1} → statement M
 unfolding mostPieces
 hub-open-spec =
-    tie.close (tie.spec (λ c. rw (ne-eqb _ _ (c .if1 .taken)) (refl, refl)) _ (λ c κs. search needs) (λ c. search needs) returns-2)
+    tie.close (tie.spec
+    (λ c. rw (ne-eqb _ _ (c .if1 .taken)) (refl, refl)) _ (λ c κs. search needs) (λ c. search needs)
+    (λ c. let at-open : tie.After-open = search in rw (eq-eqb _ _ (at-open .before .if1 .left), ← at-open .«open» .ensures) (refl, search)))

@@ -5,17 +5,11 @@ use Rattle.hub_c.specs.Answered.{stateAfter, answerAfter}
 use Rattle.hub_c.proofs.connection.settle.Statement.{statement}
 use Rattle.hub_c.proofs.connection.settle.Tie as tie
 
-returns-2 : tie.Need-returns-2
-unfolding stateAfter answerAfter
-returns-2 c =
-    let put : tie.After-put-connection = search in
-    let good : tie.Else1 = search in
-    rw (← good .before .before .said-of .ensures, eq-eqb _ _ (good .if1 .left))
-    (sym (good .if1 .left), (put .put-connection .ensures, c .before .before .put-triple .ensures))
-
 pub settle-spec : {M : Type 1} → statement M
 unfolding stateAfter answerAfter
 settle-spec =
     tie.close (tie.spec
     _ (λ c. rw (← c .before .before .said-of .ensures, ne-eqb _ _ (c .if1 .taken)) (refl, (refl, refl)))
-    (λ c κs. search needs) (λ c κs. search needs) (λ c. search needs) (λ c. search needs) returns-2)
+    (λ c κs. search needs) (λ c κs. search needs) (λ c. search needs) (λ c. search needs)
+    (λ c. let good : tie.Else1 = search in rw (← good .before .before .said-of .ensures, eq-eqb _ _ (good .if1 .left))
+    (sym (good .if1 .left), (search, search))))

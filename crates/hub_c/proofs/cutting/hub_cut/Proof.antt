@@ -6,9 +6,6 @@ use Rattle.laws.proofs.Kit.{refl, sym, _∙_, eq-eqb, ne-eqb, arith, needs}
 use Rattle.hub_c.proofs.cutting.hub_cut.Statement.{statement}
 use Rattle.hub_c.proofs.cutting.hub_cut.Tie as tie
 
-returns-2 : tie.Need-returns-2
-returns-2 c = let sized : tie.Else1 = search in rw (eq-eqb _ _ (sized .if1 .left)) (search, search cut-refused)
-
 returns-3 : tie.Need-returns-3
 returns-3 c =
     let cut : tie.After-cut = search in
@@ -18,6 +15,7 @@ returns-3 c =
 pub hub-cut-spec : {M : Type 1} → statement M
 hub-cut-spec =
     tie.close (tie.spec
-    (λ c. rw (ne-eqb _ _ (c .if1 .taken)) (refl, refl)) _ (λ c κs. search needs) (λ c. search needs) returns-2
+    (λ c. rw (ne-eqb _ _ (c .if1 .taken)) (refl, refl)) _ (λ c κs. search needs) (λ c. search needs)
+    (λ c. let sized : tie.Else1 = search in rw (eq-eqb _ _ (sized .if1 .left)) (search, search cut-refused))
     (λ c. omega (arith, cuttable _ _ _ (sym (c .before .before .cut .ensures .0) ∙ c .if2 .left) .within))
     _ (λ c κs. search needs) (λ c. search needs) returns-3)

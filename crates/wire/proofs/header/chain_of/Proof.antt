@@ -6,12 +6,9 @@ use Rattle.wire.specs.Reader.{roomOf}
 use Rattle.wire.proofs.header.chain_of.Statement.{statement}
 use Rattle.wire.proofs.header.chain_of.Tie as tie
 
-returns-2 : tie.Need-returns-2
-unfolding roomOf
-returns-2 c = c .read-chain .ensures
-
 pub chain-of-spec : {M : Type 1} → statement M
+unfolding roomOf
 chain-of-spec =
     tie.close (tie.spec
-    (λ c. search needs) (λ c. sym (no-room _ _ (c .if1 .taken))) (λ c. search needs) (λ c. search needs) (λ c. search needs) (λ c. search needs) _
-    returns-2)
+    (λ c. search needs) (λ c. sym (no-room (c .before .before .args .message .now) _ (c .if1 .taken))) (λ c. search needs) (λ c. search needs)
+    (λ c. search needs) (λ c. search needs) _ (λ c. c .read-chain .ensures))
