@@ -1,6 +1,6 @@
 /* SPDX-License-Identifier: MPL-2.0 */
 /* A plug-in of qemu's emulator: at the end it says how many instructions were executed. The declarations are those of qemu-plugin.h, which Debian
-   does not ship. */
+   does not ship, in the version of Debian 12's qemu (7.2). */
 #include <inttypes.h>
 #include <stdint.h>
 #include <stdio.h>

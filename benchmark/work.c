@@ -13,7 +13,8 @@ static const char *const names[] = {"encrypt", "decrypt", "digest", "hmac", "hea
 static uint8_t keys[KEYS], source[PIECES * LARGEST], target[MESSAGE], message[MESSAGE], working[MESSAGE], report[PIECES * LARGEST];
 static const struct fields sent = {0, 0, 2, SESSION, 7};
 
-static void call(enum operation operation, size_t n)
+/* Answers whether the call was refused. */
+static int call(enum operation operation, size_t n)
 {
     static uint64_t words[HUB_HEADER];
     struct fields read;
@@ -22,14 +23,15 @@ static void call(enum operation operation, size_t n)
     case DECRYPT: ours.peer->cbc_decrypt(keys, keys + 16, source, n, target); break;
     case DIGEST: ours.peer->sha256(source, n, target); break;
     case MAC: ours.peer->hmac(keys + 32, source, 0, source, n, target); break;
-    case READ_HEADER: (void)!hub_read_header(message, sealed_size(n), words, HUB_HEADER); break;
-    case LIST: (void)!hub_list(message, sealed_size(n), target, HUB_LINE, words, 1); break;
-    case SEAL: ours.seal(ours.peer, &sent, source, n, keys, target); break;
-    case OPEN: ours.open(ours.peer, message, sealed_size(n), keys, working, MESSAGE, &read); break;
-    case STEP: ours.step(ours.peer, n, message, sealed_size(n), keys, working, MESSAGE, report, 2 * n); break;
-    case JOIN: our_join_all(n, PIECES, source, report, sizeof report); break;
-    default: exit(2);
+    case READ_HEADER: return hub_read_header(message, sealed_size(n), words, HUB_HEADER) != 0;
+    case LIST: return hub_list(message, sealed_size(n), target, HUB_LINE, words, 1) != 0;
+    case SEAL: return ours.seal(ours.peer, &sent, source, n, keys, target) == 0;
+    case OPEN: return ours.open(ours.peer, message, sealed_size(n), keys, working, MESSAGE, &read) < 0;
+    case STEP: return ours.step(ours.peer, n, message, sealed_size(n), keys, working, MESSAGE, report, 2 * n) < 0;
+    case JOIN: return our_join_all(n, PIECES, source, report, sizeof report) != (long)(PIECES * n);
+    default: return 1;
     }
+    return 0;
 }
 
 int main(int words, char **word)
@@ -44,5 +46,6 @@ int main(int words, char **word)
     fill(source, sizeof source, 2);
     seal(ours.peer, &sent, source, n, keys, message);
     for (long times = atol(word[3]); times > 0; times--)
-        call((enum operation)operation, n);
+        if (call((enum operation)operation, n))
+            return 1;
 }

@@ -3,11 +3,11 @@
 use Rattle.laws.proofs.Kit.{ℕ, _+_, _<_, _≡_, sym, _∙_, ap, List, _++_, length, add-zero, arith}
 use native.Mathlib.Nat.{add-assoc}
 use lib.Seq.{getD-append-add}
-use Rattle.laws.specs.Bytes.{be8, be16, be32, be64}
+use Rattle.laws.specs.Bytes.{AreBytes, be8, be16, be32}
 
-module _ (m : List ℕ) (bytes : (i : ℕ) → be8 m i < 256) where
+module _ (m : List ℕ) (bytes : AreBytes m) where
   pub be16-below : (at : ℕ) → be16 m at < 65536
-  be16-below at = omega (arith, bytes at, bytes (at + 1))
+  be16-below at = omega (arith, bytes .at at, bytes .at (at + 1))
 
   pub be32-below : (at : ℕ) → be32 m at < 4294967296
   be32-below at = omega (arith, be16-below at, be16-below (at + 2))
@@ -22,9 +22,6 @@ module _ (a b : List ℕ) (n : ℕ) (e : length a ≡ n) where
 
   pub be32-past : (i : ℕ) → be32 (a ++ b) (n + i) ≡ be32 b i
   be32-past i = rw (be16-past i, add-assoc n i 2, be16-past (i + 2))
-
-  pub be64-past : (i : ℕ) → be64 (a ++ b) (n + i) ≡ be64 b i
-  be64-past i = rw (be32-past i, add-assoc n i 4, be32-past (i + 4))
 
   pub be16-at : be16 (a ++ b) n ≡ be16 b 0
   be16-at = ap (be16 (a ++ b)) (sym (add-zero n)) ∙ be16-past 0

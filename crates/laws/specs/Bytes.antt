@@ -1,5 +1,5 @@
 -- SPDX-License-Identifier: MPL-2.0
--- Bytes as big-endian numbers, both ways: the number at a place of a list of bytes, and the bytes of a number.
+-- Lists of bytes; bytes as big-endian numbers, both ways: the number at a place of a list, and the bytes of a number.
 use Prim.Native.Nat.{ℕ, zero, suc, _+_, _*_, _/_, _%_, _<_}
 use mathlib.Core.List.{List, [], _∷_, _++_}
 use lib.ListN.{getD}

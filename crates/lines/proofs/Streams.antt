@@ -1,14 +1,14 @@
 -- SPDX-License-Identifier: MPL-2.0
 -- The first message of a stream: its bounds.
 use Rattle.laws.proofs.Kit.{ℕ, _≤_, _<_, Bool, List, length, eqb, ltb, leb, leb-true, arith}
-use Rattle.laws.specs.Bytes.{be8, be16}
+use Rattle.laws.specs.Bytes.{AreBytes, be16}
 use Rattle.laws.proofs.Cases.{on}
 use Rattle.laws.proofs.Numbers.{be16-below}
 use Rattle.wire.specs.Reader.{wanted}
 use Rattle.lines.specs.Stream.{ahead}
 use Rattle.lines.specs.Listing.{turnBy}
 
-pub wanted-below : (s : List ℕ) → ((i : ℕ) → be8 s i < 256) → wanted s < 65536
+pub wanted-below : (s : List ℕ) → AreBytes s → wanted s < 65536
 unfolding wanted
 wanted-below s bytes = on (ltb (be16 s 2) 42) (λ e. rw e (omega arith)) (λ e. rw e (be16-below s bytes 2))
 

@@ -26,7 +26,7 @@ pub record Keeps (c d : Connection) : Type 0 where
   pub top : d .state ≤ 3
   pub digest : 2 ≤ c .state → d .digest ≡ c .digest
 
--- No step but a Failure forgets: digest, state and progress are all that else is moved.
+-- No step but a Failure forgets: any other changes nothing but digest, state and progress.
 module _ (c : Connection) (low : 1 ≤ c .state) (high : c .state ≤ 3) where
   abbrev Kept : Stepped → Type 0
   Kept s = (s .answer ≡ Failure → ⊥) → Keeps c (s .connection)

@@ -3,7 +3,7 @@
 use Rattle.laws.proofs.Kit.{ℕ, _+_, _*_, _/_, _%_, _^_, _≤_, _<_, _≡_, refl, sym, _∙_, ap, ap₂, false, List, [], _∷_, _++_, length, take-length, eqb}
 use Rattle.laws.proofs.Kit.{add-zero, arith}
 use native.Mathlib.Nat.{mul-add-div-right, div-eq-of-lt, mul-add-mod-self-right, mod-eq-of-lt}
-use Rattle.laws.specs.Bytes.{be8, be16, be32, be64, bytesAt, bytes16, bytes32, bytes64}
+use Rattle.laws.specs.Bytes.{AreBytes, be8, be16, be32, be64, bytesAt, bytes16, bytes32, bytes64}
 use Rattle.laws.proofs.Numbers.{be16-below, be32-below}
 use Rattle.laws.proofs.Parts.{bytesAt-part}
 use Rattle.wire.specs.Fields.{mostPieces}
@@ -21,7 +21,7 @@ digits w a b h =
     let z : 0 < w = omega arith in
     (rw (mul-add-div-right z a b, div-eq-of-lt h) (add-zero a), rw (mul-add-mod-self-right a w b) (mod-eq-of-lt h))
 
-module _ (s : List ℕ) (bytes : (i : ℕ) → be8 s i < 256) where
+module _ (s : List ℕ) (bytes : AreBytes s) where
   one : (at : ℕ) → bytesAt s at 1 ≡ be8 s at ∷ []
   unfolding bytesAt
   one at = rw (add-zero at)
@@ -34,7 +34,7 @@ module _ (s : List ℕ) (bytes : (i : ℕ) → be8 s i < 256) where
       rw (d .0, d .1, ← back at, ← back (at + n)) (bytesAt-append s at n n)
 
   two : (at : ℕ) → bytesAt s at 2 ≡ bytes16 (be16 s at)
-  two = double 256 1 (λ (x : ℕ). x ∷ []) (be8 s) one bytes
+  two = double 256 1 (λ (x : ℕ). x ∷ []) (be8 s) one (bytes .at)
 
   four : (at : ℕ) → bytesAt s at 4 ≡ bytes32 (be32 s at)
   four = double 65536 2 bytes16 (be16 s) two (be16-below s bytes)
@@ -44,7 +44,7 @@ module _ (s : List ℕ) (bytes : (i : ℕ) → be8 s i < 256) where
 
   -- A byte of the heard set: each of its bits is the one that was read.
   heard-byte : (i : ℕ) → i < heardSize → be8 s (heardPlace + i) ≡ heardByte (heardAt s most) i
-  heard-byte i l = sym (eight-bits (heardAt s most) (8 * i) (be8 s (heardPlace + i)) (bytes (heardPlace + i)) by)
+  heard-byte i l = sym (eight-bits (heardAt s most) (8 * i) (be8 s (heardPlace + i)) (bytes .at (heardPlace + i)) by)
     where
       by : (k : ℕ) → k < 8 → has (heardAt s most) (8 * i + k) ≡ eqb (be8 s (heardPlace + i) / 2 ^ k % 2) 1
       by k h =

@@ -1,12 +1,12 @@
 -- SPDX-License-Identifier: MPL-2.0
 -- A connection in bytes, numbers big-endian as on the wire: the layout, read and written.
-use Prim.Native.Nat.{ℕ, zero, suc, _+_, _*_, _/_, _%_, _^_, _<_}
+use Prim.Native.Nat.{ℕ, zero, suc, _+_, _*_, _/_, _%_, _^_}
 use mathlib.Core.Path.{_≡_}
 use mathlib.Core.List.{List, [], _∷_, _++_}
 use mathlib.Core.Bool.{Bool}
 use lib.Dec.{eqb}
 use lib.ListN.{length}
-use Rattle.laws.specs.Bytes.{be8, be16, be32, be64, bytesAt, bytes16, bytes32, bytes64}
+use Rattle.laws.specs.Bytes.{AreBytes, be8, be16, be32, be64, bytesAt, bytes16, bytes32, bytes64}
 use Rattle.joining.specs.Heard.{bit, has, most}
 use Rattle.joining.specs.declared.Progress.{Progress}
 use Rattle.hub.specs.declared.Connection.{Connection}
@@ -104,4 +104,4 @@ ReadBack = (c : Connection) → Fits c → (length (stateBytes c) ≡ stateSize)
 
 -- Any `stateSize` bytes are a connection, and they are its state: so a connection that did not change leaves each byte as it was.
 abbrev pub Whole : Type 0
-Whole = (s : List ℕ) → length s ≡ stateSize → ((i : ℕ) → be8 s i < 256) → stateBytes (connectionAt s) ≡ s
+Whole = (s : List ℕ) → length s ≡ stateSize → AreBytes s → stateBytes (connectionAt s) ≡ s

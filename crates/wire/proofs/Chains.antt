@@ -1,5 +1,5 @@
 -- SPDX-License-Identifier: MPL-2.0
--- Laws of `chain`, each for one case of the entry at its start.
+-- Laws of `chain`: by the entry at its start, and how long it is.
 use Rattle.laws.proofs.Kit.{ℕ, zero, suc, _+_, _-_, _≤_, _<_, _≡_, refl, sym, _∙_, false, true≢false, not, List, length, take, drop, length-take}
 use Rattle.laws.proofs.Kit.{length-drop, eqb, ltb, ltb-false, arith}
 use Rattle.laws.specs.Bytes.{be8}

@@ -1,8 +1,7 @@
 -- SPDX-License-Identifier: MPL-2.0
 -- What an accepted message is, for callers of `read_header`.
 use Rattle.laws.proofs.Kit.{ℕ, _+_, _-_, _/_, _%_, _≤_, _<_, _≡_, refl, sym, _∙_, true, false, true≢false, not, _&&_, _||_, List, length, eqb, ltb}
-use Rattle.laws.proofs.Kit.{leb, eq-eqb, eqb-true, eqb-false, ltb-false, leb-false, not-false, mod-lt, inl, inr, arith}
-use mathlib.Core.Logic.{_⊎_}
+use Rattle.laws.proofs.Kit.{leb, eq-eqb, eqb-true, eqb-false, ltb-false, leb-false, not-false, mod-lt, arith}
 use native.Mathlib.Nat.{zero-lt-suc}
 use Rattle.laws.specs.Bytes.{be8, be16}
 use Rattle.laws.specs.Rows.{testOf}
@@ -21,13 +20,7 @@ use Rattle.wire.specs.declared.header.HeaderRead.the-variants.{Refused, 
 use Rattle.wire.proofs.Chains.{room-left}
 use Rattle.wire.proofs.Reading.{read-refused, read-good}
 
--- The tests of 5, 6 and 7 as facts.
-
-pub kinds : (kind : ℕ) → badType kind ≡ false → (kind ≡ 1) ⊎ (kind ≡ 2) ⊎ (kind ≡ 4)
-unfolding badType
-kinds kind e =
-    on (eqb kind 1) (λ p. inl (eqb-true kind 1 p))
-    (λ p. on (eqb kind 2) (λ q. inr (inl (eqb-true kind 2 q))) (λ q. inr (inr (eqb-true kind 4 (not-false _ (rw (p, q) at e))))))
+-- The tests of 6 and 7 as facts.
 
 pub record Piece (index count : ℕ) : Type 0 where
   pub some : 1 ≤ count

@@ -9,7 +9,7 @@ use Rattle.lines.proofs.stream.ahead.Tie as tie
 
 -- MessageLength fits sixteen bits.
 small : (c : tie.After-wanted) → c .wanted .result < 65536
-small c = rw (c .wanted .ensures) (wanted-below _ λ i. c .before .shared-slice-known .given i .fits)
+small c = rw (c .wanted .ensures) (wanted-below _ (record { at = λ i. c .before .shared-slice-known .given i .fits }))
 
 pub ahead-spec : {M : Type 1} → statement M
 unfolding ahead
