@@ -1,5 +1,6 @@
 // SPDX-License-Identifier: MPL-2.0
-// One block, both ways (FIPS 197, 5.1 and 5.3). What chaining calls block by block goes by references to tables that are bound once a call.
+// One block, both ways (FIPS 197, 5.1 and 5.3). The public calls take the round keys by value. What chaining calls block by block goes by
+// references, to these and to tables, that are bound once a call.
 use super::columns::State;
 use super::columns::add;
 use super::columns::bytes_of;
@@ -157,26 +158,26 @@ pub(crate) fn decrypt_pair(
 }
 
 // Cipher().
-pub fn encrypt_block(keys: &[[u8; 16]; 11], block: [u8; 16]) -> [u8; 16]
-    ensures { λ r. ⌜ r ≡ cipher (now (keys .entry)) block ⌝ }
+pub fn encrypt_block(keys: [[u8; 16]; 11], block: [u8; 16]) -> [u8; 16]
+    ensures { λ r. ⌜ r ≡ cipher keys block ⌝ }
 {
     let sb = substitution();
     let t = mixing();
-    bytes_of(encrypt(keys, &sb, &t, words(block)))
+    bytes_of(encrypt(&keys, &sb, &t, words(block)))
 }
 
 // InvCipher(), by a pair of the block and itself.
-pub fn decrypt_block(keys: &[[u8; 16]; 11], block: [u8; 16]) -> [u8; 16]
-    ensures { λ r. ⌜ r ≡ invCipher (now (keys .entry)) block ⌝ }
+pub fn decrypt_block(keys: [[u8; 16]; 11], block: [u8; 16]) -> [u8; 16]
+    ensures { λ r. ⌜ r ≡ invCipher keys block ⌝ }
 {
     let sb = substitution();
     let isb = inverse_substitution();
     let t = unmixing();
-    let inverse = inverse_keys(keys, &sb, &t);
+    let inverse = inverse_keys(&keys, &sb, &t);
     let pair = Pair {
         x: words(block),
         y: words(block),
     };
-    let p = decrypt_pair(keys, &inverse, &isb, &t, pair);
+    let p = decrypt_pair(&keys, &inverse, &isb, &t, pair);
     bytes_of(p.x)
 }

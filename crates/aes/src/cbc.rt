@@ -129,28 +129,9 @@ fn fit(size: usize, room: usize) -> bool
     (size % 16 == 0) & (size <= room)
 }
 
-// Encrypts the source into the front of the target. False, with the target left alone, where the source is not whole blocks or the target
-// is shorter.
-pub fn cbc_encrypt(
-    keys: &[[u8; 16]; 11],
-    vector: [u8; 16],
-    source: &[u8],
-    target: &mut [u8],
-) -> bool
-    ensures { λ r. ⌜ r ≡ fits (now (source .entry)) (now (target .entry)) ⌝ }
-    ensures { λ _. ⌜ now (target .exit) ≡ written (now (source .entry)) (cbcEncrypt (now (keys .entry)) vector (now (source .entry)))
-        (now (target .entry)) ⌝ }
-{
-    if !fit(source.len(), target.len()) {
-        return false;
-    }
-    let n = source.len();
-    bytes::copy(source, target);
-    cbc_encrypt_in_place(keys, vector, &mut target[0..n])
-}
-
-// Encrypts a buffer in place. False, with the buffer left alone, where it is not whole blocks.
-pub fn cbc_encrypt_in_place(keys: &[[u8; 16]; 11], vector: [u8; 16], buffer: &mut [u8]) -> bool
+// A buffer, encrypted where it stands if it is whole blocks. The round keys come to the public calls by value and are lent from there on: handed
+// from call to call by value, they made the loop of the chain 4 % longer.
+fn encrypt_whole(keys: &[[u8; 16]; 11], vector: [u8; 16], buffer: &mut [u8]) -> bool
     ensures { λ r. ⌜ r ≡ eqb (length (now (buffer .entry)) % 16) 0 ⌝ }
     ensures { λ _. ⌜ now (buffer .exit) ≡ cond (eqb (length (now (buffer .entry)) % 16) 0)
         (cbcEncrypt (now (keys .entry)) vector (now (buffer .entry))) (now (buffer .entry)) ⌝ }
@@ -164,26 +145,45 @@ pub fn cbc_encrypt_in_place(keys: &[[u8; 16]; 11], vector: [u8; 16], buffer: &mu
     true
 }
 
+// Encrypts the source into the front of the target. False, with the target left alone, where the source is not whole blocks or the target
+// is shorter.
+pub fn cbc_encrypt(keys: [[u8; 16]; 11], vector: [u8; 16], source: &[u8], target: &mut [u8]) -> bool
+    ensures { λ r. ⌜ r ≡ fits (now (source .entry)) (now (target .entry)) ⌝ }
+    ensures { λ _. ⌜ now (target .exit) ≡ written (now (source .entry)) (cbcEncrypt keys vector (now (source .entry)))
+        (now (target .entry)) ⌝ }
+{
+    if !fit(source.len(), target.len()) {
+        return false;
+    }
+    let n = source.len();
+    bytes::copy(source, target);
+    encrypt_whole(&keys, vector, &mut target[0..n])
+}
+
+// Encrypts a buffer in place. False, with the buffer left alone, where it is not whole blocks.
+pub fn cbc_encrypt_in_place(keys: [[u8; 16]; 11], vector: [u8; 16], buffer: &mut [u8]) -> bool
+    ensures { λ r. ⌜ r ≡ eqb (length (now (buffer .entry)) % 16) 0 ⌝ }
+    ensures { λ _. ⌜ now (buffer .exit) ≡ cond (eqb (length (now (buffer .entry)) % 16) 0)
+        (cbcEncrypt keys vector (now (buffer .entry))) (now (buffer .entry)) ⌝ }
+{
+    encrypt_whole(&keys, vector, buffer)
+}
+
 // Cipher(), as a chain of one block after zeros, which add nothing. It is for a program that chains as well: there `encrypt_block` would be a
 // second copy of the rounds and their table, and with two callers the rounds would not stay within the loop of the chain.
-pub fn cbc_encrypt_one(keys: &[[u8; 16]; 11], block: [u8; 16]) -> [u8; 16]
-    ensures { λ r. ⌜ r ≡ cipher (now (keys .entry)) block ⌝ }
+pub fn cbc_encrypt_one(keys: [[u8; 16]; 11], block: [u8; 16]) -> [u8; 16]
+    ensures { λ r. ⌜ r ≡ cipher keys block ⌝ }
 {
     let mut b = block;
-    cbc_encrypt_in_place(keys, [0u8; 16], &mut b);
+    encrypt_whole(&keys, [0u8; 16], &mut b);
     b
 }
 
 // Decrypts the source into the front of the target. False, with the target left alone, where the source is not whole blocks or the target
 // is shorter.
-pub fn cbc_decrypt(
-    keys: &[[u8; 16]; 11],
-    vector: [u8; 16],
-    source: &[u8],
-    target: &mut [u8],
-) -> bool
+pub fn cbc_decrypt(keys: [[u8; 16]; 11], vector: [u8; 16], source: &[u8], target: &mut [u8]) -> bool
     ensures { λ r. ⌜ r ≡ fits (now (source .entry)) (now (target .entry)) ⌝ }
-    ensures { λ _. ⌜ now (target .exit) ≡ written (now (source .entry)) (cbcDecrypt (now (keys .entry)) vector (now (source .entry)))
+    ensures { λ _. ⌜ now (target .exit) ≡ written (now (source .entry)) (cbcDecrypt keys vector (now (source .entry)))
         (now (target .entry)) ⌝ }
 {
     if !fit(source.len(), target.len()) {
@@ -192,8 +192,8 @@ pub fn cbc_decrypt(
     let sb = substitution();
     let isb = inverse_substitution();
     let t = unmixing();
-    let inverse = inverse_keys(keys, &sb, &t);
-    decrypt_blocks(keys, &inverse, &isb, &t, words(vector), source, target);
+    let inverse = inverse_keys(&keys, &sb, &t);
+    decrypt_blocks(&keys, &inverse, &isb, &t, words(vector), source, target);
     true
 }
 
@@ -213,13 +213,13 @@ pub struct Ends {
 // The first and the last block of CBC decryption, as a chain of these two: so the first was added to the last, and is taken off again for
 // `before`, the cipher block that stands before the last.
 pub fn cbc_decrypt_ends(
-    keys: &[[u8; 16]; 11],
+    keys: [[u8; 16]; 11],
     vector: [u8; 16],
     first: [u8; 16],
     before: [u8; 16],
     last: [u8; 16],
 ) -> Ends
-    ensures { λ r. ⌜ (r .first ≡ cbcDecryptBlock (now (keys .entry)) vector first) × (r .last ≡ cbcDecryptBlock (now (keys .entry)) before last) ⌝ }
+    ensures { λ r. ⌜ (r .first ≡ cbcDecryptBlock keys vector first) × (r .last ≡ cbcDecryptBlock keys before last) ⌝ }
 {
     let mut chain = [0u8; 32];
     let mut plain = [0u8; 32];

@@ -20,14 +20,14 @@ fn wide(x: u8) -> u32
 }
 
 // Four bytes as a word.
-pub fn join(a: u8, b: u8, c: u8, d: u8) -> u32
+pub(crate) fn join(a: u8, b: u8, c: u8, d: u8) -> u32
     ensures { λ r. ⌜ r ≡ word a b c d ⌝ }
 {
     ((wide(d) * 256 + wide(c)) * 256 + wide(b)) * 256 + wide(a)
 }
 
 // The sixteen bytes of a block as four words.
-pub fn words(k: [u8; 16]) -> State
+pub(crate) fn words(k: [u8; 16]) -> State
     ensures { λ r. ⌜ bytesOf r ≡ k ⌝ }
 {
     State {
@@ -39,7 +39,7 @@ pub fn words(k: [u8; 16]) -> State
 }
 
 // The sixteen bytes of four words.
-pub fn bytes_of(s: State) -> [u8; 16]
+pub(crate) fn bytes_of(s: State) -> [u8; 16]
     ensures { λ r. ⌜ r ≡ bytesOf s ⌝ }
 {
     [
@@ -63,7 +63,7 @@ pub fn bytes_of(s: State) -> [u8; 16]
 }
 
 // AddRoundKey.
-pub fn add(s: State, k: State) -> State
+pub(crate) fn add(s: State, k: State) -> State
     ensures { λ r. ⌜ bytesOf r ≡ addRoundKey (bytesOf s) (bytesOf k) ⌝ }
 {
     State {

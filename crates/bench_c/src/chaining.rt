@@ -20,7 +20,7 @@ pub extern "C" fn bench_encrypt(key: &[u8], vector: &[u8], source: &[u8], target
 {
     let keys = expand_key(load_block(key));
     let first = load_block(vector);
-    cbc_encrypt(&keys, first, source, target)
+    cbc_encrypt(keys, first, source, target)
 }
 
 // Decrypts the source into the front of the target, as above.
@@ -33,5 +33,5 @@ pub extern "C" fn bench_decrypt(key: &[u8], vector: &[u8], source: &[u8], target
 {
     let keys = expand_key(load_block(key));
     let first = load_block(vector);
-    cbc_decrypt(&keys, first, source, target)
+    cbc_decrypt(keys, first, source, target)
 }

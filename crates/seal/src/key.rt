@@ -47,7 +47,7 @@ pub(crate) fn vector(keys: &[u8], message: &[u8]) -> [u8; 16]
     ensures { λ r. ⌜ r ≡ vector (now (keys .entry)) (now (message .entry)) ⌝ }
 {
     let round_keys = aes::key::expand_key(block_at(keys, 16));
-    aes::cbc::cbc_encrypt_one(&round_keys, vector_block(message))
+    aes::cbc::cbc_encrypt_one(round_keys, vector_block(message))
 }
 
 // The tag of a message that is given without its last 32 bytes. It sees, for MessageLength, the length of what it is given.

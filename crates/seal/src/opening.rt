@@ -79,9 +79,9 @@ fn before_last(vector: [u8; 16], sealed: &[u8]) -> [u8; 16]
 }
 
 // Refusal 13 of a sealed part, before it is opened into the working buffer.
-fn bad_part(keys: &[[u8; 16]; 11], vector: [u8; 16], sealed: &[u8]) -> bool
+fn bad_part(keys: [[u8; 16]; 11], vector: [u8; 16], sealed: &[u8]) -> bool
     requires { ⌜ (16 ≤ length (now sealed)) × (length (now sealed) % 16 ≡ 0) ⌝ }
-    ensures { λ r. ⌜ r ≡ badPlain (cbcDecrypt (now (keys .entry)) vector (now (sealed .entry))) ⌝ }
+    ensures { λ r. ⌜ r ≡ badPlain (cbcDecrypt keys vector (now (sealed .entry))) ⌝ }
 {
     let size = sealed.len();
     let first = block_at(sealed, 0);
@@ -105,10 +105,10 @@ fn open_part(keys: &[u8], message: &[u8], sealed: &[u8], working: &mut [u8]) -> 
     }
     let round_keys = aes::key::expand_key(block_at(keys, 0));
     let first = vector(keys, message);
-    if bad_part(&round_keys, first, sealed) {
+    if bad_part(round_keys, first, sealed) {
         return WRONG_PADDING;
     }
-    aes::cbc::cbc_decrypt(&round_keys, first, sealed, working);
+    aes::cbc::cbc_decrypt(round_keys, first, sealed, working);
     0
 }
 

@@ -60,7 +60,7 @@ fn encrypt_part(keys: &[u8], first: [u8; 16], payload: &[u8], room: &mut [u8])
 {
     put_plain(payload, room);
     let round_keys = aes::key::expand_key(block_at(keys, 0));
-    aes::cbc::cbc_encrypt_in_place(&round_keys, first, room);
+    aes::cbc::cbc_encrypt_in_place(round_keys, first, room);
 }
 
 // Refusal 3: whether a payload of `size` bytes, sealed after the first `start` bytes, leaves no room for the tag in 65,535 bytes. The sum is not

@@ -40,8 +40,8 @@ pub(crate) fn key_line(text: &[u8], at: usize) -> Said {
 // Whether a block encrypts to its cipher and the cipher decrypts to it.
 fn block_agrees(key: [u8; 16], plain: [u8; 16], cipher: [u8; 16]) -> bool {
     let keys = aes::key::expand_key(key);
-    let there = aes::block::encrypt_block(&keys, plain);
-    let back = aes::block::decrypt_block(&keys, cipher);
+    let there = aes::block::encrypt_block(keys, plain);
+    let back = aes::block::decrypt_block(keys, cipher);
     check::same(&there, &cipher) & check::same(&back, &plain)
 }
 
@@ -69,7 +69,7 @@ fn came_out(out: &[u8], n: usize, bytes: &[u8]) -> bool {
 }
 
 // Whether the plain text encrypts to the cipher text, and the cipher text decrypts to the plain text.
-fn agree(keys: &[[u8; 16]; 11], vector: [u8; 16], plain: &[u8], cipher: &[u8]) -> bool {
+fn agree(keys: [[u8; 16]; 11], vector: [u8; 16], plain: &[u8], cipher: &[u8]) -> bool {
     let mut out = [0u8; 1024];
     let encrypted = aes::cbc::cbc_encrypt(keys, vector, plain, &mut out);
     let there = came_out(&out, plain.len(), cipher);
@@ -80,7 +80,7 @@ fn agree(keys: &[[u8; 16]; 11], vector: [u8; 16], plain: &[u8], cipher: &[u8]) -
 
 // Whether a buffer encrypts in place to the cipher text.
 fn encrypts_in_place(
-    keys: &[[u8; 16]; 11],
+    keys: [[u8; 16]; 11],
     vector: [u8; 16],
     buffer: &mut [u8],
     cipher: &[u8],
@@ -92,7 +92,7 @@ fn encrypts_in_place(
 // Whether they agree, and the buffer of the plain text encrypts in place.
 fn chain_agrees(key: [u8; 16], vector: [u8; 16], plain: &mut [u8], cipher: &[u8]) -> bool {
     let keys = aes::key::expand_key(key);
-    agree(&keys, vector, plain, cipher) & encrypts_in_place(&keys, vector, plain, cipher)
+    agree(keys, vector, plain, cipher) & encrypts_in_place(keys, vector, plain, cipher)
 }
 
 // A key, a vector, a plain text and its cipher text.

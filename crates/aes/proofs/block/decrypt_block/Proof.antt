@@ -7,8 +7,8 @@ use Rattle.aes.proofs.block.decrypt_block.Tie as tie
 
 returns : tie.Need-returns
 returns c =
-    c .bytes-of .ensures ∙ c .before .decrypt-pair .ensures .0
-    ∙ ap (invCipher _) (c .before .before .before .before .before .before .words .ensures)
+    let at-words : tie.After-words = search in
+    c .bytes-of .ensures ∙ c .before .decrypt-pair .ensures .0 ∙ ap (invCipher _) (at-words .words .ensures)
 
 pub decrypt-block-spec : {M : Type 1} → statement M
 decrypt-block-spec = tie.close (tie.spec _ _ _ (λ c κs. search needs) _ _ (λ c κs. search needs) _ returns)

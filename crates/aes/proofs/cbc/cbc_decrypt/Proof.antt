@@ -11,15 +11,16 @@ returns c = rw (sym (c .before .fit .ensures) ∙ not-true _ (c .if1 .taken)) (r
 
 decrypt-blocks-requires : tie.Need-decrypt-blocks-requires
 decrypt-blocks-requires c κs =
-    let at-if = c .before .before .before .before .before .before .before .before .before .before .before in
-    let a = at-if .before .before .before .before .args in
+    let at-if : tie.Else1 = search in
+    let start : tie.Start = search in
+    let a = start .args in
     let room = roomy (length (a .source .now)) (length (a .target .now)) (at-if .before .fit .ensures) (at-if .if1 .left) in
     (search needs, search needs, search needs, room .0, room .1)
 
 returns-2 : tie.Need-returns-2
 returns-2 c =
-    let at-words = c .before .before .before .before in
-    let at-if = at-words .before .before .before .before .before .before .before .before .before .before in
+    let at-words : tie.After-words = search in
+    let at-if : tie.Else1 = search in
     rw (sym (at-if .before .fit .ensures) ∙ not-false _ (at-if .if1 .left))
     (refl, rw (at-words .words .ensures) at (c .before .before .decrypt-blocks .ensures))
 

@@ -1,17 +1,8 @@
 -- SPDX-License-Identifier: MPL-2.0
 -- By the contracts of what it calls.
-use Rattle.laws.proofs.Kit.{refl, eq-eqb, ne-eqb, needs}
+use Rattle.laws.proofs.Kit.{needs}
 use Rattle.aes.proofs.cbc.cbc_encrypt_in_place.Statement.{statement}
 use Rattle.aes.proofs.cbc.cbc_encrypt_in_place.Tie as tie
 
-returns : tie.Need-returns
-returns c = rw (ne-eqb _ _ (c .if1 .taken)) (refl, refl)
-
-returns-2 : tie.Need-returns-2
-returns-2 c =
-    let at-words = c .before .before .before .before in
-    let whole = eq-eqb _ _ (at-words .before .before .before .before .before .if1 .left) in
-    rw whole (refl, rw (at-words .words .ensures) at (c .before .before .encrypt-buffer .ensures))
-
 pub cbc-encrypt-in-place-spec : {M : Type 1} → statement M
-cbc-encrypt-in-place-spec = tie.close (tie.spec returns _ _ _ (λ c κs. search needs) (λ c. search needs) returns-2)
+cbc-encrypt-in-place-spec = tie.close (tie.spec _ (λ c. search needs) (λ c. c .before .before .encrypt-whole .ensures))

@@ -6,7 +6,9 @@ use Rattle.aes.proofs.cbc.cbc_encrypt_one.Statement.{statement}
 use Rattle.aes.proofs.cbc.cbc_encrypt_one.Tie as tie
 
 returns : tie.Need-returns
-returns c = one-encrypted _ (c .before .before .before .args .block) _ (search needs) (c .before .cbc-encrypt-in-place .ensures .1)
+returns c =
+    let start : tie.Start = search in
+    one-encrypted _ (start .args .block) _ (search needs) (c .before .encrypt-whole .ensures .1)
 
 pub cbc-encrypt-one-spec : {M : Type 1} → statement M
 cbc-encrypt-one-spec = tie.close (tie.spec (λ c. search needs) _ returns)

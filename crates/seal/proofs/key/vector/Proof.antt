@@ -9,7 +9,7 @@ returns : tie.Need-returns
 unfolding vector
 returns c =
     let at-block = c .before in
-    let at-keys = at-block .before .before in
+    let at-keys : tie.After-expand-key = search in
     rw (c .cbc-encrypt-one .ensures, at-block .vector-block .ensures, at-keys .expand-key .ensures, at-keys .before .block-at .ensures)
 
 pub vector-spec : {M : Type 1} → statement M

@@ -8,7 +8,7 @@ use Rattle.seal.proofs.opening.open_part.Statement.{statement}
 use Rattle.seal.proofs.opening.open_part.Tie as tie
 
 abbrev roomy : tie.After-bad-part → tie.Else1
-roomy c = c .before .before .before .before .before
+roomy c = c .before .before .before .before
 
 abbrev entry : tie.After-bad-part → tie.Start
 entry c = roomy c .before .before .before .before .before
@@ -16,10 +16,10 @@ entry c = roomy c .before .before .before .before .before
 -- What is judged and written is the definition's plain text.
 plain : (c : tie.After-bad-part) → let a = entry c .args in
     plainOf (a .keys .now) (a .message .now) (a .sealed .now)
-    ≡ cbcDecrypt (c .before .before .before .expand-key .result) (c .before .before .vector .result) (a .sealed .now)
+    ≡ cbcDecrypt (c .before .before .expand-key .result) (c .before .vector .result) (a .sealed .now)
 unfolding plainOf
 plain c =
-    let at-vector = c .before .before in
+    let at-vector = c .before in
     rw (← at-vector .before .before .block-at .ensures, ← at-vector .before .expand-key .ensures, ← at-vector .vector .ensures)
 
 returns : tie.Need-returns
@@ -36,7 +36,7 @@ returns-3 : tie.Need-returns-3
 unfolding partRefusal partInto intoUnless
 returns-3 c =
     let at-decrypt = c .before .before in
-    let at-if2 = at-decrypt .before .before .before in
+    let at-if2 : tie.Else2 = search in
     let judged = at-if2 .before in
     let room = roomy judged .if1 .left in
     let blocks = entry judged .pre .1 .1 in

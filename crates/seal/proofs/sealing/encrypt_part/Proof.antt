@@ -8,9 +8,9 @@ use Rattle.seal.proofs.sealing.encrypt_part.Tie as tie
 returns : tie.Need-returns
 returns c =
     let at-encrypt = c .before .before in
-    let at-expand-key = at-encrypt .before .before .before in
-    let at-block-at = at-expand-key .before in
-    let at-put-plain = at-block-at .before .before .before in
+    let at-expand-key : tie.After-expand-key = search in
+    let at-block-at : tie.After-block-at = search in
+    let at-put-plain : tie.After-put-plain = search in
     at-encrypt .cbc-encrypt-in-place .ensures .1
     ∙ rw (at-put-plain .put-plain .ensures, plainText-blocks, at-expand-key .expand-key .ensures, at-block-at .block-at .ensures)
 
