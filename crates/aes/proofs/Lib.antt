@@ -8,4 +8,3 @@ pub mod Chain
 pub mod ChainLoop
 pub mod ChainCalls
 pub mod Ends
-pub mod Examples

@@ -21,16 +21,6 @@ pub finished-sealed : (entries p : ℕ) → finishedLength true (entries + 2) p 
 unfolding finishedLength
 finished-sealed entries p = rw sealedSize-is (omega arith)
 
--- P8: "payload 12, sealed part 16".
-pub P8 : sealedSize 12 ≡ 16
-unfolding sealedSize padding
-P8 = refl
-
--- P9: "payload 13, sealed part 32".
-pub P9 : sealedSize 13 ≡ 32
-unfolding sealedSize padding
-P9 = refl
-
 -- A message that the writer accepts holds header and chain, and is short.
 pub length-within : (sealed : Bool) (chain payload : ℕ) → chain ≤ 2058 → payload ≤ 16384
     → (40 + chain ≤ finishedLength sealed chain payload) × (finishedLength sealed chain payload ≤ 18530)

@@ -92,7 +92,7 @@ module _ (s : Sending) (f : Fair s) (t : Typed s) (i : ℕ) (l : i < fragments s
 pub can-be-sent : (s : Sending) → CanBeSent s
 can-be-sent = sent
 
-any-order : (s : Sending) → AnyOrder s
+pub any-order : (s : Sending) → AnyOrder s
 any-order s f t [] g p = done
 any-order s f t (d ∷ ds) g p = brings (g .0 .0) (sent s f t (d .0) (g .0 .0) (d .1) (g .0 .1))
     (any-order s f t ds (g .1) (after p (callFor s (d .0) (d .1))))

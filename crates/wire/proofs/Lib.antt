@@ -2,4 +2,3 @@
 pub mod Chains
 pub mod Reading
 pub mod Sound
-pub mod Examples

@@ -17,7 +17,7 @@ use Rattle.wire.proofs.Chains.{chain-long}
 use Rattle.wire.proofs.Reading.{read-good}
 use Rattle.writer.proofs.ChainBack.{chain-back}
 
-fields-back : (h : Header) (size : ℕ) (rest : List ℕ) → headerOf (headerBytes h size ++ rest) ≡ h
+pub fields-back : (h : Header) (size : ℕ) (rest : List ℕ) → headerOf (headerBytes h size ++ rest) ≡ h
 unfolding headerBytes
 fields-back h size rest = simp div-add-mod'
 
