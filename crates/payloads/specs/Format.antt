@@ -52,6 +52,11 @@ Values (free w allowed ∷ f) = ℕ × Values f
 Values (array size ∷ f) = List ℕ × Values f
 Values (sized w least most ∷ f) = List ℕ × Values f
 
+-- Values one after the other, `x and y and tt`: the last is that nothing more is said.
+infixr 5 _and_
+abbrev pub _and_ : {A B : Type 0} → A → B → A × B
+x and y = (x, y)
+
 -- The values that a format has a payload for.
 unfoldable pub fits : (f : Format) → Values f → Bool
 fits [] v = true
