@@ -1,14 +1,14 @@
 -- SPDX-License-Identifier: MPL-2.0
 -- A chain that the writer accepts has at most 8 × 257 + 2 bytes, and a payload at most 16,384.
-use Rattle.laws.proofs.Kit.{ℕ, zero, suc, _+_, _*_, _≤_, _≡_, sym, Bool, true, false, true≢false, not, _&&_, _||_, cond, List, [], _∷_, length, drop}
-use Rattle.laws.proofs.Kit.{length-drop, eqb, ltb, leb, eqb-true, ltb-false, leb-true, not-false, arith}
-use Rattle.laws.specs.Bytes.{AreBytes, be8, be16}
-use Rattle.laws.proofs.Bools.{or-false, or-none, and-true, and-false-right}
+use Rattle.laws.proofs.Kit.{ℕ, zero, suc, _+_, _*_, _≤_, _≡_, Bool, true, false, true≢false, not, _&&_, _||_, cond, List, length, drop}
+use Rattle.laws.proofs.Kit.{length-drop, eqb, ltb, eqb-true, ltb-false, not-false, arith}
+use Rattle.laws.specs.Bytes.{AreBytes, be8}
+use Rattle.laws.proofs.Bools.{or-false, and-false-right}
 use Rattle.laws.proofs.Cases.{on}
 use Rattle.wire.specs.Fields.{badType}
 use Rattle.wire.specs.Chain.{entryOf, follow, chain, readChain, mostEntries, leaves, isBroken, badChain}
-use Rattle.payloads.specs.Shapes.{starts, exchanges, isPresenceRequest, isConnectionRequest, isConnectionResponse, isDeviceAuthentication}
-use Rattle.payloads.specs.Shapes.{isDoneRequest, isDoneResponse, hasShape, shapes, isShaped, sealedAs, badPayload}
+use Rattle.payloads.specs.Shapes.{badPayload}
+use Rattle.payloads.proofs.Shaped.{shaped-short}
 use Rattle.wire.specs.declared.chain.Chain.{Chain}
 use Rattle.wire.specs.declared.chain.Entry.{Entry}
 use Rattle.wire.specs.declared.chain.Chain.the-variants.{Broken}
@@ -53,59 +53,13 @@ chain-short given w b =
     let z : leaves (readChain given) ≡ 0 = eqb-true _ 0 (not-false _ (t .1)) in
     omega (arith, chain-few 8 given w (t .0))
 
-both : {A B : Type 0} → A → B → A × B
-both a b = (a, b)
-
 module _ (p : List ℕ) where
-  exchange-size : exchanges p ≡ true → length p ≡ 86
-  unfolding exchanges
-  exchange-size e = on (eqb (length p) 86) (eqb-true (length p) 86) (λ t. absurd (true≢false (sym (rw t at e))))
-
-  response-short : isConnectionResponse p ≡ true → length p ≤ 16384
-  unfolding isConnectionResponse
-  response-short e =
-      let r = and-true (starts 1 p) _ e .1 in
-      on (eqb (be8 p 3) 1)
-      (λ t. omega (arith, exchange-size (rw (t, or-none) at r)))
-      (λ t. omega (arith, eqb-true (length p) 4 (and-true (leb (be8 p 3) 3) _ (rw t at r) .1)))
-
-  device-short : (connect : ℕ) → isDeviceAuthentication connect p ≡ true → length p ≤ 16384
-  unfolding isDeviceAuthentication
-  device-short connect e =
-      let c = be16 p 3 in
-      let t = be16 p (5 + c) in
-      let a = and-true (starts connect p && leb 1 c && leb c 2048 && leb t 512) _ e in
-      let b = and-true (starts connect p && leb 1 c && leb c 2048) _ (a .0) in
-      let d = and-true (starts connect p && leb 1 c) _ (b .0) in
-      omega (arith, eqb-true (length p) (7 + c + t) (a .1), leb-true t 512 (b .1), leb-true c 2048 (d .1))
-
-  -- Whatever has one of some shapes is short, if each of them is.
-  abbrev Short : List (ℕ × Bool × (List ℕ → Bool)) → Type 0
-  Short [] = Unit
-  Short (row ∷ rows) = ((row .2) p ≡ true → length p ≤ 16384) × Short rows
-
-  each-short : Short shapes
-  unfolding isPresenceRequest isConnectionRequest isDoneRequest isDoneResponse
-  each-short =
-      both (λ e. omega (arith, eqb-true (length p) 1 (and-true (eqb (length p) 1) _ e .0)))
-      (both (λ e. omega (arith, exchange-size (and-true (starts 0 p && eqb (be8 p 3) 0) _ e .1)))
-      (both response-short (both (device-short 2) (both (device-short 3)
-      (both (λ e. omega (arith, eqb-true (length p) 3 (and-true (starts 6 p) _ e .1)))
-      (both (λ e. omega (arith, eqb-true (length p) 4 (and-true (starts 7 p && leb (be8 p 3) 4) _ e .1))) tt))))))
-
-  shape-short : (kind : ℕ) (sealed : Bool) (rows : List (ℕ × Bool × (List ℕ → Bool))) → Short rows → hasShape kind sealed p rows ≡ true
-      → length p ≤ 16384
-  shape-short kind sealed [] s e = absurd (true≢false (sym e))
-  shape-short kind sealed (row ∷ rows) s e =
-      on (hasShape kind sealed p rows) (shape-short kind sealed rows (s .1))
-      (λ r. s .0 (and-true (eqb kind (row .0) && sealedAs sealed (row .1)) _ (rw (r, or-none) at e) .1))
-
   pub payload-short : (kind : ℕ) (sealed : Bool) → badType kind ≡ false → badPayload kind sealed p ≡ false
       → (eqb kind 4 && ltb 16384 (length p)) ≡ false → length p ≤ 16384
-  unfolding badType badPayload isShaped
+  unfolding badType badPayload
   payload-short kind sealed k b e =
       on (eqb kind 1 || eqb kind 2)
-      (λ t. shape-short kind sealed shapes each-short (not-false _ (rw t at b)))
+      (λ t. omega (arith, shaped-short p kind sealed (not-false _ (rw t at b))))
       (λ t.
       let other = or-false (eqb kind 1) _ t in
       ltb-false 16384 (length p) (and-false-right (eqb kind 4) _ e (not-false _ (rw (other .0, other .1) at k))))

@@ -9,6 +9,10 @@ use Rattle.laws.specs.Bytes.{be16, bytesAt}
 use Rattle.payloads.specs.declared.reading.Request.{Request}
 use Rattle.payloads.specs.declared.reading.Place.{Place}
 
+-- The ConnectionMode of a Connect payload.
+abbrev pub connectionMode : List ℕ → ℕ
+connectionMode p = be16 p 0
+
 -- The type byte of a Connect payload; 255 where there is none.
 abbrev pub connectType : List ℕ → ℕ
 connectType p = getD p 2 255
@@ -21,6 +25,15 @@ codeOf p = getD p 3 255
 unfoldable pub readRequest : List ℕ → Request
 readRequest p = record { nonce = bytesAt p 6 8; x = bytesAt p 20 32; y = bytesAt p 54 32 }
 
+-- The place of the bytes whose number stands before them, at a place; where they do not lie in the payload, the empty place at its start.
+abbrev pub sizedAt : List ℕ → ℕ → Place
+sizedAt p at =
+    cond (ltb (length p) (at + 2 + be16 p at)) (record { from = 0; size = 0 }) (record { from = at + 2; size = be16 p at })
+
 -- The certificate's place; where it does not lie in the payload, the empty place at its start.
 unfoldable pub certificateOf : List ℕ → Place
-certificateOf p = cond (ltb (length p) (5 + be16 p 3)) (record { from = 0; size = 0 }) (record { from = 5; size = be16 p 3 })
+certificateOf p = sizedAt p 3
+
+-- The thumbprint's place, after the certificate; where it does not lie in the payload, the empty place at its start.
+unfoldable pub thumbprintOf : List ℕ → Place
+thumbprintOf p = sizedAt p (5 + be16 p 3)

@@ -6,8 +6,8 @@ use octets::numbers::number16;
 ghost use mathlib.Core.Path.{_≡_};
 ghost use Prim.Native.Nat.{_+_, _<_, _^_};
 ghost use lib.ListN.{length, getD};
-ghost use Rattle.laws.specs.Bytes.{be16, bytesAt};
-ghost use Rattle.payloads.specs.Reading.{connectType, codeOf, readRequest, certificateOf};
+ghost use Rattle.laws.specs.Bytes.{bytesAt};
+ghost use Rattle.payloads.specs.Reading.{connectionMode, connectType, codeOf, readRequest, sizedAt, certificateOf, thumbprintOf};
 
 fn byte_or_none(p: &[u8], at: usize) -> u8
     ensures { λ r. ⌜ r ≡ getD (now (p .entry)) at 255 ⌝ }
@@ -31,7 +31,7 @@ pub fn code_of(payload: &[u8]) -> u8
 
 // The ConnectionMode of a Connect payload.
 pub fn connection_mode(payload: &[u8]) -> u16
-    ensures { λ r. ⌜ r ≡ be16 (now (payload .entry)) 0 ⌝ }
+    ensures { λ r. ⌜ r ≡ connectionMode (now (payload .entry)) ⌝ }
 {
     number16(payload, 0)
 }
@@ -74,13 +74,28 @@ pub struct Place {
     pub size: usize,
 }
 
+// Where the bytes lie whose number stands before them, at a place; where they do not lie in the payload, the empty place at its start.
+fn sized_at(p: &[u8], at: u32) -> Place
+    ensures { λ r. ⌜ r ≡ sizedAt (now (p .entry)) at ⌝ }
+{
+    let size = number16(p, at) as usize;
+    let from = at as usize + 2;
+    if p.len() < from + size {
+        return Place { from: 0, size: 0 };
+    }
+    Place { from, size }
+}
+
 // Where the certificate of a Device Authentication payload lies; where it does not lie in the payload, the empty place at its start.
 pub fn certificate_of(payload: &[u8]) -> Place
     ensures { λ r. ⌜ r ≡ certificateOf (now (payload .entry)) ⌝ }
 {
-    let size = number16(payload, 3) as usize;
-    if payload.len() < 5 + size {
-        return Place { from: 0, size: 0 };
-    }
-    Place { from: 5, size }
+    sized_at(payload, 3)
+}
+
+// Where its thumbprint lies, after the certificate; where it does not lie in the payload, the empty place at its start.
+pub fn thumbprint_of(payload: &[u8]) -> Place
+    ensures { λ r. ⌜ r ≡ thumbprintOf (now (payload .entry)) ⌝ }
+{
+    sized_at(payload, 5 + number16(payload, 3) as u32)
 }

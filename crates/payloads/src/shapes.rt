@@ -18,69 +18,75 @@ use octets::numbers::number32;
 use wire::header::CONNECT;
 use wire::header::DISCOVERY;
 ghost use mathlib.Core.Path.{_≡_};
+ghost use mathlib.Core.Bool.{_&&_, _||_};
+ghost use lib.Dec.{leb, eqb};
+ghost use Rattle.laws.specs.Bytes.{be8, be16};
+ghost use Rattle.payloads.specs.Format.{acceptsFrom, accepts};
 ghost use Rattle.payloads.specs.Shapes.{
-  starts,
-  exchanges,
-  isPresenceRequest,
-  isConnectionRequest,
-  isConnectionResponse,
-  isDeviceAuthentication,
-  isDoneRequest,
-  isDoneResponse,
+  presenceRequest,
+  exchange,
+  connectionRequest,
+  pendingResponse,
+  otherResponse,
+  deviceAuthentication,
+  doneRequest,
+  doneResponse,
   isShaped,
   badPayload,
 };
 
 // The mode is 0 to 2 and the type is this one.
 fn starts(connect: u8, p: &[u8]) -> bool
-    ensures { λ r. ⌜ r ≡ starts connect (now (p .entry)) ⌝ }
+    ensures { λ r. ⌜ r ≡ (leb (be16 (now (p .entry)) 0) 2 && eqb (be8 (now (p .entry)) 2) connect) ⌝ }
 {
     (number16(p, 0) <= 2) & (byte(p, 2) == connect)
 }
 
 // The fields from HMACSize on are there, and nothing after them.
 fn exchanges(p: &[u8]) -> bool
-    ensures { λ r. ⌜ r ≡ exchanges (now (p .entry)) ⌝ }
+    ensures { λ r. ⌜ r ≡ acceptsFrom exchange (now (p .entry)) 4 ⌝ }
 {
-    (p.len() == EXCHANGE_SIZE)
-        & (number16(p, 4) == KEY_SIZE)
+    (number16(p, 4) == KEY_SIZE)
         & (number32(p, 14) == FRAGMENT_SIZE)
         & (number16(p, 18) == KEY_SIZE)
         & (number16(p, 52) == KEY_SIZE)
+        & (p.len() == EXCHANGE_SIZE)
 }
 
 // A Presence Request: the single byte 0.
 fn is_presence_request(p: &[u8]) -> bool
-    ensures { λ r. ⌜ r ≡ isPresenceRequest (now (p .entry)) ⌝ }
+    ensures { λ r. ⌜ r ≡ accepts presenceRequest (now (p .entry)) ⌝ }
 {
-    (p.len() == 1) & (byte(p, 0) == 0)
+    (byte(p, 0) == 0) & (p.len() == 1)
 }
 
 // A Connection Request, on curve 0.
 fn is_connection_request(p: &[u8]) -> bool
-    ensures { λ r. ⌜ r ≡ isConnectionRequest (now (p .entry)) ⌝ }
+    ensures { λ r. ⌜ r ≡ accepts connectionRequest (now (p .entry)) ⌝ }
 {
-    starts(CONNECTION_REQUEST, p) & (byte(p, 3) == 0) & exchanges(p)
+    starts(CONNECTION_REQUEST, p) & ((byte(p, 3) == 0) & exchanges(p))
 }
 
 // A Connection Response, Pending with the fields from HMACSize on, or another Result and nothing more.
 fn is_connection_response(p: &[u8]) -> bool
-    ensures { λ r. ⌜ r ≡ isConnectionResponse (now (p .entry)) ⌝ }
+    ensures { λ r. ⌜ r ≡ (accepts pendingResponse (now (p .entry)) || accepts otherResponse (now (p .entry))) ⌝ }
 {
     let result = byte(p, 3);
     let pending = (result == PENDING) & exchanges(p);
-    let other = (result != PENDING) & (result <= 3) & (p.len() == 4);
+    let other = (result <= 3) & (result != PENDING) & (p.len() == 4);
     starts(CONNECTION_RESPONSE, p) & (pending | other)
 }
 
 // A Device Authentication Request or Response: certificate and thumbprint, each after its length, and nothing more.
-fn is_device_authentication(connect: u8, p: &[u8]) -> bool
-    ensures { λ r. ⌜ r ≡ isDeviceAuthentication connect (now (p .entry)) ⌝ }
+fn is_device_authentication(p: &[u8]) -> bool
+    ensures { λ r. ⌜ r ≡ accepts deviceAuthentication (now (p .entry)) ⌝ }
 {
+    let connect = byte(p, 2);
     let certificate = number16(p, 3);
     let thumbprint = number16(p, 5 + certificate as u32);
-    let size = 7 + certificate as usize + thumbprint as usize;
-    starts(connect, p)
+    let size = 5 + certificate as usize + 2 + thumbprint as usize;
+    (number16(p, 0) <= 2)
+        & ((connect == DEVICE_REQUEST) | (connect == DEVICE_RESPONSE))
         & (1 <= certificate)
         & (certificate <= MOST_CERTIFICATE)
         & (thumbprint <= MOST_THUMBPRINT)
@@ -89,16 +95,16 @@ fn is_device_authentication(connect: u8, p: &[u8]) -> bool
 
 // An Authentication Done Request: nothing more than mode and type.
 fn is_done_request(p: &[u8]) -> bool
-    ensures { λ r. ⌜ r ≡ isDoneRequest (now (p .entry)) ⌝ }
+    ensures { λ r. ⌜ r ≡ accepts doneRequest (now (p .entry)) ⌝ }
 {
     starts(DONE_REQUEST, p) & (p.len() == 3)
 }
 
 // An Authentication Done Response, with a Status of 0 to 4.
 fn is_done_response(p: &[u8]) -> bool
-    ensures { λ r. ⌜ r ≡ isDoneResponse (now (p .entry)) ⌝ }
+    ensures { λ r. ⌜ r ≡ accepts doneResponse (now (p .entry)) ⌝ }
 {
-    starts(DONE_RESPONSE, p) & (byte(p, 3) <= 4) & (p.len() == 4)
+    starts(DONE_RESPONSE, p) & ((byte(p, 3) <= 4) & (p.len() == 4))
 }
 
 // The list of shapes: message type, plain or sealed, and the bytes.
@@ -111,8 +117,7 @@ fn is_shaped(kind: u8, sealed: bool, p: &[u8]) -> bool
     (discovery & is_presence_request(p))
         | (plain & is_connection_request(p))
         | (plain & is_connection_response(p))
-        | (secret & is_device_authentication(DEVICE_REQUEST, p))
-        | (secret & is_device_authentication(DEVICE_RESPONSE, p))
+        | (secret & is_device_authentication(p))
         | (secret & is_done_request(p))
         | (secret & is_done_response(p))
 }

@@ -3,7 +3,8 @@
 use Rattle.laws.proofs.Kit.{ℕ, _≤_, _<_, _≡_, refl, _∙_, ap, false, not, and-false, List, [], _∷_, _++_, length, replicate, le-ltb, arith}
 use Rattle.laws.specs.Bytes.{AreBytes}
 use Rattle.wire.specs.Fields.{badType, badFlags, badPiece, mostPieces, isSealed}
-use Rattle.payloads.specs.Shapes.{starts, exchanges, isConnectionRequest, isDeviceAuthentication, isDoneRequest, isShaped, badPayload}
+use Rattle.payloads.specs.Format.{acceptsFrom}
+use Rattle.payloads.specs.Shapes.{isShaped, badPayload}
 use Rattle.payloads.specs.Reading.{readRequest}
 use Rattle.wire.specs.declared.header.Header.{Header}
 use Rattle.sha256.specs.Digests.{digest}
@@ -79,15 +80,15 @@ module _ (F : ℕ) (keys report : List ℕ) (sized : badSize F ≡ false) (of-ke
       (ap (λ (s : Stepped). s .answer) q, λ i. record { connection = q i .connection; report = (s .1 ∙ r) i })
 
   requests : Steps (blank F) (waiting F) 0 requestBytes 1
-  unfolding hear connect host badFlags isSealed badPayload isShaped isConnectionRequest starts exchanges padding sealedSize
+  unfolding hear connect host badFlags isSealed badPayload isShaped acceptsFrom padding sealedSize
   requests = steps (blank F) (waiting F) 0 requestBytes 1 sized (omega arith) (are-bytes requestBytes refl) refl refl (omega arith) refl
 
   authenticates : Steps (waiting F) (passed F) 6 deviceBytes 3
-  unfolding hear connect host badFlags isSealed badPayload isShaped isDeviceAuthentication starts padding sealedSize
+  unfolding hear connect host badFlags isSealed badPayload isShaped acceptsFrom padding sealedSize
   authenticates = steps (waiting F) (passed F) 6 deviceBytes 3 sized (omega arith) (are-bytes deviceBytes refl) refl refl (omega arith) refl
 
   finishes : Steps (passed F) (ready F) 6 finishBytes 7
-  unfolding hear connect host badFlags isSealed badPayload isShaped isDeviceAuthentication isDoneRequest starts padding sealedSize
+  unfolding hear connect host badFlags isSealed badPayload isShaped acceptsFrom padding sealedSize
   finishes = steps (passed F) (ready F) 6 finishBytes 7 sized (omega arith) (are-bytes finishBytes refl) refl refl (omega arith) refl
 
   enrolled : Enrolled F keys report

@@ -6,6 +6,7 @@ pub mod RefusalTables
 pub mod StepTable
 pub mod Working
 pub mod ReadBack
+pub mod FieldsBack
 pub mod ReadAgain
 pub mod ReportsJoined
 pub mod Writes

@@ -1,8 +1,7 @@
 -- SPDX-License-Identifier: MPL-2.0
 pub mod Writing
+pub mod Puts
 pub mod Payloads
 pub mod ChainBack
 pub mod ReadBack
 pub mod PayloadBack
-pub mod ExchangeBack
-pub mod DeviceBack

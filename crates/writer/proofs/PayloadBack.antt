@@ -1,29 +1,29 @@
 -- SPDX-License-Identifier: MPL-2.0
--- What the payload writers write has its shape: the payloads that carry no more than a number.
-use Rattle.laws.proofs.Kit.{ℕ, _≤_, _≡_, refl, true, false, List, [], _∷_, _++_, eq-eqb, le-leb, div-add-mod'}
-use Rattle.laws.specs.Bytes.{bytes16}
-use Rattle.laws.proofs.Bools.{or-true}
-use Rattle.payloads.specs.Shapes.{starts, isPresenceRequest, isDoneRequest, isDoneResponse, isShaped, badPayload}
-use Rattle.payloads.specs.Reading.{codeOf}
-use Rattle.writer.specs.Payload.{coded, presenceRequest, doneRequest, doneResponse}
+-- What a payload writer wrote reads back: for any format, by the one theorem of formats.
+use Rattle.laws.proofs.Kit.{ℕ, _≡_, refl, true, not, List, [], _∷_, length, take, drop, take-append-seam, eqb, ltb, eqb-true, not-false, arith}
+use Rattle.laws.proofs.Cases.{on}
+use Rattle.laws.proofs.Firsts.{first-quiet}
+use Rattle.wire.specs.Refusals.{wrongPayload, noRoom}
+use Rattle.payloads.specs.Format.{Format, Values, fits, write, accepts, read}
+use Rattle.payloads.proofs.Formats.{read-back}
+use Rattle.writer.specs.Written.{putRefusal, written, output}
+use Rattle.writer.specs.Payload.{payloadWritten, payloadOutput}
+use Rattle.writer.specs.declared.Written.the-variants.{Bytes}
 
-pub starts-back : (mode connect : ℕ) (rest : List ℕ) → mode ≤ 2 → starts connect (bytes16 mode ++ (connect ∷ rest)) ≡ true
-unfolding starts
-starts-back mode connect rest h = rw (div-add-mod' mode 256, le-leb mode 2 h, eq-eqb connect connect refl)
+module _ (f : Format) (v : Values f) (out : List ℕ) (n : ℕ) (answered : payloadWritten f v out ≡ Bytes n) where
+  bytes-written : (fits f v ≡ true) × (take n (payloadOutput f v out) ≡ write f v)
+  unfolding written output putRefusal
+  bytes-written =
+      let size = length (write f v) in
+      let r = putRefusal (not (fits f v)) size (length out) in
+      on (eqb r 0)
+      (λ z.
+      let all = rw z at answered in
+      let e : size ≡ n = cc in
+      let quiet = first-quiet ((wrongPayload, not (fits f v)) ∷ (noRoom, ltb (length out) size) ∷ []) refl (eqb-true r 0 z) in
+      (not-false _ (quiet .0), rw (z, ← e) (take-append-seam (write f v) (drop size out))))
+      (λ z. let none = rw z at answered in let no : _≡_ {A = ℕ} 0 1 = cc in absurd (omega arith))
 
--- The byte after the type is read back.
-pub result-back : (mode connect code : ℕ) (rest : List ℕ) → codeOf (coded mode connect code ++ rest) ≡ code
-result-back mode connect code rest = refl
-
-pub presence-good : badPayload 1 false presenceRequest ≡ false
-unfolding badPayload isShaped isPresenceRequest
-presence-good = refl
-
-module _ (mode : ℕ) (h : mode ≤ 2) where
-  pub done-request-good : badPayload 2 true (doneRequest mode) ≡ false
-  unfolding badPayload isShaped isDoneRequest
-  done-request-good = rw (starts-back mode 6 [] h, or-true, or-true)
-
-  pub done-response-good : (status : ℕ) → status ≤ 4 → badPayload 2 true (doneResponse mode status) ≡ false
-  unfolding badPayload isShaped isDoneResponse
-  done-response-good status k = rw (starts-back mode 7 (status ∷ []) h, le-leb status 4 k, or-true, or-true, or-true)
+  -- The first n bytes of the output are those of the format; they are accepted, and say the values that were given.
+  pub payload-back : (take n (payloadOutput f v out) ≡ write f v) × (accepts f (write f v) ≡ true) × (read f (write f v) ≡ v)
+  payload-back = let b = bytes-written in let k = read-back f v (b .0) in (b .1, k .0, k .1)

@@ -24,25 +24,21 @@ use wire::refusals::WRONG_PAYLOAD;
 ghost use mathlib.Core.Path.{_≡_};
 ghost use mathlib.Core.List.{_∷_, [], _++_};
 ghost use Prim.Native.Nat.{_+_, _≤_};
-ghost use mathlib.Core.Bool.{false};
 ghost use lib.ListN.{length};
 ghost use lib.Seq.{sets};
+ghost use lib.Dec.{eqb};
 ghost use Rattle.laws.specs.Bytes.{bytes16};
-ghost use Rattle.writer.specs.Payload.{
-  exchangeBytes,
+ghost use Rattle.payloads.specs.Format.{one, fixed, _and_, fits, write};
+ghost use Rattle.payloads.specs.Shapes.{
+  ofType,
+  exchange,
   presenceRequest,
   connectionRequest,
-  connectionResponse,
   deviceAuthentication,
   doneRequest,
   doneResponse,
-  coded,
-  badMode,
-  badResponse,
-  badDevice,
-  badDone,
-  responseSize,
 };
+ghost use Rattle.writer.specs.Payload.{payloadWritten, payloadOutput, exchangeValues, responseFormat, responseValues};
 ghost use Rattle.writer.specs.Written.{written, output};
 
 // Puts a nonce.
@@ -52,12 +48,11 @@ fn put_nonce(out: &mut [u8], at: u8, nonce: [u8; 8])
     store_bytes(out, at as usize, &nonce);
 }
 
-// Puts the length of a coordinate, and the coordinate.
+// Puts a coordinate.
 fn put_coordinate(out: &mut [u8], at: u8, coordinate: [u8; 32])
-    ensures { λ _. ⌜ (now (out .exit) ≡ sets (now (out .entry)) at (bytes16 32 ++ coordinate)) × (length coordinate ≡ 32) ⌝ }
+    ensures { λ _. ⌜ (now (out .exit) ≡ sets (now (out .entry)) at coordinate) × (length coordinate ≡ 32) ⌝ }
 {
-    store16(out, at as u32, KEY_SIZE);
-    store_bytes(out, at as usize + 2, &coordinate);
+    store_bytes(out, at as usize, &coordinate);
 }
 
 // Puts mode and type.
@@ -68,24 +63,10 @@ fn put_start(out: &mut [u8], mode: u16, connect: u8)
     store8(out, 2, connect);
 }
 
-// Puts the fields from HMACSize on.
-fn put_exchange(out: &mut [u8], request: Request)
-    ensures { λ _. ⌜ (now (out .exit) ≡ sets (now (out .entry)) 4 (exchangeBytes request)) × (length (exchangeBytes request) ≡ 82) ⌝ }
-{
-    let nonce = request.nonce;
-    let x = request.x;
-    let y = request.y;
-    store16(out, 4, KEY_SIZE);
-    put_nonce(out, 6, nonce);
-    store32(out, 14, FRAGMENT_SIZE);
-    put_coordinate(out, 18, x);
-    put_coordinate(out, 52, y);
-}
-
 // Writes the payload of a Presence Request.
 pub fn write_presence_request(out: &mut [u8]) -> Written
-    ensures answer { λ r. ⌜ r ≡ written false 1 (now (out .entry)) ⌝ }
-    ensures bytes { λ _. ⌜ now (out .exit) ≡ output false 1 presenceRequest (now (out .entry)) ⌝ }
+    ensures answer { λ r. ⌜ r ≡ payloadWritten presenceRequest tt (now (out .entry)) ⌝ }
+    ensures bytes { λ _. ⌜ now (out .exit) ≡ payloadOutput presenceRequest tt (now (out .entry)) ⌝ }
 {
     let n = put_refusal(false, 1, out.len());
     if n != 0 {
@@ -95,9 +76,9 @@ pub fn write_presence_request(out: &mut [u8]) -> Written
     Written::Bytes(1)
 }
 
-// Puts mode, type and the byte after it.
+// Puts mode, type and the byte after it, which is a curve, a Result or a Status.
 fn put_coded(out: &mut [u8], mode: u16, connect: u8, code: u8)
-    ensures { λ _. ⌜ now (out .exit) ≡ sets (now (out .entry)) 0 (coded mode connect code) ⌝ }
+    ensures { λ _. ⌜ now (out .exit) ≡ sets (now (out .entry)) 0 (bytes16 mode ++ (connect ∷ code ∷ [])) ⌝ }
 {
     store16(out, 0, mode);
     store8(out, 2, connect);
@@ -107,7 +88,7 @@ fn put_coded(out: &mut [u8], mode: u16, connect: u8, code: u8)
 // Writes a payload of 4 bytes.
 fn write_coded(bad: bool, mode: u16, connect: u8, code: u8, out: &mut [u8]) -> Written
     ensures answer { λ r. ⌜ r ≡ written bad 4 (now (out .entry)) ⌝ }
-    ensures bytes { λ _. ⌜ now (out .exit) ≡ output bad 4 (coded mode connect code) (now (out .entry)) ⌝ }
+    ensures bytes { λ _. ⌜ now (out .exit) ≡ output bad 4 (bytes16 mode ++ (connect ∷ code ∷ [])) (now (out .entry)) ⌝ }
 {
     let n = put_refusal(bad, 4, out.len());
     if n != 0 {
@@ -117,52 +98,74 @@ fn write_coded(bad: bool, mode: u16, connect: u8, code: u8, out: &mut [u8]) -> W
     Written::Bytes(4)
 }
 
-// Writes a payload of 86 bytes.
-fn write_exchange(mode: u16, connect: u8, code: u8, request: Request, out: &mut [u8]) -> Written
-    ensures answer { λ r. ⌜ r ≡ written (badMode mode) 86 (now (out .entry)) ⌝ }
-    ensures bytes { λ _. ⌜ now (out .exit) ≡ output (badMode mode) 86 (coded mode connect code ++ exchangeBytes request) (now (out .entry)) ⌝ }
+// The values of an exchange fit if the mode does: nonce, X and Y have their sizes.
+fn fits_exchange(mode: u16, nonce: [u8; 8], x: [u8; 32], y: [u8; 32]) -> bool
+    ensures { λ r. ⌜ (r ≡ fits connectionRequest (mode and nonce and x and y and tt)) × (length nonce ≡ 8) × (length x ≡ 32) × (length y ≡ 32) ⌝ }
 {
-    let n = put_refusal(2 < mode, EXCHANGE_SIZE, out.len());
+    mode <= 2
+}
+
+// Puts the fields from HMACSize on.
+fn put_exchange(out: &mut [u8], nonce: [u8; 8], x: [u8; 32], y: [u8; 32])
+    ensures { λ _. ⌜ now (out .exit) ≡ sets (now (out .entry)) 4 (write exchange (nonce and x and y and tt)) ⌝ }
+{
+    store16(out, 4, KEY_SIZE);
+    put_nonce(out, 6, nonce);
+    store32(out, 14, FRAGMENT_SIZE);
+    store16(out, 18, KEY_SIZE);
+    put_coordinate(out, 20, x);
+    store16(out, 52, KEY_SIZE);
+    put_coordinate(out, 54, y);
+}
+
+// Writes a payload of 86 bytes, by its type and the byte after it.
+fn write_exchange(mode: u16, connect: u8, code: u8, request: Request, out: &mut [u8]) -> Written
+    ensures answer { λ r. ⌜ r ≡ payloadWritten (ofType connect (fixed one code ∷ exchange)) (exchangeValues mode request) (now (out .entry)) ⌝ }
+    ensures bytes { λ _. ⌜ now (out .exit) ≡ payloadOutput (ofType connect (fixed one code ∷ exchange)) (exchangeValues mode request)
+        (now (out .entry)) ⌝ }
+{
+    let nonce = request.nonce;
+    let x = request.x;
+    let y = request.y;
+    let fits = fits_exchange(mode, nonce, x, y);
+    let n = put_refusal(!fits, EXCHANGE_SIZE, out.len());
     if n != 0 {
         return Written::Refused(n);
     }
     put_coded(out, mode, connect, code);
-    put_exchange(out, request);
+    put_exchange(out, nonce, x, y);
     Written::Bytes(EXCHANGE_SIZE)
 }
 
 // Writes the payload of a Connection Request, on curve 0.
 pub fn write_connection_request(mode: u16, request: Request, out: &mut [u8]) -> Written
-    ensures answer { λ r. ⌜ r ≡ written (badMode mode) 86 (now (out .entry)) ⌝ }
-    ensures bytes { λ _. ⌜ now (out .exit) ≡ output (badMode mode) 86 (connectionRequest mode request) (now (out .entry)) ⌝ }
+    ensures answer { λ r. ⌜ r ≡ payloadWritten connectionRequest (exchangeValues mode request) (now (out .entry)) ⌝ }
+    ensures bytes { λ _. ⌜ now (out .exit) ≡ payloadOutput connectionRequest (exchangeValues mode request) (now (out .entry)) ⌝ }
 {
     write_exchange(mode, CONNECTION_REQUEST, 0, request, out)
 }
 
 // Writes the payload of a Connection Response; only one that is Pending carries nonce, X and Y.
 pub fn write_connection_response(mode: u16, result: u8, request: Request, out: &mut [u8]) -> Written
-    ensures answer { λ r. ⌜ r ≡ written (badResponse mode result) (responseSize result) (now (out .entry)) ⌝ }
-    ensures bytes { λ _. ⌜ now (out .exit) ≡ output (badResponse mode result) (responseSize result)
-        (connectionResponse mode result request) (now (out .entry)) ⌝ }
+    ensures answer { λ r. ⌜ r ≡ payloadWritten (responseFormat (eqb result 1)) (responseValues (eqb result 1) mode result request)
+        (now (out .entry)) ⌝ }
+    ensures bytes { λ _. ⌜ now (out .exit) ≡ payloadOutput (responseFormat (eqb result 1)) (responseValues (eqb result 1) mode result request)
+        (now (out .entry)) ⌝ }
 {
     if result == PENDING {
         return write_exchange(mode, CONNECTION_RESPONSE, PENDING, request, out);
     }
-    write_coded(
-        (2 < mode) | (3 < result),
-        mode,
-        CONNECTION_RESPONSE,
-        result,
-        out,
-    )
+    let fits = (mode <= 2) & (result <= 3);
+    write_coded(!fits, mode, CONNECTION_RESPONSE, result, out)
 }
 
 // Writes the payload of an Authentication Done Request.
 pub fn write_done_request(mode: u16, out: &mut [u8]) -> Written
-    ensures answer { λ r. ⌜ r ≡ written (badMode mode) 3 (now (out .entry)) ⌝ }
-    ensures bytes { λ _. ⌜ now (out .exit) ≡ output (badMode mode) 3 (doneRequest mode) (now (out .entry)) ⌝ }
+    ensures answer { λ r. ⌜ r ≡ payloadWritten doneRequest (mode and tt) (now (out .entry)) ⌝ }
+    ensures bytes { λ _. ⌜ now (out .exit) ≡ payloadOutput doneRequest (mode and tt) (now (out .entry)) ⌝ }
 {
-    let n = put_refusal(2 < mode, 3, out.len());
+    let fits = mode <= 2;
+    let n = put_refusal(!fits, 3, out.len());
     if n != 0 {
         return Written::Refused(n);
     }
@@ -172,23 +175,25 @@ pub fn write_done_request(mode: u16, out: &mut [u8]) -> Written
 
 // Writes the payload of an Authentication Done Response.
 pub fn write_done_response(mode: u16, status: u8, out: &mut [u8]) -> Written
-    ensures answer { λ r. ⌜ r ≡ written (badDone mode status) 4 (now (out .entry)) ⌝ }
-    ensures bytes { λ _. ⌜ now (out .exit) ≡ output (badDone mode status) 4 (doneResponse mode status) (now (out .entry)) ⌝ }
+    ensures answer { λ r. ⌜ r ≡ payloadWritten doneResponse (mode and status and tt) (now (out .entry)) ⌝ }
+    ensures bytes { λ _. ⌜ now (out .exit) ≡ payloadOutput doneResponse (mode and status and tt) (now (out .entry)) ⌝ }
 {
-    write_coded((2 < mode) | (4 < status), mode, DONE_RESPONSE, status, out)
+    let fits = (mode <= 2) & (status <= 4);
+    write_coded(!fits, mode, DONE_RESPONSE, status, out)
 }
 
 fn put_device(out: &mut [u8], mode: u16, connect: u8, certificate: &[u8], thumbprint: &[u8])
     requires { ⌜ (length (now certificate) ≤ 2048) × (length (now thumbprint) ≤ 512) ⌝ }
-    ensures { λ _. ⌜ now (out .exit) ≡ sets (now (out .entry)) 0 (deviceAuthentication connect mode (now (certificate .entry))
-        (now (thumbprint .entry))) ⌝ }
+    ensures { λ _. ⌜ now (out .exit) ≡ sets (now (out .entry)) 0 (write deviceAuthentication
+        (mode and connect and now (certificate .entry) and now (thumbprint .entry) and tt)) ⌝ }
 {
     let n = certificate.len();
-    put_start(out, mode, connect);
+    store16(out, 0, mode);
+    store8(out, 2, connect);
     store16(out, 3, n as u16);
     store_bytes(out, 5, certificate);
     store16(out, 5 + n as u32, thumbprint.len() as u16);
-    store_bytes(out, 7 + n, thumbprint);
+    store_bytes(out, 5 + n + 2, thumbprint);
 }
 
 // Writes the payload of a Device Authentication Request or Response, by its type.
@@ -199,20 +204,19 @@ pub fn write_device_authentication(
     thumbprint: &[u8],
     out: &mut [u8],
 ) -> Written
-    ensures answer { λ r. ⌜ r ≡ written (badDevice connect mode (now (certificate .entry)) (now (thumbprint .entry)))
-        (7 + length (now (certificate .entry)) + length (now (thumbprint .entry))) (now (out .entry)) ⌝ }
-    ensures bytes { λ _. ⌜ now (out .exit) ≡ output (badDevice connect mode (now (certificate .entry)) (now (thumbprint .entry)))
-        (7 + length (now (certificate .entry)) + length (now (thumbprint .entry)))
-        (deviceAuthentication connect mode (now (certificate .entry)) (now (thumbprint .entry))) (now (out .entry)) ⌝ }
+    ensures answer { λ r. ⌜ r ≡ payloadWritten deviceAuthentication
+        (mode and connect and now (certificate .entry) and now (thumbprint .entry) and tt) (now (out .entry)) ⌝ }
+    ensures bytes { λ _. ⌜ now (out .exit) ≡ payloadOutput deviceAuthentication
+        (mode and connect and now (certificate .entry) and now (thumbprint .entry) and tt) (now (out .entry)) ⌝ }
 {
     let c = certificate.len();
     let t = thumbprint.len();
-    if ((connect != DEVICE_REQUEST) & (connect != DEVICE_RESPONSE))
-        | (2 < mode)
-        | (c == 0)
-        | ((MOST_CERTIFICATE as usize) < c)
-        | ((MOST_THUMBPRINT as usize) < t)
-    {
+    let fits = (mode <= 2)
+        & ((connect == DEVICE_REQUEST) | (connect == DEVICE_RESPONSE))
+        & (1 <= c)
+        & (c <= (MOST_CERTIFICATE as usize))
+        & (t <= (MOST_THUMBPRINT as usize));
+    if !fits {
         return Written::Refused(WRONG_PAYLOAD);
     }
     let size = 7 + c + t;

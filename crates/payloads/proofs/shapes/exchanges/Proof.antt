@@ -1,12 +1,13 @@
 -- SPDX-License-Identifier: MPL-2.0
--- The code is the definition, with what the calls answer.
-use Rattle.payloads.specs.Shapes.{exchanges}
+-- The code is the description's test, with what the calls answer.
+use Rattle.laws.proofs.Bools.{and-assoc}
+use Rattle.payloads.specs.Format.{acceptsFrom}
 use Rattle.payloads.proofs.shapes.exchanges.Statement.{statement}
 use Rattle.payloads.proofs.shapes.exchanges.Tie as tie
 
 pub exchanges-spec : {M : Type 1} → statement M
-unfolding exchanges
+unfolding acceptsFrom
 exchanges-spec =
     tie.close (tie.spec
-    _ _ _ _ (λ c. rw (c .number163 .ensures, c .before .number162 .ensures)
-    (rw (c .before .before .number32 .ensures, c .before .before .before .number16 .ensures))))
+    _ _ _ _ (λ c. simp and-assoc (rw (c .number163 .ensures, c .before .number162 .ensures)
+    (rw (c .before .before .number32 .ensures, c .before .before .before .number16 .ensures)))))

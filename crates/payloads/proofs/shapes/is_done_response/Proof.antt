@@ -1,9 +1,10 @@
 -- SPDX-License-Identifier: MPL-2.0
--- The code is the definition, with what the calls answer.
-use Rattle.payloads.specs.Shapes.{isDoneResponse}
+-- Over the fields, with what the calls answer.
+use Rattle.payloads.proofs.Steps.{over-free, at-end, over-start}
 use Rattle.payloads.proofs.shapes.is_done_response.Statement.{statement}
 use Rattle.payloads.proofs.shapes.is_done_response.Tie as tie
 
 pub is-done-response-spec : {M : Type 1} → statement M
-unfolding isDoneResponse
-is-done-response-spec = tie.close (tie.spec _ _ (λ c. rw (c .byte .ensures, c .before .starts .ensures)))
+is-done-response-spec =
+    tie.close (tie.spec
+    _ _ (λ c. over-start _ _ _ (c .before .starts .ensures) (over-free _ _ _ _ _ (c .byte .ensures) (at-end _ _))))

@@ -2,6 +2,7 @@
 -- The code joins the rows of the list, without the list's end.
 use Rattle.laws.proofs.Bools.{or-assoc, or-none}
 use Rattle.payloads.specs.Shapes.{isShaped}
+use Rattle.payloads.proofs.Steps.{and-or}
 use Rattle.payloads.proofs.shapes.is_shaped.Statement.{statement}
 use Rattle.payloads.proofs.shapes.is_shaped.Tie as tie
 
@@ -10,10 +11,10 @@ unfolding isShaped
 returns c =
     let done = c .before in
     let response = done .before .before in
-    let request = response .before .before in
-    simp (or-assoc, or-none) (rw (c .is-done-response .ensures, done .is-done-request .ensures, done .before .is-device-authentication2 .ensures)
-    (rw (response .is-device-authentication .ensures, response .before .is-connection-response .ensures, request .is-connection-request .ensures)
-    (rw (request .before .is-presence-request .ensures))))
+    let request = response .before in
+    simp (or-assoc, or-none) (rw (c .is-done-response .ensures, done .is-done-request .ensures, done .before .is-device-authentication .ensures)
+    (rw (response .is-connection-response .ensures, request .is-connection-request .ensures, request .before .is-presence-request .ensures)
+    (simp (and-or, or-assoc))))
 
 pub is-shaped-spec : {M : Type 1} → statement M
-is-shaped-spec = tie.close (tie.spec _ _ _ _ _ _ _ returns)
+is-shaped-spec = tie.close (tie.spec _ _ _ _ _ _ returns)

@@ -1,0 +1,5 @@
+-- SPDX-License-Identifier: MPL-2.0
+pub mod Steps
+pub mod Widths
+pub mod Formats
+pub mod Shaped

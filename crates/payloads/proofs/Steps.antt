@@ -1,0 +1,42 @@
+-- SPDX-License-Identifier: MPL-2.0
+-- The tests of the code step over the fields of a description, one field at a time; where two formats begin alike, their beginning is tested once.
+use Rattle.laws.proofs.Kit.{ℕ, _+_, _≡_, refl, sym, Bool, true, false, _&&_, _||_, List, [], _∷_, length, eqb, leb, le-leb, arith}
+use Rattle.laws.specs.Bytes.{be8, be16}
+use Rattle.laws.proofs.Bools.{and-one, and-assoc}
+use Rattle.payloads.specs.Format.{Width, widthOf, numberAt, fixed, free, Format, acceptsFrom, accepts}
+use Rattle.payloads.specs.Shapes.{ofType, deviceAuthentication}
+
+pub and-or : (a b c : Bool) → (a && (b || c)) ≡ ((a && b) || (a && c))
+and-or true b c = refl
+and-or false b c = refl
+
+module _ (p : List ℕ) where
+  pub over-fixed : (w : Width) (n at : ℕ) (f : Format) {x : ℕ} {r : Bool} → x ≡ numberAt w p at → r ≡ acceptsFrom f p (at + widthOf w)
+      → (eqb x n && r) ≡ acceptsFrom (fixed w n ∷ f) p at
+  unfolding acceptsFrom
+  over-fixed w n at f d e = rw (d, e)
+
+  pub over-free : (w : Width) (allowed : ℕ → Bool) (at : ℕ) (f : Format) {x : ℕ} {r : Bool} → x ≡ numberAt w p at
+      → r ≡ acceptsFrom f p (at + widthOf w) → (allowed x && r) ≡ acceptsFrom (free w allowed ∷ f) p at
+  unfolding acceptsFrom
+  over-free w allowed at f d e = rw (d, e)
+
+  pub at-end : (at : ℕ) → eqb (length p) at ≡ acceptsFrom [] p at
+  unfolding acceptsFrom
+  at-end at = refl
+
+  -- Mode and type.
+  pub over-start : (type : ℕ) (f : Format) {s r : Bool} → s ≡ (leb (be16 p 0) 2 && eqb (be8 p 2) type) → r ≡ acceptsFrom f p 3
+      → (s && r) ≡ accepts (ofType type f) p
+  unfolding acceptsFrom
+  over-start type f d e = rw (d, e) (sym (and-assoc (leb (be16 p 0) 2) (eqb (be8 p 2) type) (acceptsFrom f p 3)))
+
+  pub over-either : (type : ℕ) (f g : Format) {s r t : Bool} → s ≡ (leb (be16 p 0) 2 && eqb (be8 p 2) type) → r ≡ acceptsFrom f p 3
+      → t ≡ acceptsFrom g p 3 → (s && (r || t)) ≡ (accepts (ofType type f) p || accepts (ofType type g) p)
+  over-either type f g {s} {r} {t} d e h = rw (← over-start type f d e, ← over-start type g d h) (and-or s r t)
+
+  pub over-device : {m k c t : ℕ} → m ≡ be16 p 0 → k ≡ be8 p 2 → c ≡ be16 p 3 → t ≡ be16 p (5 + c)
+      → (leb m 2 && (eqb k 2 || eqb k 3) && leb 1 c && leb c 2048 && leb t 512 && eqb (length p) (5 + c + 2 + t)) ≡ accepts deviceAuthentication p
+  unfolding acceptsFrom
+  over-device {m} {k} {c} {t} d e f g =
+      rw (← d, ← e, ← f, ← g, le-leb 0 t (omega arith)) (simp (and-assoc, and-one))

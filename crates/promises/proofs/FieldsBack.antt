@@ -1,0 +1,125 @@
+-- SPDX-License-Identifier: MPL-2.0
+-- What a payload writer wrote is the bytes of its format, accepted, and it says the values that were given (`payload-back`, over any format). A
+-- reader of a field that is free gives one of these values; of one that is fixed, a byte of the bytes.
+use Rattle.laws.proofs.Kit.{ℕ, _+_, _≤_, _≡_, refl, sym, _∙_, ap, Bool, true, false, true≢false, _&&_, List, length, take-append-seam, eqb, leb}
+use Rattle.laws.proofs.Kit.{eqb-true, eq-eqb, le-ltb, lit<, arith}
+use Rattle.laws.specs.Bytes.{be8, be16, bytesAt}
+use Rattle.laws.proofs.Bools.{and-true}
+use Rattle.laws.proofs.Parts.{bytesAt-part}
+use Rattle.payloads.specs.Format.{Format, Values, _and_, write, acceptsFrom, readFrom, accepts, read}
+use Rattle.payloads.specs.Shapes.{either, presenceRequest, connectionRequest, deviceAuthentication, doneRequest, doneResponse, badPayload}
+use Rattle.payloads.specs.Reading.{connectionMode, connectType, codeOf, readRequest, sizedAt, certificateOf, thumbprintOf}
+use Rattle.payloads.specs.declared.reading.Request.{Request}
+use Rattle.payloads.proofs.Shaped.{shape-good}
+use Rattle.writer.specs.Written.{putRefusal, written, output}
+use Rattle.writer.specs.Payload.{exchangeValues, responseFormat, responseValues}
+use Rattle.writer.proofs.PayloadBack.{payload-back}
+use Rattle.promises.specs.Fields.{WrotePayload, partOf, FieldsBack, CanBeWritten}
+
+module _ (f : Format) (v : Values f) (p : List ℕ) (w : WrotePayload f v p) where
+  is : p ≡ write f v
+  is = w .bytes ∙ payload-back f v (w .output) (w .size) (w .answered) .0
+
+  accepted : accepts f p ≡ true
+  accepted = rw is (payload-back f v (w .output) (w .size) (w .answered) .1)
+
+  says : read f p ≡ v
+  says = rw is (payload-back f v (w .output) (w .size) (w .answered) .2)
+
+presence : (p : List ℕ) → WrotePayload presenceRequest tt p → badPayload 1 false p ≡ false
+presence p w = shape-good p 0 (lit< tt) (accepted _ _ p w)
+
+request : (mode : ℕ) (r : Request) (p : List ℕ) → WrotePayload connectionRequest (exchangeValues mode r) p
+    → (badPayload 2 false p ≡ false) × (connectionMode p ≡ mode) × (connectType p ≡ 0) × (readRequest p ≡ r)
+unfolding write readFrom readRequest
+request mode r p w =
+    let s = says _ _ p w in (
+      shape-good p 1 (lit< tt) (accepted _ _ p w),
+      (λ i. s i .0),
+      ap connectType (is _ _ p w),
+      (λ i. record { nonce = s i .1 .0; x = s i .1 .1 .0; y = s i .1 .1 .1 .0 }),
+    )
+
+response : (mode result : ℕ) (r : Request) (p : List ℕ) (t : Bool) → eqb result 1 ≡ t
+    → WrotePayload (responseFormat t) (responseValues t mode result r) p
+    → (badPayload 2 false p ≡ false) × (connectionMode p ≡ mode) × (connectType p ≡ 1) × (codeOf p ≡ result) × (result ≡ 1 → readRequest p ≡ r)
+unfolding write readFrom readRequest
+response mode result r p true e w =
+    let s = says _ _ p w in (
+      shape-good p 2 (lit< tt) (accepted _ _ p w),
+      (λ i. s i .0),
+      ap connectType (is _ _ p w),
+      ap codeOf (is _ _ p w) ∙ sym (eqb-true result 1 e),
+      (λ z i. record { nonce = s i .1 .0; x = s i .1 .1 .0; y = s i .1 .1 .1 .0 }),
+    )
+response mode result r p false e w =
+    let s = says _ _ p w in (
+      shape-good p 3 (lit< tt) (accepted _ _ p w),
+      (λ i. s i .0),
+      ap connectType (is _ _ p w),
+      ap codeOf (is _ _ p w),
+      (λ z. absurd (true≢false (sym (eq-eqb result 1 z) ∙ e))),
+    )
+
+-- Bytes after their number lie where `sizedAt` says, if they lie in the payload.
+sized-part : (p : List ℕ) (at : ℕ) → at + 2 + be16 p at ≤ length p → partOf p (sizedAt p at) ≡ bytesAt p (at + 2) (be16 p at)
+sized-part p at h = rw (le-ltb (length p) (at + 2 + be16 p at) h) (sym (bytesAt-part p (at + 2) (be16 p at) h))
+
+-- The length of a Device Authentication payload that is accepted.
+device-length : (p : List ℕ) → accepts deviceAuthentication p ≡ true → length p ≡ 5 + be16 p 3 + 2 + be16 p (5 + be16 p 3)
+unfolding acceptsFrom
+device-length p h =
+    let c = be16 p 3 in
+    let t = be16 p (5 + c) in
+    let rest = and-true (either 2 3 (be8 p 2)) _ (and-true (leb (be16 p 0) 2) _ h .1) .1 in
+    eqb-true (length p) _ (and-true (leb 0 t && leb t 512) _ (and-true (leb 1 c && leb c 2048) _ rest .1) .1)
+
+device : (connect mode : ℕ) (certificate thumbprint p : List ℕ)
+    → WrotePayload deviceAuthentication (mode and connect and certificate and thumbprint and tt) p
+    → (badPayload 2 true p ≡ false) × (connectionMode p ≡ mode) × (connectType p ≡ connect)
+    × (partOf p (certificateOf p) ≡ certificate) × (partOf p (thumbprintOf p) ≡ thumbprint)
+unfolding write readFrom certificateOf thumbprintOf
+device connect mode certificate thumbprint p w =
+    let s = says _ _ p w in
+    let a = accepted _ _ p w in
+    let l = device-length p a in (
+      shape-good p 4 (lit< tt) a,
+      (λ i. s i .0),
+      ap connectType (is _ _ p w),
+      sized-part p 3 (omega arith) ∙ (λ i. s i .1 .1 .0),
+      sized-part p (5 + be16 p 3) (omega arith) ∙ (λ i. s i .1 .1 .1 .0),
+    )
+
+finish : (mode : ℕ) (p : List ℕ) → WrotePayload doneRequest (mode and tt) p
+    → (badPayload 2 true p ≡ false) × (connectionMode p ≡ mode) × (connectType p ≡ 6)
+unfolding write readFrom
+finish mode p w = (shape-good p 5 (lit< tt) (accepted _ _ p w), (λ i. says _ _ p w i .0), ap connectType (is _ _ p w))
+
+finished : (mode status : ℕ) (p : List ℕ) → WrotePayload doneResponse (mode and status and tt) p
+    → (badPayload 2 true p ≡ false) × (connectionMode p ≡ mode) × (connectType p ≡ 7) × (codeOf p ≡ status)
+unfolding write readFrom
+finished mode status p w =
+    (shape-good p 6 (lit< tt) (accepted _ _ p w), (λ i. says _ _ p w i .0), ap connectType (is _ _ p w), ap codeOf (is _ _ p w))
+
+pub fields-back : FieldsBack
+fields-back =
+    record {
+      presence-request = presence;
+      connection-request = request;
+      connection-response = λ mode result r p w. response mode result r p (eqb result 1) refl w;
+      device-authentication = device;
+      done-request = finish;
+      done-response = finished;
+    }
+
+pub can-be-written : CanBeWritten
+unfolding written output putRefusal
+can-be-written f v h =
+    let n = length (write f v) in
+    let roomy = le-ltb n n (omega arith) in
+    record {
+      output = write f v;
+      size = n;
+      answered = rw (h, roomy);
+      bytes = rw (h, roomy) (sym (take-append-seam (write f v) _));
+    }
