@@ -7,13 +7,13 @@ use Rattle.laws.specs.Rows.{first, orElse}
 use Rattle.laws.proofs.Cases.{on}
 use Rattle.laws.proofs.Firsts.{first-append, first-leads, leads-first}
 use Rattle.wire.specs.Chain.{leaves}
-use Rattle.wire.specs.Reader.{headerOf, chainOf, headerRows, rowsOf, refusalWith, refusalOf}
-use Rattle.wire.specs.declared.header.Header.{Header}
+use Rattle.wire.specs.Reader.{chainOf, headerRows, rowsOf, refusalWith, refusalOf, headerFound}
 use Rattle.wire.proofs.Reading.{read-good}
 use Rattle.wire.proofs.Sound as wire
 use Rattle.seal.specs.Opening.{sealedPart, noPart, keyRows, tagRows, partRows, partRefusal, openRefusal}
 use Rattle.message.specs.Reading.{unless, payloadRows, readMessage}
 use Rattle.message.specs.Writing.{writeRefusal}
+use Rattle.message.specs.declared.reading.FoundMessage.{FoundMessage}
 use Rattle.message.specs.declared.reading.MessageRead.the-variants.{Read}
 use Rattle.joining.specs.Cut.{cutRefusal}
 use Rattle.promises.specs.Examples.{numberOf}
@@ -38,7 +38,7 @@ module _ (m keys : List ℕ) (room : ℕ) (bytes : AreBytes m) where
   part-there : refusalOf m ≡ 0 → sealed m ≡ true → noPart (length m) (start m) ≡ 0
   unfolding noPart
   part-there z s =
-      let w = wire.read-sound m (headerOf m) (start m) (leaves (chainOf m)) (read-good m z) in
+      let w = wire.read-sound m (headerFound m) (read-good m z) in
       let b = w .blocks s in
       let t = wire.sealed-tag (be16 m 6) s in
       let short : length m ≤ 65535 = omega (arith, w .good .size, bytes .at 2, bytes .at 3) in
@@ -65,14 +65,14 @@ module _ (m keys : List ℕ) (room : ℕ) (bytes : AreBytes m) where
       let row = payloadRows (be8 m 5) (sealed m) (payloadIn m keys) in
       first-append (headerTable m ++ sealedTable m keys room) row refl ∙ ap (λ (n : ℕ). orElse n (first row)) early-first
 
-number-unless : (n : ℕ) (h : Header) (s : Bool) (from size : ℕ) → numberOf (unless n (Read h s from size)) ≡ n
-number-unless n h s from size = on (eqb n 0) (λ e. rw e (sym (eqb-true n 0 e))) (λ e. rw e)
+number-unless : (n : ℕ) (f : FoundMessage) → numberOf (unless n (Read f)) ≡ n
+number-unless n f = on (eqb n 0) (λ e. rw e (sym (eqb-true n 0 e))) (λ e. rw e)
 
 pub reader-exact : ReaderExact
 reader-exact m keys room n b z =
     let rows = readerTable m keys room in
     let e : readMessage m keys room ≡ unless (first rows) (whatIsRead m keys) =
     read-by-number m keys room ∙ ap (λ (n : ℕ). unless n (whatIsRead m keys)) (sym (reader-first m keys room b)) in (
-      λ r. first-leads n z rows (sym (number-unless (first rows) _ _ _ _) ∙ ap numberOf (sym e ∙ r)),
+      λ r. first-leads n z rows (sym (number-unless (first rows) _) ∙ ap numberOf (sym e ∙ r)),
       λ l. e ∙ ap (λ (n : ℕ). unless n (whatIsRead m keys)) (leads-first n rows l) ∙ rw (ne-eqb n 0 z),
     )

@@ -4,6 +4,7 @@ use Rattle.laws.proofs.Kit.{ℕ, _≡_, refl, _∙_, ap, List, [], _∷_}
 use Rattle.wire.specs.declared.header.Header.{Header}
 use Rattle.message.specs.Reading.{workingAfter}
 use Rattle.message.specs.Handed.{payload}
+use Rattle.message.specs.declared.reading.MessageRead.the-variants.{Read}
 use Rattle.hub.specs.declared.Connection.{Connection}
 use Rattle.hub.specs.declared.Stepped.{Stepped}
 use Rattle.hub.specs.declared.Answer.the-variants.{Reply, Again}
@@ -30,13 +31,13 @@ replied : (p : Standing) (x : Call) (t : ℕ) → answer p x ≡ Reply t → Lea
 replied p x t =
     step-cases (p .connection) (x .message) (x .keys) (x .working) (p .report) (x .verdict)
     (λ s b. s .answer ≡ Reply t → Learnt (s .connection) x t) (λ n e. apart (cc))
-    (λ z h s from size r e.
-    let bytes = payload (x .message) (workingAfter (x .message) (x .keys) (x .working)) s from size in
+    (λ z f r e.
+    let bytes = payload (x .message) (workingAfter (x .message) (x .keys) (x .working)) (Read f) in
     record {
-      header = h;
+      header = f .header;
       bytes = bytes;
-      reads = record { sealed = s; from = from; size = size; reads = r; handed = refl };
-      known = hear-replied (p .connection) z h bytes (p .report) (x .verdict) t e;
+      reads = record { found = f; reads = r; header = refl; handed = refl };
+      known = hear-replied (p .connection) z (f .header) bytes (p .report) (x .verdict) t e;
     })
 
 known-since : (h : Header) (bytes : List ℕ) (t : ℕ) (p : Standing) → Known (p .connection) h bytes t → (xs : List Call) → NoFailure p xs

@@ -12,6 +12,7 @@ use Rattle.wire.specs.declared.header.Header.{Header}
 use Rattle.wire.proofs.Sound as wire
 use Rattle.sha256.specs.Digests.{digest}
 use Rattle.message.specs.Reading.{readMessage, workingAfter}
+use Rattle.message.specs.Handed.{payload}
 use Rattle.joining.specs.Heard.{most}
 use Rattle.joining.specs.Cut.{badSize}
 use Rattle.joining.specs.Join.{badIndex, joinRefusal, join}
@@ -27,7 +28,7 @@ use Rattle.hub.specs.Step.{afterRead, step}
 use Rattle.hub.proofs.StepCases.{connect-apart, hear-cases, step-tests}
 use Rattle.hub.proofs.QuietKeeps.{step-still}
 use Rattle.promises.specs.Refusals.{readerTable, anyOf, hostTable, handed, stepTable, StepExact, LeavesAlone}
-use Rattle.promises.proofs.ReaderNumber.{early, readerNumber, read-by-number}
+use Rattle.promises.proofs.ReaderNumber.{whatIsRead, early, readerNumber, read-by-number}
 use Rattle.promises.proofs.RefusalTables.{reader-first}
 
 -- The number of a step's refusal, 0 where it does not refuse.
@@ -92,7 +93,7 @@ module _ (c : Connection) (m keys working report : List ℕ) (v : ℕ) where
       (on (eqb n 0)
       (λ e.
       let z = neither (refusalOf m) _ (neither (early m keys (length working)) _ (eqb-true n 0 e) .0) .0 in
-      rw e (hear-number c (headerOf m) (handed c m keys working report v) report v sized (indexed m z)))
+      rw e (hear-number c (headerOf m) (payload m (workingAfter m keys working) (whatIsRead m keys)) report v sized (indexed m z)))
       (λ e. rw e))
 
   step-number : AreBytes m → number (step c m keys working report v) ≡ first (stepTable c m keys working report v)

@@ -7,7 +7,7 @@ use mathlib.Core.List.{List, [], _∷_, _++_}
 use mathlib.Core.Bool.{Bool, true, false, cond, not, _&&_, _||_}
 use lib.ListN.{length, take, drop}
 use lib.Dec.{ltb, leb, eqb}
-use Rattle.laws.specs.Bytes.{AreBytes, be8, be16, be32}
+use Rattle.laws.specs.Bytes.{AreBytes, be8, be16}
 use Rattle.laws.specs.Rows.{leads, quiet}
 use Rattle.laws.specs.Same.{same}
 use Rattle.wire.specs.Fields.{badType, badFlags, badPiece, isSealed, tagSize}
@@ -138,11 +138,9 @@ module _ (c : Connection) (h : Header) (payload report : List ℕ) (verdict : �
       ∷ []
 
 module _ (c : Connection) (m keys working report : List ℕ) (verdict : ℕ) where
-  -- The payload that the reader hands out: of the working buffer if it was sealed, else of the message.
+  -- The payload that is handed out by what the reader answered.
   abbrev pub handed : List ℕ
-  handed =
-      payload m (workingAfter m keys working) (sealed m) (cond (sealed m) 4 (start m))
-      (cond (sealed m) (be32 (opened m keys (start m)) 0) (leaves (chainOf m)))
+  handed = payload m (workingAfter m keys working) (readMessage m keys (length working))
 
   -- "A step checks in this order, the first that applies being the answer: 25; 24; 1 to 9; for sealed messages 10 to 13; 14; 16; 15; then
   -- 19, 17, 18, 21, 20, 22, 23."

@@ -2,3 +2,4 @@
 pub mod Chains
 pub mod Reading
 pub mod Sound
+pub mod Told
