@@ -1,9 +1,13 @@
 // SPDX-License-Identifier: MPL-2.0
 // A program's standard input, a part of it at a time in a buffer that is read into, taken from at the front and read into again. And what else the
-// programs share: the lesser of two numbers, the lines of a text.
+// programs share: the lines of a text.
 use libc::STDIN_FILENO;
-ghost use Prim.Native.Nat.{_≤_};
-ghost use lib.ListN.{length};
+use octets::bounds::lesser;
+ghost use mathlib.Core.Path.{_≡_};
+ghost use mathlib.Core.Bool.{false};
+ghost use Prim.Native.Nat.{_-_, _≤_};
+ghost use lib.ListN.{length, take};
+ghost use Rattle.intake.specs.Buffer.{behind, between, fronted, Refilled};
 
 // What of the input is in the buffer: the first `held` bytes of it. Whether the input has ended, and whether the run is over.
 pub struct Held {
@@ -12,26 +16,20 @@ pub struct Held {
     pub over: bool,
 }
 
-// The lesser of two numbers.
-pub fn least(a: usize, b: usize) -> usize
-    ensures { λ r. ⌜ (r ≤ a) × (r ≤ b) ⌝ }
-{
-    if a < b { a } else { b }
-}
-
-// The place after the next byte of a text that is the mark, or the text's end.
+// The place behind the next byte of a text that is the mark, or the text's end.
 pub fn behind(text: &[u8], at: usize, mark: u8) -> usize
-    ensures { λ r. ⌜ r ≤ length (now (text .entry)) ⌝ }
+    ensures { λ r. ⌜ r ≡ behind (now (text .entry)) at mark ⌝ }
 {
     let end = text.len();
-    let found = bytes::scan::find(text, least(at, end), end, mark);
+    let found = bytes::scan::find(text, lesser(at, end), end, mark);
     if found < end { found + 1 } else { end }
 }
 
 // Moves what stands between two places of the buffer to its front, and answers how much that is.
 fn keep(input: &mut [u8], from: usize, to: usize) -> usize
     requires { ⌜ (from ≤ to) × (to ≤ length (now input)) ⌝ }
-    ensures { λ r. ⌜ r ≤ to ⌝ }
+    ensures { λ r. ⌜ r ≡ to - from ⌝ }
+    ensures { λ _. ⌜ now (input .exit) ≡ fronted (now (input .entry)) from to ⌝ }
 {
     let left = to - from;
     let mut i = 0;
@@ -45,7 +43,8 @@ fn keep(input: &mut [u8], from: usize, to: usize) -> usize
 // Reads on after the first `held` bytes. A read that fails counts as the end of the input.
 fn read_on(input: &mut [u8], held: usize) -> Held
     requires { ⌜ held ≤ length (now input) ⌝ }
-    ensures { λ r. ⌜ r .held ≤ length (now (input .exit)) ⌝ }
+    ensures { λ r. ⌜ r .over ≡ false ⌝ }
+    ensures { λ r. ⌜ Refilled (take held (now (input .entry))) (now (input .exit)) r ⌝ }
 {
     let got = libc::read(STDIN_FILENO, &mut input[held..]);
     let more = io::count(got, &input[held..]);
@@ -59,10 +58,12 @@ fn read_on(input: &mut [u8], held: usize) -> Held
 // Keeps what the buffer holds between two places, at its front, and reads on after it. What is kept is less than a whole message,
 // so that there is room.
 pub fn refill(input: &mut [u8], from: usize, to: usize) -> Held
+    ensures { λ r. ⌜ r .over ≡ false ⌝ }
     ensures { λ r. ⌜ r .held ≤ length (now (input .exit)) ⌝ }
+    ensures { λ r. ⌜ Refilled (between (now (input .entry)) from to) (now (input .exit)) r ⌝ }
 {
-    let end = least(to, input.len());
-    let start = least(from, end);
+    let end = lesser(to, input.len());
+    let start = lesser(from, end);
     let left = keep(input, start, end);
     read_on(input, left)
 }

@@ -28,8 +28,8 @@ fn put_header(header: Header, size: u16, out: &mut [u8], at: usize) -> usize
     let sequence = put_field(header.kind as u32, b' ', out, at);
     let index = put_field(header.sequence, b' ', out, sequence);
     let count = put_field(header.index as u32, b' ', out, index);
-    let length = put_field(header.count as u32, b' ', out, count);
-    put_field(size as u32, b'\n', out, length)
+    let last = put_field(header.count as u32, b' ', out, count);
+    put_field(size as u32, b'\n', out, last)
 }
 
 // Puts the line of a message of n bytes at a place, and answers the place after it; where there is less room than a line

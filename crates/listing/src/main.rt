@@ -1,13 +1,16 @@
 // SPDX-License-Identifier: MPL-2.0
 // The listing program of document 01: lists the messages that come back to back on standard input, a line each.
 use intake::Held;
-use intake::least;
 use intake::refill;
 use libc::STDOUT_FILENO;
 use lines::listing::list;
+use octets::bounds::lesser;
 ghost use mathlib.Core.Path.{_≡_};
 ghost use Prim.Native.Nat.{_≤_};
-ghost use lib.ListN.{length};
+ghost use lib.ListN.{length, take};
+ghost use lib.Seq.{sets};
+ghost use Rattle.lines.specs.Listing.{list};
+ghost use Rattle.listing.specs.Turns.{Turned};
 
 // A buffer. A message has at most 65,535 bytes, so a part of one leaves room to read on; and a line is shorter than the message
 // that it is about, so the lines of a buffer full of messages have room in another.
@@ -21,10 +24,14 @@ fn buffer() -> [u8; 262144]
 fn turn(input: &mut [u8], held: Held, out: &mut [u8]) -> Held
     requires { ⌜ held .held ≤ length (now input) ⌝ }
     ensures { λ r. ⌜ r .held ≤ length (now (input .exit)) ⌝ }
+    ensures { λ r. ⌜ Turned (take (held .held) (now (input .entry)))
+        (list (take (held .held) (now (input .entry))) (held .ended) (length (now (out .entry)))) (now (input .exit)) r ⌝ }
+    ensures { λ _. ⌜ now (out .exit) ≡ sets (now (out .entry)) 0
+        (list (take (held .held) (now (input .entry))) (held .ended) (length (now (out .entry))) .text) ⌝ }
 {
     let end = held.held;
     let listed = list(&input[0..end], held.ended, out);
-    let written = least(listed.written, out.len());
+    let written = lesser(listed.written, out.len());
     let whole = io::write_all(STDOUT_FILENO, &out[0..written]);
     if listed.over | !whole {
         return Held {

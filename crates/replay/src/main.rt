@@ -10,12 +10,12 @@ use arguments::KEY_ROOM;
 use arguments::read_arguments;
 use hub::Answer;
 use hub::Connection;
-use intake::least;
 use intake::refill;
 use libc::STDOUT_FILENO;
 use lines::listing::LINE;
 use lines::stream::Next;
 use lines::stream::ahead;
+use octets::bounds::lesser;
 use report::save;
 ghost use mathlib.Core.Path.{_≡_};
 ghost use lib.ListN.{length};
@@ -45,7 +45,7 @@ struct Play {
 // Writes the line of an answer.
 fn tell(answer: Answer) {
     let mut line = [0u8; LINE];
-    let end = least(put_answer(answer, &mut line, 0), LINE);
+    let end = lesser(put_answer(answer, &mut line, 0), LINE);
     io::write_all(STDOUT_FILENO, &line[0..end]);
 }
 
@@ -63,7 +63,7 @@ fn play_message(
     let answer = stepped.answer;
     tell(answer);
     if let Answer::Complete { length, heard: _ } = answer {
-        let end = least(length, report.len());
+        let end = lesser(length, report.len());
         save(&report[0..end], sequence);
     }
     stepped.connection
@@ -78,13 +78,13 @@ fn turn(
     working: &mut [u8],
     report: &mut [u8],
 ) -> Play {
-    let end = least(play.held, input.len());
-    let from = least(play.played, end);
+    let end = lesser(play.held, input.len());
+    let from = lesser(play.played, end);
     let connection = play.connection;
     let found = ahead(&input[from..end], play.ended);
     match found {
         Next::Message(size) => {
-            let behind = from + least(size as usize, end - from);
+            let behind = from + lesser(size as usize, end - from);
             let next = play_message(
                 connection,
                 &input[from..behind],
@@ -147,8 +147,8 @@ fn run(
 
 // Runs with the 64 key bytes, and the first bytes of a buffer for the report.
 fn run_in(connection: Connection, keys: &[u8], verdict: u8, report: &mut [u8], room: usize) {
-    let last = least(64, keys.len());
-    let end = least(room, report.len());
+    let last = lesser(64, keys.len());
+    let end = lesser(room, report.len());
     let mut input = input_room();
     let mut working = io::large_buffer();
     run(
@@ -165,7 +165,7 @@ fn run_in(connection: Connection, keys: &[u8], verdict: u8, report: &mut [u8], r
 fn run_with(size: usize, keys: &[u8; KEY_ROOM], verdict: u8, report: &mut [u8; LONGEST]) {
     let opened = Connection::open(size);
     let connection = opened.connection;
-    let room = PIECES * least(size, 16384);
+    let room = PIECES * lesser(size, 16384);
     run_in(connection, keys, verdict, report, room);
 }
 

@@ -1,8 +1,8 @@
 // SPDX-License-Identifier: MPL-2.0
 // A report that is complete, written to a file of its own.
-use intake::least;
 use lines::text::put_named;
 use lines::text::put_text;
+use octets::bounds::lesser;
 
 // The longest name: "report-", ten digits, ".part".
 const NAME: usize = 32;
@@ -28,9 +28,9 @@ fn write_file(path: &[u8], bytes: &[u8]) -> bool {
 // Where it cannot be done a line on standard error says so.
 pub(crate) fn save(report: &[u8], sequence: u32) {
     let mut name = [0u8; NAME];
-    let length = least(name_of(sequence, &mut name), NAME);
+    let length = lesser(name_of(sequence, &mut name), NAME);
     let mut part = name;
-    let end = least(put_text(b".part", &mut part, length), NAME);
+    let end = lesser(put_text(b".part", &mut part, length), NAME);
     if write_file(&part[0..end], report) {
         if os::rename(&part[0..end], &name[0..length]) == 0 {
             return;
