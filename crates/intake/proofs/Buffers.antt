@@ -1,8 +1,8 @@
 -- SPDX-License-Identifier: MPL-2.0
 -- The place behind a mark, and what a buffer holds once a part of it was moved to its front.
-use Rattle.laws.proofs.Kit.{ℕ, zero, suc, _+_, _-_, _≤_, _<_, min, _≡_, refl, sym, _∙_, ap, List, [], _∷_, _++_, length, take, drop, getD, set}
-use Rattle.laws.proofs.Kit.{length-drop, length-take, length-take-le, drop-of-length-le, take-length, take-all, take-at, leb, leb-true, leb-false, arith}
-use Rattle.laws.proofs.Kit.{eqb, eq-eqb, ne-eqb, eqb-true, eqb-false, true, false, drop-length}
+use Rattle.laws.proofs.Kit.{ℕ, _+_, _-_, _≤_, _<_, min, _≡_, refl, sym, _∙_, ap, false, List, _++_, length, take, drop, getD, set, length-drop}
+use Rattle.laws.proofs.Kit.{length-take, length-take-le, drop-of-length-le, take-length, take-all, take-at, drop-length, eqb, eq-eqb, ne-eqb}
+use Rattle.laws.proofs.Kit.{eqb-true, eqb-false, leb, leb-true, leb-false, arith}
 use borrow.Rule.Slice.PartMut.{putMid}
 use lib.Seq.{getD-drop, getD-append-add}
 use Rattle.laws.specs.Bytes.{be8, bytesAt}
@@ -56,18 +56,18 @@ pub fronted-all : (l m : List ℕ) (from to i : ℕ) → from ≤ to → to ≤ 
 unfolding fronted
 fronted-all l m from to i h k n e = rw (e, n, bytes-between l from to h k)
 
+-- Nothing was read where no more is held than before.
+none-more : (held more : ℕ) → eqb more 0 ≡ eqb (held + more) held
+none-more held more =
+    on (eqb more 0) (λ e. rw (e, eq-eqb (held + more) held (omega (arith, eqb-true more 0 e)))) λ e.
+    rw (e, ne-eqb (held + more) held (λ q. eqb-false more 0 e (omega (arith, q))))
+
 -- The part of a buffer from a place on was read into.
 pub refilled : (input part : List ℕ) (held more : ℕ) → held ≤ length input → held + more ≤ length (putMid held (length input - held) input part)
     → Refilled (take held input) (putMid held (length input - held) input part) (record { held = held + more; ended = eqb more 0; over = false })
 refilled input part held more h k =
     let t : length (take held input) ≡ held = length-take-le held input h in
-    record {
-      first = rw t (take-at (take held input) _ held t);
-      more = omega arith;
-      fits = k;
-      ends = rw t (on (eqb more 0)
-          (λ e. rw (e, eq-eqb (held + more) held (omega (arith, eqb-true more 0 e)))) (λ e. rw (e, ne-eqb (held + more) held (λ q. eqb-false more 0 e (omega (arith, q))))));
-    }
+    record { first = rw t (take-at (take held input) _ held t); more = omega arith; fits = k; ends = rw t (none-more held more) }
 
 -- Places past the end of the buffer count as its end.
 take-cut : (l : List ℕ) (n : ℕ) → take (min n (length l)) l ≡ take n l

@@ -5,7 +5,8 @@ use Rattle.laws.proofs.Kit.{ℕ, zero, suc, _+_, _≤_, _<_, _≡_, refl, sym, 
 use Rattle.laws.proofs.Kit.{append-assoc, length, drop, length-drop, length-append, ⊎-elim, zero-add, arith}
 use lib.Seq.{drop-append-le}
 use Rattle.laws.proofs.Cases.{on}
-use Rattle.lines.specs.Chunks.{Step, waits, ends, goes, Stand, standing, stepped, given, outcome, steps, whole, turns, Steady, broughtBy, AddsUp}
+use Rattle.lines.specs.Chunks.{Step, waits, ends, goes, Stand, standing, stepped, given, outcome, steps, whole, turns}
+use Rattle.lines.specs.Chunks.{Steady, broughtBy, AddsUp}
 
 module _ {S : Type 0} (step : S → List ℕ → Bool → Step S) where
   -- A run that is over stays as it is.

@@ -1,16 +1,62 @@
 -- SPDX-License-Identifier: MPL-2.0
--- A turn of the program: `listedIn` of lines/specs/Inputs on the bytes that it holds, and a read after what is left of them.
-use mathlib.Core.Path.{_≡_}
-use mathlib.Core.List.{List}
-use mathlib.Core.Bool.{true, false}
+-- The program: a turn lists what it holds and holds on what is left, with a read after it; turn after turn is a run.
 use Prim.Native.Nat.{ℕ}
-use lib.ListN.{drop}
+use mathlib.Core.Path.{_≡_}
+use mathlib.Core.List.{List, [], _∷_, _++_}
+use mathlib.Core.Bool.{Bool, true, false}
+use lib.ListN.{length, take}
+use lib.Dec.{eqb}
 use Rattle.intake.specs.declared.Held.{Held}
 use Rattle.intake.specs.Buffer.{Refilled}
-use Rattle.lines.specs.Listing.{Run}
+use Rattle.lines.specs.Chunks.{Stand, standing}
+use Rattle.lines.specs.Inputs.{NoState, listing, listedIn}
 
--- What a turn on these bytes leaves, b being their listing. Where the listing is over, so is the run; where the run goes on, what is left
--- of the bytes stands first in the buffer, and what comes after it was read.
-pub record Turned (bytes : List ℕ) (b : Run) (after : List ℕ) (r : Held) : Type 0 where
-  pub ends : b .over ≡ true → r .over ≡ true
-  pub goes : r .over ≡ false → Refilled (drop (b .read) bytes) after r
+-- The listing of the bytes held, with an output of `room` bytes: what is left of them, the text, and whether the run is over.
+abbrev pub turnOn : List ℕ → Bool → ℕ → Stand NoState
+turnOn bytes ended room = listedIn ended (standing tt bytes) room
+
+-- What a turn leaves in the buffer. Where the listing is over, so is the run; where the run goes on, what is left stands first, and what
+-- comes after it was read.
+pub record Turned (q : Stand NoState) (after : List ℕ) (r : Held) : Type 0 where
+  pub ends : q .over ≡ true → r .over ≡ true
+  pub goes : r .over ≡ false → Refilled (q .left) after r
+
+-- A run, turn after turn from the bytes held on: all the text that it writes, by what each read brings. A read that brings nothing tells
+-- the next turn that the input has ended.
+unfoldable pub runText : ℕ → List ℕ → Bool → List (List ℕ) → List ℕ
+runText room bytes ended [] = turnOn bytes ended room .text
+runText room bytes ended (got ∷ reads) =
+    turnOn bytes ended room .text ++ runText room (turnOn bytes ended room .left ++ got) (eqb (length got) 0) reads
+
+-- The last of these turns ends the run, and none before it.
+unfoldable pub RunEnds : ℕ → List ℕ → Bool → List (List ℕ) → Type 0
+RunEnds room bytes ended [] = turnOn bytes ended room .over ≡ true
+RunEnds room bytes ended (got ∷ reads) =
+    (turnOn bytes ended room .over ≡ false) × RunEnds room (turnOn bytes ended room .left ++ got) (eqb (length got) 0) reads
+
+-- A read brings the next bytes of an input; where it brings none, there are none.
+pub record Brings (got input : List ℕ) (Next : List ℕ → Type 0) : Type 0 where
+  pub rest : List ℕ
+  pub is : got ++ rest ≡ input
+  pub ends : length got ≡ 0 → rest ≡ []
+  pub after : Next rest
+
+-- The reads are of an input, as far as they go.
+abbrev pub ReadOf : List (List ℕ) → List ℕ → Type 0
+ReadOf [] input = Unit
+ReadOf (got ∷ reads) input = Brings got input (ReadOf reads)
+
+-- All that a run writes is the listing of the input, however it is cut into reads.
+abbrev pub RunLists : Type 0
+RunLists = (room : ℕ) (input : List ℕ) (reads : List (List ℕ)) → ReadOf reads input → RunEnds room [] false reads
+    → runText room [] false reads ≡ listing input
+
+-- A turn that goes on leads to the next turn of such a run: what is then held is what was left, and what was read after it.
+pub record Led (q : Stand NoState) (after : List ℕ) (r : Held) : Type 0 where
+  pub going : q .over ≡ false
+  pub got : List ℕ
+  pub holds : take (r .held) after ≡ q .left ++ got
+  pub ended : r .ended ≡ eqb (length got) 0
+
+abbrev pub TurnLeads : Type 0
+TurnLeads = (q : Stand NoState) (after : List ℕ) (r : Held) → Turned q after r → r .over ≡ false → Led q after r

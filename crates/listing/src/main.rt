@@ -9,8 +9,7 @@ ghost use mathlib.Core.Path.{_≡_};
 ghost use Prim.Native.Nat.{_≤_};
 ghost use lib.ListN.{length, take};
 ghost use lib.Seq.{sets};
-ghost use Rattle.lines.specs.Listing.{list};
-ghost use Rattle.listing.specs.Turns.{Turned};
+ghost use Rattle.listing.specs.Turns.{turnOn, Turned};
 
 // A buffer. A message has at most 65,535 bytes, so a part of one leaves room to read on; and a line is shorter than the message
 // that it is about, so the lines of a buffer full of messages have room in another.
@@ -24,10 +23,9 @@ fn buffer() -> [u8; 262144]
 fn turn(input: &mut [u8], held: Held, out: &mut [u8]) -> Held
     requires { ⌜ held .held ≤ length (now input) ⌝ }
     ensures { λ r. ⌜ r .held ≤ length (now (input .exit)) ⌝ }
-    ensures { λ r. ⌜ Turned (take (held .held) (now (input .entry)))
-        (list (take (held .held) (now (input .entry))) (held .ended) (length (now (out .entry)))) (now (input .exit)) r ⌝ }
+    ensures { λ r. ⌜ Turned (turnOn (take (held .held) (now (input .entry))) (held .ended) (length (now (out .entry)))) (now (input .exit)) r ⌝ }
     ensures { λ _. ⌜ now (out .exit) ≡ sets (now (out .entry)) 0
-        (list (take (held .held) (now (input .entry))) (held .ended) (length (now (out .entry))) .text) ⌝ }
+        (turnOn (take (held .held) (now (input .entry))) (held .ended) (length (now (out .entry))) .text) ⌝ }
 {
     let end = held.held;
     let listed = list(&input[0..end], held.ended, out);
