@@ -8,7 +8,7 @@ use Rattle.message.specs.declared.reading.MessageRead.the-variants.{Read}
 use Rattle.joining.specs.declared.Piece.{Piece}
 use Rattle.joining.specs.Join.{join}
 use Rattle.joining.proofs.JoinWays.{join-cases}
-use Rattle.joining.proofs.AcceptedCount.{Holds, nothing-holds, tally-now, tally-known, tally-complete, extended-holds}
+use Rattle.joining.proofs.AcceptedCount.{Holds, nothing-holds, told-now, extended-holds}
 use Rattle.hub.specs.declared.Connection.{Connection}
 use Rattle.hub.specs.declared.Stepped.{Stepped}
 use Rattle.hub.specs.Hear.{connect, pieceIn, joined}
@@ -32,13 +32,11 @@ module _ (c : Connection) (es : List Event) (w : Holds (c .progress) es) where
   join-counts : (q : Piece) (p report : List ℕ) → Counted (q .index) (joined c (join (c .size) (c .progress) q p report))
   join-counts q p report =
       let same = sym (w .alike (q .index)) in
+      let told = told-now (c .size) (c .progress) q p report es w in
       join-cases (c .size) (c .progress) q p report (λ j b. Counted (q .index) (joined c j)) (λ z. (w, tt))
-      (λ z k. (w, (same ∙ k, tally-known (c .size) (c .progress) q p report es w z k)))
-      (λ z k d. (nothing-holds _ refl, (same ∙ k, tally-complete (c .size) (c .progress) q p report es w z d)))
-      (λ z k d. (
-        extended-holds (c .size) (c .progress) q p report es w z,
-        (same ∙ k, tally-now (c .size) (c .progress) q p report es w z),
-      ))
+      (λ z k. (w, (same ∙ k, told z)))
+      (λ z k d. (nothing-holds _ refl, (same ∙ k, told z)))
+      (λ z k d. (extended-holds (c .size) (c .progress) q p report es w z, (same ∙ k, told z)))
 
   step-counts : (b : List ℕ) (x : Call) → Counted (indexIn x) (step c (x .message) (x .keys) (x .working) b (x .verdict))
   step-counts b x =
