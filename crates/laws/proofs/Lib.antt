@@ -17,3 +17,4 @@ pub mod Order
 pub mod Lent
 pub mod Below
 pub mod Runs
+pub mod Chunks

@@ -5,3 +5,4 @@ pub mod Same
 pub mod Courses
 pub mod Runs
 pub mod Parts
+pub mod Chunks

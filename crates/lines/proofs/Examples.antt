@@ -8,7 +8,7 @@ use Rattle.wire.specs.Reader.{roomOf, chainOf, headerRows, rowsOf, refusalWith,
 use Rattle.lines.specs.Text.{digits, digitCount, field}
 use Rattle.lines.specs.Stream.{ahead}
 use Rattle.lines.specs.Listing.{headerLine, lineOf}
-use Rattle.lines.specs.Chunks.{steps, whole}
+use Rattle.laws.specs.Chunks.{steps, whole}
 use Rattle.lines.specs.Inputs.{lineStep, listing}
 use Rattle.lines.specs.Examples.{p1Line}
 

@@ -9,9 +9,9 @@ use Rattle.lines.specs.declared.stream.Next.{Next}
 use Rattle.lines.specs.declared.stream.Next.the-variants.{Message, More, End}
 use Rattle.lines.specs.Stream.{ahead}
 use Rattle.lines.specs.Listing.{isRefused, stops, begun, behind, turnBy, turnAt, Run, turn, manyTurns, list}
-use Rattle.lines.specs.Chunks.{Stand, stepped, given, standing, steps, turns, broughtBy}
+use Rattle.laws.specs.Chunks.{Stand, stepped, given, standing, steps, turns, broughtBy}
 use Rattle.lines.specs.Inputs.{NoState, stepOf, lineStep, listing, listedOf, listedIn, reading, ending, Roomy, ListedInTurns}
-use Rattle.lines.proofs.Chunks.{steps-over, steps-suc, steps-add, adds-up}
+use Rattle.laws.proofs.Chunks.{steps-over, steps-suc, steps-add, adds-up}
 use Rattle.lines.proofs.Steps.{line-steady}
 
 -- A turn is a step, where the run goes on.

@@ -3,7 +3,6 @@ pub mod Digits
 pub mod Puts
 pub mod Streams
 pub mod Turns
-pub mod Chunks
 pub mod Steps
 pub mod Inputs
 pub mod Examples

@@ -8,7 +8,7 @@ use Rattle.wire.specs.Reader.{readHeader, wanted}
 use Rattle.lines.specs.declared.stream.Next.the-variants.{Message}
 use Rattle.lines.specs.Stream.{ahead}
 use Rattle.lines.specs.Listing.{isRefused, Turn, turnBy}
-use Rattle.lines.specs.Chunks.{waits, isWaiting, Moves, Steady}
+use Rattle.laws.specs.Chunks.{waits, isWaiting, Moves, Steady}
 use Rattle.lines.specs.Inputs.{NoState, stepOf, lineStep}
 use Rattle.lines.proofs.Streams.{ahead-fits, ahead-whole, ahead-part, ahead-moves}
 

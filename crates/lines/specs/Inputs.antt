@@ -7,7 +7,7 @@ use mathlib.Core.Bool.{Bool, true, false, cond}
 use lib.ListN.{length, drop}
 use Rattle.lines.specs.Stream.{ahead}
 use Rattle.lines.specs.Listing.{lineRoom, Turn, turnBy, Run, list}
-use Rattle.lines.specs.Chunks.{Step, waits, ends, goes, Stand, standing, given, whole, broughtBy}
+use Rattle.laws.specs.Chunks.{Step, waits, ends, goes, Stand, standing, given, whole, broughtBy}
 
 -- The listing keeps no state from message to message.
 abbrev pub NoState : Type 0

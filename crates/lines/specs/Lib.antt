@@ -2,6 +2,5 @@
 pub mod Text
 pub mod Stream
 pub mod Listing
-pub mod Chunks
 pub mod Inputs
 pub mod Examples

@@ -4,7 +4,7 @@ use Rattle.laws.proofs.Kit.{ℕ, _+_, _-_, _≤_, _≡_, refl, sym, _∙_, ap, 
 use Rattle.laws.proofs.Kit.{length, take, drop, length-append, length-drop, length-take-le, eqb, eqb-true, eqb-false, eq-eqb, ne-eqb, arith}
 use lib.Seq.{take-add}
 use Rattle.laws.proofs.Cases.{on}
-use Rattle.lines.specs.Chunks.{Stand, broughtBy}
+use Rattle.laws.specs.Chunks.{Stand, broughtBy}
 use Rattle.lines.specs.Inputs.{NoState, listing, listedIn, reading, ending}
 use Rattle.lines.proofs.Inputs.{listed-in-turns}
 use Rattle.listing.specs.Turns.{turnOn, runText, RunEnds, ReadOf, RunLists, TurnLeads}

@@ -8,7 +8,7 @@ use lib.ListN.{length, take}
 use lib.Dec.{eqb}
 use Rattle.intake.specs.declared.Held.{Held}
 use Rattle.intake.specs.Buffer.{Refilled}
-use Rattle.lines.specs.Chunks.{Stand, standing}
+use Rattle.laws.specs.Chunks.{Stand, standing}
 use Rattle.lines.specs.Inputs.{NoState, listing, listedIn}
 
 -- The listing of the bytes held, with an output of `room` bytes: what is left of them, the text, and whether the run is over.

@@ -1,12 +1,12 @@
 -- SPDX-License-Identifier: MPL-2.0
 -- Why the parts of an input add up to the whole: what a run has written, and what it would write over the bytes at hand with those to come
 -- after them, are together the same after each step and after each part that comes.
 use Rattle.laws.proofs.Kit.{ℕ, zero, suc, _+_, _≤_, _<_, _≡_, refl, sym, Bool, true, false, true≢false, List, [], _∷_, _++_, append-nil}
 use Rattle.laws.proofs.Kit.{append-assoc, length, drop, length-drop, length-append, ⊎-elim, zero-add, arith}
 use lib.Seq.{drop-append-le}
 use Rattle.laws.proofs.Cases.{on}
-use Rattle.lines.specs.Chunks.{Step, waits, ends, goes, Stand, standing, stepped, given, outcome, steps, whole, turns}
-use Rattle.lines.specs.Chunks.{Steady, broughtBy, AddsUp}
+use Rattle.laws.specs.Chunks.{Step, waits, ends, goes, Stand, standing, stepped, given, outcome, steps, whole, turns}
+use Rattle.laws.specs.Chunks.{Steady, broughtBy, AddsUp}
 
 module _ {S : Type 0} (step : S → List ℕ → Bool → Step S) where
   -- A run that is over stays as it is.
