@@ -1,6 +1,6 @@
 -- SPDX-License-Identifier: MPL-2.0
 -- What the reader found lies in its buffer, so the choosing function hands out the part at its place; on a refusal it finds nothing.
-use Rattle.laws.proofs.Kit.{ℕ, _+_, _≤_, _≡_, refl, sym, _∙_, ap, Bool, true, false, cond, List, length, take, drop, le-ltb}
+use Rattle.laws.proofs.Kit.{ℕ, _+_, _≤_, _≡_, _∙_, ap, Bool, true, false, cond, List, length, le-ltb}
 use Rattle.wire.specs.Fields.{isSealed}
 use Rattle.wire.specs.declared.header.Header.{Header}
 use Rattle.message.specs.Handed.{partOf, placeOf, payload}
@@ -8,7 +8,7 @@ use Rattle.message.specs.declared.reading.FoundMessage.{FoundMessage}
 use Rattle.message.specs.declared.reading.MessageRead.the-variants.{Read}
 use Rattle.message.proofs.Told.{handed-refused, message-refused, read-lies, length-workingAfter}
 use Rattle.promises.specs.Refusals.{sealed}
-use Rattle.promises.specs.Handed.{LiesIn, read, left, handedOut, PayloadHanded}
+use Rattle.promises.specs.Handed.{LiesIn, left, PayloadHanded}
 
 -- A part whose place lies in its buffer.
 lies-in : (m w : List ℕ) (f : FoundMessage) (s : Bool) → f .sealed ≡ s → f .from + f .size ≤ cond s (length w) (length m)

@@ -1,6 +1,6 @@
 -- SPDX-License-Identifier: MPL-2.0
 -- Demand 1 for reader, cutter and writer: each call's refusal is the first number of its table, and laws' both directions do the rest.
-use Rattle.laws.proofs.Kit.{ℕ, _+_, _-_, _≤_, _≡_, refl, sym, _∙_, ap, Bool, true, cond, List, _++_, length, eqb, ne-eqb, eqb-true, le-ltb, lt-leb}
+use Rattle.laws.proofs.Kit.{ℕ, _+_, _-_, _≤_, _≡_, refl, sym, _∙_, ap, true, cond, List, _++_, length, eqb, ne-eqb, eqb-true, le-ltb, lt-leb}
 use Rattle.laws.proofs.Kit.{arith}
 use Rattle.laws.specs.Bytes.{AreBytes, be8, be16}
 use Rattle.laws.specs.Rows.{first, orElse}
