@@ -33,14 +33,14 @@ bytesOf two x = bytes16 x
 bytesOf four x = bytes32 x
 bytesOf eight x = bytes64 x
 
--- A field: always this number; a number that passes a test; as many bytes as this; bytes with their number before them, which has a least and a
--- most.
+-- A field: always this number; a number that passes a test; so many bytes; bytes with their number before them, which has a least and a most.
 pub data Field : Type 0 where
   fixed : (w : Width) (n : ℕ) → Field
   free : (w : Width) (allowed : ℕ → Bool) → Field
   array : (size : ℕ) → Field
   sized : (w : Width) (least most : ℕ) → Field
 
+-- A format: its fields.
 abbrev pub Format : Type 0
 Format = List Field
 
@@ -57,7 +57,7 @@ infixr 5 _and_
 abbrev pub _and_ : {A B : Type 0} → A → B → A × B
 x and y = (x, y)
 
--- The values that a format has a payload for.
+-- The values that a format has a payload for. (That a number has its width is what the types of a call say.)
 unfoldable pub fits : (f : Format) → Values f → Bool
 fits [] v = true
 fits (fixed w n ∷ f) v = fits f v

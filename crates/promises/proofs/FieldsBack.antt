@@ -1,8 +1,8 @@
 -- SPDX-License-Identifier: MPL-2.0
 -- What a payload writer wrote is the bytes of its format, accepted, and it says the values that were given (`payload-back`, over any format). A
 -- reader of a field that is free gives one of these values; of one that is fixed, a byte of the bytes.
-use Rattle.laws.proofs.Kit.{ℕ, _+_, _≤_, _≡_, refl, sym, _∙_, ap, Bool, true, false, true≢false, _&&_, List, length, take-append-seam, eqb, leb}
-use Rattle.laws.proofs.Kit.{eqb-true, eq-eqb, le-ltb, lit<, arith}
+use Rattle.laws.proofs.Kit.{ℕ, _+_, _≤_, _≡_, refl, sym, _∙_, ap, subst, Bool, true, false, true≢false, _&&_, List, length, take-append-seam, eqb}
+use Rattle.laws.proofs.Kit.{leb, eqb-true, eq-eqb, le-ltb, lit<, arith}
 use Rattle.laws.specs.Bytes.{be8, be16, bytesAt}
 use Rattle.laws.proofs.Bools.{and-true}
 use Rattle.laws.proofs.Parts.{bytesAt-part}
@@ -10,11 +10,12 @@ use Rattle.payloads.specs.Format.{Format, Values, _and_, write, acceptsFrom, re
 use Rattle.payloads.specs.Shapes.{either, presenceRequest, connectionRequest, deviceAuthentication, doneRequest, doneResponse, badPayload}
 use Rattle.payloads.specs.Reading.{connectionMode, connectType, codeOf, readRequest, sizedAt, certificateOf, thumbprintOf}
 use Rattle.payloads.specs.declared.reading.Request.{Request}
+use Rattle.payloads.proofs.Formats.{write-back}
 use Rattle.payloads.proofs.Shaped.{shape-good}
 use Rattle.writer.specs.Written.{putRefusal, written, output}
 use Rattle.writer.specs.Payload.{exchangeValues, responseFormat, responseValues}
 use Rattle.writer.proofs.PayloadBack.{payload-back}
-use Rattle.promises.specs.Fields.{WrotePayload, partOf, FieldsBack, CanBeWritten}
+use Rattle.promises.specs.Fields.{WrotePayload, partOf, FieldsBack, CanBeWritten, OnlyWritten}
 
 module _ (f : Format) (v : Values f) (p : List ℕ) (w : WrotePayload f v p) where
   is : p ≡ write f v
@@ -123,3 +124,8 @@ can-be-written f v h =
       answered = rw (h, roomy);
       bytes = rw (h, roomy) (sym (take-append-seam (write f v) _));
     }
+
+pub only-written : OnlyWritten
+only-written f p bytes h =
+    let k = write-back f p bytes h in
+    subst (λ (q : List ℕ). WrotePayload f (read f p) q) (k .1) (can-be-written f (read f p) (k .0))

@@ -6,8 +6,9 @@ use mathlib.Core.List.{List}
 use mathlib.Core.Bool.{true, false}
 use lib.ListN.{take}
 use lib.Dec.{eqb}
+use Rattle.laws.specs.Bytes.{AreBytes}
 use Rattle.laws.specs.Parts.{part}
-use Rattle.payloads.specs.Format.{Format, Values, _and_, fits, write}
+use Rattle.payloads.specs.Format.{Format, Values, _and_, fits, write, accepts, read}
 use Rattle.payloads.specs.Shapes.{presenceRequest, connectionRequest, deviceAuthentication, doneRequest, doneResponse, badPayload}
 use Rattle.payloads.specs.Reading.{connectionMode, connectType, codeOf, readRequest, certificateOf, thumbprintOf}
 use Rattle.payloads.specs.declared.reading.Request.{Request}
@@ -52,3 +53,7 @@ pub record FieldsBack : Type 0 where
 -- Its premise can be met: a payload of any format is written for all values that fit, into an output that has just room for it.
 abbrev pub CanBeWritten : Type 0
 CanBeWritten = (f : Format) (v : Values f) → fits f v ≡ true → WrotePayload f v (write f v)
+
+-- Nothing else is accepted: a payload that has a format is what its writer writes, for the values that are read from it.
+abbrev pub OnlyWritten : Type 0
+OnlyWritten = (f : Format) (p : List ℕ) → AreBytes p → accepts f p ≡ true → WrotePayload f (read f p) p
