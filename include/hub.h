@@ -300,7 +300,8 @@ uint8_t hub_same_tag(const uint8_t *a, size_t a_n, const uint8_t *b, size_t b_n)
  * On done   header holds the fields, and by HUB_FROM and HUB_SIZE where in the message the payload lies (HUB_SEALED is HUB_PLAIN) or, for a sealed
  *           message, its sealed part (HUB_STILL_SEALED). Given to hub_payload, the words of a sealed message answer 0, 0, 0: they name no payload.
  * On refusal header is all zero: an empty header, and the empty part at the message's start.
- * Proved    the contract (`readHeader` in crates/wire/specs/Reader.antt, whose rows are ReaderExact's 1 to 9).
+ * Proved    the contract (`readHeader` in crates/wire/specs/Reader.antt, whose rows are ReaderExact's 1 to 9; `foundHeader` in
+ *           crates/wire/specs/Answers.antt).
  */
 HUB_ANSWER_MATTERS
 uint8_t hub_read_header(const uint8_t *message, size_t message_n, uint64_t *header, size_t header_n);
@@ -319,7 +320,7 @@ uint8_t hub_read_header(const uint8_t *message, size_t message_n, uint64_t *head
  *           padding; the rest is unchanged. A plain message leaves all of it unchanged.
  * On refusal header is all zero: an empty header, and the empty part at the message's start, which is what hub_payload then answers. On 14 of a
  *           sealed message working holds the opened sealed part likewise; on the others it is as it was.
- * Proved    ReaderExact, ReadsBack; what working holds is the contract (`workingAfter` in crates/message/specs/Reading.antt).
+ * Proved    ReaderExact, ReadsBack, PayloadHanded; what working holds is the contract (`workingAfter` in crates/message/specs/Reading.antt).
  */
 HUB_ANSWER_MATTERS
 uint8_t hub_read(const uint8_t *message, size_t message_n, const uint8_t *keys, size_t keys_n, uint8_t *working, size_t working_n, uint64_t *header,
@@ -337,7 +338,8 @@ uint8_t hub_read(const uint8_t *message, size_t message_n, const uint8_t *keys, 
  * On done   place holds the buffer (0 message, 1 working), the payload's start in it and its length; or 0, 0, 0, the empty part at the message's
  *           start, where header names a part that the buffer does not have, or HUB_SEALED is neither HUB_PLAIN nor HUB_OPENED. So after a
  *           refused hub_read, and for the words that hub_read_header wrote of a sealed message, it is 0, 0, 0.
- * Proved    PlaceHanded: it is the part that document 01's choosing function hands out (`payload` in crates/message/specs/Handed.antt).
+ * Proved    PlaceHanded: by the words of hub_read it is the part that document 01's choosing function hands out, on a refusal too (`payload` in
+ *           crates/message/specs/Handed.antt). PlaceUnopened: what it is by the words of hub_read_header.
  */
 HUB_ANSWER_MATTERS
 uint8_t hub_payload(const uint8_t *message, size_t message_n, const uint8_t *working, size_t working_n, const uint64_t *header, size_t header_n,
@@ -375,7 +377,7 @@ uint8_t hub_write(const uint64_t *fields, size_t fields_n, const uint8_t *chain,
  * Returns   HUB_DONE, HUB_WRONG_BUFFER (state), 24.
  * On done   state holds the connection.
  * On refusal 24 state is all zero, which hub_step refuses with 24.
- * Proved    the contract (`opened` in crates/hub/specs/Opening.antt).
+ * Proved    OpenerExact; what state holds is the contract (`opened` in crates/hub/specs/Opening.antt).
  */
 HUB_ANSWER_MATTERS
 uint8_t hub_open(uint64_t fragment_size, uint8_t *state, size_t state_n);
