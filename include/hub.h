@@ -58,7 +58,12 @@
  * Each call returns a number: HUB_DONE (0); or the number of a refusal in document 01 (1 to 25), which is the first row of document 01's table
  * that applies, in the order given with the call; or HUB_WRONG_BUFFER (255). (hub_same_tag and hub_version return what is said there.)
  *
- * Where a call does not return HUB_DONE every buffer is exactly as it was before, each byte of it, but for what the call's "On refusal" names.
+ * On a refusal, 1 to 25, bytes are as they were and words are 0: every byte of every buffer is exactly as it was before, and every word that the
+ * call hands out (header, length, answer, piece) is 0. What a call does otherwise its "On refusal" names. No call that is done hands out zeros
+ * alone, but for hub_payload.
+ *
+ * On HUB_WRONG_BUFFER every buffer is exactly as it was before, each byte and each word of it.
+ *
  * A buffer declared const is never changed. What is not named as written is not written.
  *
  * "Proved" names the statement in docs/PROMISES.md, beyond the call's contract, that says the same for a reader. A contract fixes the
@@ -68,8 +73,8 @@
  * SECRETS AND TIME
  *
  * hub_hmac and hub_same_tag make no branch and no memory access that depends on the bytes they are given; this is tested with valgrind
- * (tests/memory) and not proved. AES reads tables at places that depend on keys and data, so hub_read, hub_write and hub_step are NOT constant-time: see
- * docs/SECURITY.md. Copies on the stack are not erased. Stack: see the table in docs/PERFORMANCE.md.
+ * (tests/memory) and not proved. AES reads tables at places that depend on keys and data, so hub_read, hub_write and hub_step are NOT
+ * constant-time: see docs/SECURITY.md. Copies on the stack are not erased. Stack: see the table in docs/PERFORMANCE.md.
  */
 #ifndef HLIDUNSK_HUB_H
 #define HLIDUNSK_HUB_H
@@ -143,8 +148,8 @@ enum hub_refusal {
     HUB_WRONG_FRAGMENT_SIZE = 24, /* F outside 1 to 16,384 */
     HUB_WRONG_VERDICT = 25,       /* verdict not 0 or 1 */
     /* tests/refusals/write: end */
-    HUB_WRONG_BUFFER = 255        /* a buffer of fixed size has another size, or hub_write's SequenceNumber
-                                     more than 32 bits; not a number of document 01 */
+    HUB_WRONG_BUFFER = 255        /* a buffer of fixed size has another size, or a word given to hub_write is
+                                     too wide for its field; not a number of document 01 */
 };
 
 /* Places of the words of a header: HUB_FIELDS of them are given to hub_write, HUB_HEADER come from hub_read_header and hub_read. */
@@ -157,9 +162,16 @@ enum hub_header_word {
     HUB_COUNT = 5,    /* FragmentCount */
     HUB_SESSION = 6,  /* SessionID */
     HUB_CHANNEL = 7,  /* ChannelID */
-    HUB_SEALED = 8,   /* 1 if the message is sealed, else 0 */
-    HUB_FROM = 9,     /* where the payload starts */
+    HUB_SEALED = 8,   /* what HUB_FROM and HUB_SIZE name, a hub_sealed */
+    HUB_FROM = 9,     /* where the payload, or the sealed part, starts */
     HUB_SIZE = 10     /* how many bytes it has */
+};
+
+/* The values of HUB_SEALED. hub_read_header gives the first and the last, hub_read the first two. */
+enum hub_sealed {
+    HUB_PLAIN = 0,       /* the payload, in the message: it is plain */
+    HUB_OPENED = 1,      /* the payload, in the working buffer: it was sealed */
+    HUB_STILL_SEALED = 2 /* the sealed part, in the message: hub_payload answers 0, 0, 0 for it */
 };
 
 /* MessageType. */
@@ -188,12 +200,13 @@ enum hub_place_word {
 /* Places of the words that hub_step writes. */
 enum hub_answer_word {
     HUB_ANSWER_KIND = 0,  /* a hub_kind */
-    HUB_ANSWER_VALUE = 1, /* Reply, Again: the Connect type to send; Taken, Repeat, Complete: how many different pieces have come */
-    HUB_ANSWER_LENGTH = 2 /* Complete: the report's length; else 0 */
+    HUB_ANSWER_VALUE = 1, /* Reply, Again: the Connect type to send; Taken, Repeat, Complete: how many different pieces have come; else 0 */
+    HUB_ANSWER_LENGTH = 2 /* Complete: the report's length; Reply and Again of type 7: the Status to send, which is 0; else 0 */
 };
 
 /* The kinds of a step's answers. */
 enum hub_kind {
+    HUB_REFUSED = 0, /* the step was refused, by the number that it returned */
     HUB_REPLY = 1,   /* send the Connect payload of this type: 1 (Connection Response; Result, nonce and key in it are the caller's),
                         3 (Device Authentication Response, with the hub's own certificate), 7 (Authentication Done Response, with
                         Status 0) */
@@ -284,9 +297,11 @@ uint8_t hub_same_tag(const uint8_t *a, size_t a_n, const uint8_t *b, size_t b_n)
  * header    HUB_HEADER words.
  *
  * Returns   HUB_DONE, HUB_WRONG_BUFFER (header), then 1 to 9 in this order.
- * On done   header holds the fields, and by HUB_FROM and HUB_SIZE where in the message the payload lies or, for a sealed message, its sealed
- *           part.
- * Proved    the contract (`readHeader` in crates/wire/specs/Reader.antt, whose rows are ReaderExact's 1 to 9).
+ * On done   header holds the fields, and by HUB_FROM and HUB_SIZE where in the message the payload lies (HUB_SEALED is HUB_PLAIN) or, for a sealed
+ *           message, its sealed part (HUB_STILL_SEALED). Given to hub_payload, the words of a sealed message answer 0, 0, 0: they name no payload.
+ * On refusal header is all zero: an empty header, and the empty part at the message's start.
+ * Proved    the contract (`readHeader` in crates/wire/specs/Reader.antt, whose rows are ReaderExact's 1 to 9; `foundHeader` in
+ *           crates/wire/specs/Answers.antt).
  */
 HUB_ANSWER_MATTERS
 uint8_t hub_read_header(const uint8_t *message, size_t message_n, uint64_t *header, size_t header_n);
@@ -300,11 +315,12 @@ uint8_t hub_read_header(const uint8_t *message, size_t message_n, uint64_t *head
  * header    HUB_HEADER words.
  *
  * Returns   HUB_DONE, HUB_WRONG_BUFFER (header), then 1 to 14 in this order; 10 to 13 for sealed messages only.
- * On done   header holds the fields, and by HUB_FROM and HUB_SIZE where the payload lies: in the message (HUB_SEALED 0) or in the working buffer
- *           (HUB_SEALED 1). The first bytes of working hold the opened sealed part: payload size (4 bytes), payload, padding; the rest is
- *           unchanged. A plain message leaves all of it unchanged.
- * On refusal 14 of a sealed message working holds the opened sealed part likewise. All else is as it was.
- * Proved    ReaderExact, ReadsBack; what working holds is the contract (`workingAfter` in crates/message/specs/Reading.antt).
+ * On done   header holds the fields, and by HUB_FROM and HUB_SIZE where the payload lies: in the message (HUB_SEALED is HUB_PLAIN) or in the working
+ *           buffer (HUB_OPENED). Of a sealed message the first bytes of working hold the opened sealed part: payload size (4 bytes), payload,
+ *           padding; the rest is unchanged. A plain message leaves all of it unchanged.
+ * On refusal header is all zero: an empty header, and the empty part at the message's start, which is what hub_payload then answers. On 14 of a
+ *           sealed message working holds the opened sealed part likewise; on the others it is as it was.
+ * Proved    ReaderExact, ReadsBack, PayloadHanded; what working holds is the contract (`workingAfter` in crates/message/specs/Reading.antt).
  */
 HUB_ANSWER_MATTERS
 uint8_t hub_read(const uint8_t *message, size_t message_n, const uint8_t *keys, size_t keys_n, uint8_t *working, size_t working_n, uint64_t *header,
@@ -315,13 +331,15 @@ uint8_t hub_read(const uint8_t *message, size_t message_n, const uint8_t *keys, 
  *
  * message   the message.
  * working   the working buffer.
- * header    HUB_HEADER words, as hub_read wrote them; only HUB_SEALED, HUB_FROM and HUB_SIZE are looked at.
+ * header    HUB_HEADER words, as hub_read wrote them, on a refusal too; only HUB_SEALED, HUB_FROM and HUB_SIZE are looked at.
  * place     HUB_PLACE words.
  *
  * Returns   HUB_DONE, HUB_WRONG_BUFFER (header or place).
- * On done   place holds the buffer (0 message, 1 working), the payload's start in it and its length; or 0, 0, 0 where header names a part that
- *           the buffer does not have, or by HUB_SEALED another buffer than these two.
- * Proved    PlaceHanded: it is the part that document 01's choosing function hands out (`payload` in crates/message/specs/Handed.antt).
+ * On done   place holds the buffer (0 message, 1 working), the payload's start in it and its length; or 0, 0, 0, the empty part at the message's
+ *           start, where header names a part that the buffer does not have, or HUB_SEALED is neither HUB_PLAIN nor HUB_OPENED. So after a
+ *           refused hub_read, and for the words that hub_read_header wrote of a sealed message, it is 0, 0, 0.
+ * Proved    PlaceHanded: by the words of hub_read it is the part that document 01's choosing function hands out, on a refusal too (`payload` in
+ *           crates/message/specs/Handed.antt). PlaceUnopened: what it is by the words of hub_read_header.
  */
 HUB_ANSWER_MATTERS
 uint8_t hub_payload(const uint8_t *message, size_t message_n, const uint8_t *working, size_t working_n, const uint64_t *header, size_t header_n,
@@ -330,8 +348,8 @@ uint8_t hub_payload(const uint8_t *message, size_t message_n, const uint8_t *wor
 /*
  * Writes a message; sealed where both bits of HUB_SEAL are set in its flags.
  *
- * fields    HUB_FIELDS words, see hub_header_word. A type, flags, index or count that does not fit its field is refused with
- *           5, 6 or 7; a SequenceNumber that does not fit is HUB_WRONG_BUFFER. The vector is made of SessionID, SequenceNumber, index and
+ * fields    HUB_FIELDS words, see hub_header_word. A word too wide for its field is HUB_WRONG_BUFFER, for every field alike: a type over 255;
+ *           flags, an index or a count over 65,535; a SequenceNumber over 2^32 - 1. The vector is made of SessionID, SequenceNumber, index and
  *           count: never give a sender two sealed messages with the same four under the same keys.
  * chain     the additional headers with their end: the two bytes 0, 0 where there are none.
  * payload   the payload. A Session message's is any 0 to 16,384 bytes; the others' have the shapes of document 01.
@@ -340,9 +358,10 @@ uint8_t hub_payload(const uint8_t *message, size_t message_n, const uint8_t *wor
  *           (payload + 4 rounded up to a multiple of 16). It may overlap no other buffer.
  * length    HUB_LENGTH words.
  *
- * Returns   HUB_DONE, HUB_WRONG_BUFFER (fields or length; a SequenceNumber over 2^32 - 1), then 5, 6, 7, 8, 10 (sealed messages), 14, 20, 22
- *           in this order.
+ * Returns   HUB_DONE, HUB_WRONG_BUFFER (fields or length; a word of fields too wide), then 5, 6, 7, 8, 10 (sealed messages), 14, 20, 22 in this
+ *           order.
  * On done   the first length[0] bytes of out are the message; the rest of out is unchanged.
+ * On refusal length is 0, and out is as it was.
  * Proved    WriterExact; ReadsBack: hub_read gives the same fields and payload back.
  */
 HUB_ANSWER_MATTERS
@@ -358,7 +377,7 @@ uint8_t hub_write(const uint64_t *fields, size_t fields_n, const uint8_t *chain,
  * Returns   HUB_DONE, HUB_WRONG_BUFFER (state), 24.
  * On done   state holds the connection.
  * On refusal 24 state is all zero, which hub_step refuses with 24.
- * Proved    the contract (`opened` in crates/hub/specs/Opening.antt).
+ * Proved    OpenerExact; what state holds is the contract (`opened` in crates/hub/specs/Opening.antt).
  */
 HUB_ANSWER_MATTERS
 uint8_t hub_open(uint64_t fragment_size, uint8_t *state, size_t state_n);
@@ -378,12 +397,13 @@ uint8_t hub_open(uint64_t fragment_size, uint8_t *state, size_t state_n);
  *
  * Returns   HUB_DONE, HUB_WRONG_BUFFER (state or answer), then the first that applies of 25; 24; 1 to 9; 10 to 13 (sealed messages); 14; 16; 15;
  *           19, 17, 18, 21, 20, 22, 23.
- * On done   answer holds what to do (see hub_kind; words that a kind does not use are 0), state the next connection. HUB_TAKEN and HUB_COMPLETE:
+ * On done   answer holds what to do (see hub_kind; words that a kind does not use are 0), state the next connection. HUB_TAKEN, HUB_REPEAT and
+ *           HUB_COMPLETE tell how many of the indexes below the message's FragmentCount are heard, its own with them. HUB_TAKEN and HUB_COMPLETE:
  *           the piece is in report from F times its index on, no other byte of it changed. HUB_COMPLETE: the first answer[HUB_ANSWER_LENGTH] bytes
  *           of report are the report, whose SequenceNumber was the expected one before this step. The other kinds leave report unchanged;
  *           HUB_AGAIN and HUB_REPEAT state too. The first bytes of working hold the opened sealed part of a sealed message.
- * On refusal state, report and answer are as they were. So is working for 1 to 13, 24 and 25; for the others its first bytes hold the opened
- *           sealed part of a sealed message.
+ * On refusal answer is 0, 0, 0 (HUB_REFUSED); state and report are as they were. So is working for 1 to 13, 24 and 25; for the others its first
+ *           bytes hold the opened sealed part of a sealed message.
  * Proved    StepExact, LeavesAlone, WorkingBuffer, StepsByState, RepeatedStep, HeardCount, DemandThree.
  */
 HUB_ANSWER_MATTERS
@@ -400,7 +420,7 @@ uint8_t hub_step(uint8_t *state, size_t state_n, const uint8_t *message, size_t 
  *
  * Returns   HUB_DONE, HUB_WRONG_BUFFER (piece), 24, then 7 where the report is longer than 64 times F or has no such piece.
  * On done   piece holds the number of pieces, the piece's start in the report and its length.
- * On refusal 24 and 7 piece is 0, 0, 0.
+ * On refusal piece is 0, 0, 0: no piece, and the empty part at the report's start.
  * Proved    CutterExact.
  */
 HUB_ANSWER_MATTERS
@@ -416,7 +436,7 @@ uint8_t hub_cut(const uint8_t *report, size_t report_n, uint64_t fragment_size, 
  *
  * Returns   HUB_DONE, HUB_WRONG_BUFFER (line or length), then 1 to 9 in this order.
  * On done   the first length[0] bytes of line are the line; the rest is unchanged.
- * On refusal 1 to 9 likewise: the line is `refused N` and a newline.
+ * On refusal 1 to 9 likewise, length too: the line is `refused N` and a newline.
  * Proved    the contract (`lineOf` in crates/lines/specs/Listing.antt).
  */
 HUB_ANSWER_MATTERS

@@ -20,7 +20,7 @@ pub enum Answer {
     Failure,
     /// A new piece is in the report buffer, others are missing.
     Taken {
-        /// How many different pieces have come.
+        /// How many different pieces have come, this one with them.
         heard: usize,
     },
     /// A piece that had come, with the same bytes; nothing has changed.
@@ -30,7 +30,7 @@ pub enum Answer {
     },
     /// The last missing piece: the report is the first bytes of the report buffer.
     Complete {
-        /// How many pieces the report came in.
+        /// How many different pieces have come: all of them.
         heard: usize,
         /// The report's length.
         length: usize,

@@ -3,8 +3,8 @@
 //! Devices Platform protocol (MS-CDP), as the project's document 01 describes it.
 //!
 //! The calls are those of include/hub.h, with types for what C can only ask for: keys are 64 bytes
-//! or none, a connection is a value, a payload is a part of the buffer in which it lies, and a refusal is an
-//! error with document 01's number. All memory is the caller's; nothing is allocated but the
+//! or none, a connection is a value, a payload is a part of the buffer in which it lies and a sealed
+//! part is none, fields have their width, and a refusal is an error with document 01's number. All memory is the caller's; nothing is allocated but the
 //! [`list`]ing's line. Every input is defined behaviour: no call here panics.
 //!
 //! ```
@@ -57,7 +57,7 @@ mod refusal;
 
 pub use connection::{cut, Answer, Connection, Piece, MOST_PIECES};
 pub use hash::{digest, hmac, same_tag};
-pub use message::{list, read, read_header, write, Framed, Header, Keys, Message};
+pub use message::{list, read, read_header, write, Body, Framed, Header, Keys, Message};
 pub use message::{MOST_MESSAGE, MOST_SEALED, NO_ENTRIES};
 pub use refusal::Refusal;
 

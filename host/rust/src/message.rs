@@ -20,6 +20,9 @@ pub const MOST_MESSAGE: usize = 18_530;
 /// The longest sealed part of a message: a working buffer of this size is enough for all.
 pub const MOST_SEALED: usize = 65_456;
 
+/// HUB_SEALED of a message whose payload stands in it.
+const PLAIN: u64 = 0;
+
 /// The fields of a header that a sender chooses.
 #[derive(Clone, Copy, Debug, Default, PartialEq, Eq)]
 pub struct Header {
@@ -84,13 +87,31 @@ impl Header {
     }
 }
 
+/// What stands after a message's chain, without the tag.
+#[derive(Clone, Copy, Debug, PartialEq, Eq)]
+pub enum Body<'a> {
+    /// The payload of a plain message. No refusal but 1 to 9 was tested: it may have any shape.
+    Payload(&'a [u8]),
+    /// The sealed part of a sealed message: [`read`] opens it.
+    Sealed(&'a [u8]),
+}
+
+impl<'a> Body<'a> {
+    /// The bytes on the wire, whichever they are.
+    pub fn on_wire(&self) -> &'a [u8] {
+        match self {
+            Body::Payload(bytes) | Body::Sealed(bytes) => bytes,
+        }
+    }
+}
+
 /// A message whose header was read.
 #[derive(Clone, Copy, Debug, PartialEq, Eq)]
 pub struct Framed<'a> {
     /// Its header.
     pub header: Header,
     /// Its payload or, where it is sealed, its sealed part.
-    pub body: &'a [u8],
+    pub body: Body<'a>,
 }
 
 /// A message that was read.
@@ -102,14 +123,16 @@ pub struct Message<'a> {
     pub payload: &'a [u8],
 }
 
-/// Reads a message's header and chain, which needs no keys: refusals 1 to 9.
+/// Reads a message's header and chain, which needs no keys: refusals 1 to 9. What a sealed message
+/// carries is not read: its body is [`Body::Sealed`], which is no payload.
 pub fn read_header(message: &[u8]) -> Result<Framed<'_>, Refusal> {
     let mut words = [0; 11];
     // SAFETY: pointers and lengths are those of slices; the two do not overlap.
     Refusal::of(unsafe {
         ffi::hub_read_header(message.as_ptr(), message.len(), words.as_mut_ptr(), words.len())
     })?;
-    let body = &message[words[9] as usize..][..words[10] as usize];
+    let bytes = &message[words[9] as usize..][..words[10] as usize];
+    let body = if words[8] == PLAIN { Body::Payload(bytes) } else { Body::Sealed(bytes) };
     Ok(Framed { header: Header::from_words(&words), body })
 }
 

@@ -105,7 +105,8 @@ impl Refusal {
         ALL.get(usize::from(number).checked_sub(1)?).copied()
     }
 
-    /// What a call returned. Buffers have the size that it asks for, so there is no other number.
+    /// What a call returned. Buffers have the size that it asks for and words fit their fields, so
+    /// there is no other number.
     pub(crate) fn of(number: u8) -> Result<(), Refusal> {
         match number {
             0 => Ok(()),

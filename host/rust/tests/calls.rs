@@ -2,7 +2,7 @@
 //! Each call of the wrapper by itself.
 
 use hlidunsk::{cut, digest, hmac, list, read, read_header, same_tag, version, write};
-use hlidunsk::{Connection, Header, Refusal, NO_ENTRIES};
+use hlidunsk::{Body, Connection, Header, Refusal, NO_ENTRIES};
 
 /// Document 01's P1.
 fn p1() -> Vec<u8> {
@@ -46,7 +46,8 @@ fn published_digests_and_tags() {
 fn document_01s_first_examples() {
     let message = p1();
     let framed = read_header(&message).unwrap();
-    assert_eq!((framed.header.message_type, framed.header.count, framed.body), (1, 1, &[0][..]));
+    assert_eq!((framed.header.message_type, framed.header.count), (1, 1));
+    assert_eq!(framed.body, Body::Payload(&[0]));
     assert_eq!(list(&message).unwrap(), "1 0 0 1 43");
     assert_eq!(read(&message, None, &mut []).unwrap().payload, [0]);
     assert_eq!(read_header(&message[..42]), Err(Refusal::WrongLength));
@@ -70,6 +71,7 @@ fn a_written_message_is_read_back() {
     assert_eq!(write(&header, NO_ENTRIES, b"twelve bytes", Some(&keys), &mut out), Ok(90));
     let message = read(&out, Some(&keys), &mut working).unwrap();
     assert_eq!((message.header, message.payload), (header, &b"twelve bytes"[..]));
+    assert_eq!(read_header(&out).map(|framed| framed.body), Ok(Body::Sealed(&out[42..58])));
     assert_eq!(read(&out, Some(&keys), &mut [0; 15]), Err(Refusal::ShortWorking));
     assert_eq!(read(&out, Some(&[4; 64]), &mut [0; 16]), Err(Refusal::WrongTag));
     assert_eq!(read(&out, None, &mut [0; 16]), Err(Refusal::WrongKeys));

@@ -4,7 +4,7 @@
 use std::fs;
 use std::path::{Path, PathBuf};
 
-use hlidunsk::{list, read, read_header, write, Answer, Connection, Keys, Refusal};
+use hlidunsk::{list, read, read_header, write, Answer, Body, Connection, Keys, Refusal};
 use hlidunsk::{MOST_MESSAGE, MOST_PIECES, MOST_SEALED};
 
 fn folder() -> PathBuf {
@@ -105,7 +105,8 @@ fn what_is_read_is_written_to_the_same_bytes() {
         let message = fs::read(&path).unwrap();
         let framed = read_header(&message).unwrap();
         let tag = if framed.header.is_sealed() { 32 } else { 0 };
-        let chain = &message[40..message.len() - tag - framed.body.len()];
+        let chain = &message[40..message.len() - tag - framed.body.on_wire().len()];
+        assert_eq!(matches!(framed.body, Body::Sealed(_)), framed.header.is_sealed());
         let read = read(&message, Some(&keys), &mut working).unwrap();
         assert_eq!(read.header, framed.header);
         let mut out = vec![0xEE; MOST_MESSAGE];

@@ -1,6 +1,7 @@
 // SPDX-License-Identifier: MPL-2.0
 //! Document 01's calls as the comparison asks for them, each by one call through the C boundary. What
-//! the comparison cannot see is tested here: that a refusal leaves every output as it was.
+//! the comparison cannot see is tested here: that a refusal leaves the state as it was and every word
+//! that it hands out 0, and which buffer the words name.
 
 use second::compare::{Implementation, Piece};
 use second::connection::{Answer, Connection};
@@ -8,11 +9,11 @@ use second::header::{Framed, Header, Kind};
 use second::message::{Message, Place};
 use second::refusal::Refusal;
 
-use crate::hub_h::{Hub, answer_words, header_words, kinds, piece_words, place_words};
+use crate::hub_h::{Hub, answer_words, header_words, kinds, piece_words, place_words, sealed};
 use crate::state::{STATE, decode, encode};
 
 /// What stands in an output before a call.
-const BEFORE: u64 = 0x5AA5_0FF0_C33C_9669;
+pub const BEFORE: u64 = 0x5AA5_0FF0_C33C_9669;
 
 /// What a call returned, as a refusal.
 pub fn refusal(number: u8) -> Result<(), Refusal> {
@@ -22,10 +23,10 @@ pub fn refusal(number: u8) -> Result<(), Refusal> {
     }
 }
 
-/// The same; refused, the words must be as they were.
+/// The same; every word that is handed out is 0 exactly where it is a refusal.
 fn unless_refused<const N: usize>(number: u8, words: [u64; N]) -> Result<[u64; N], Refusal> {
     let answer = refusal(number);
-    assert!(answer.is_ok() || words == [BEFORE; N], "refused {number}, but words were written");
+    assert_eq!(answer.is_err(), words == [0; N], "{number} was returned, and the words {words:?}");
     answer.map(|()| words)
 }
 
@@ -38,9 +39,10 @@ fn fits<T: TryFrom<u64>>(word: u64) -> T {
     T::try_from(word).unwrap_or_else(|_| panic!("{word} is too wide for its field"))
 }
 
-/// Header, kind, whether it is sealed, and the place's start and end.
-fn header_of(words: &[u64; 11]) -> (Header, Kind, bool, std::ops::Range<usize>) {
-    let [kind, flags, sequence, request, index, count, session, channel, sealed, from, size] =
+/// Header, kind, and the place's start and end. What the words name must be the payload of a plain
+/// message, and `otherwise` of a sealed one.
+fn header_of(words: &[u64; 11], otherwise: u64) -> (Header, Kind, std::ops::Range<usize>) {
+    let [kind, flags, sequence, request, index, count, session, channel, names, from, size] =
         by_name(words, header_words());
     let header = Header {
         message_type: fits(kind),
@@ -52,9 +54,10 @@ fn header_of(words: &[u64; 11]) -> (Header, Kind, bool, std::ops::Range<usize>) 
         session,
         channel,
     };
-    assert!(sealed <= 1, "sealed is {sealed}");
+    let [plain, ..] = sealed();
+    assert_eq!(names, if header.sealed() { otherwise } else { plain }, "HUB_SEALED");
     let kind = Kind::from_number(header.message_type).expect("a kind");
-    (header, kind, sealed == 1, from as usize..(from + size) as usize)
+    (header, kind, from as usize..(from + size) as usize)
 }
 
 /// The words of a header, for the writer.
@@ -79,7 +82,8 @@ pub fn fields_of(header: &Header) -> [u64; 8] {
 /// A step's answer.
 pub fn answer_of(words: &[u64; 3]) -> Answer {
     let [kind, value, length] = by_name(words, answer_words());
-    let [reply, again, failure, taken, repeat, complete] = kinds();
+    let [_, reply, again, failure, taken, repeat, complete] = kinds();
+    // The Status of a reply of type 7 is 0 too.
     assert!(kind == complete || length == 0, "a length that is not used is {length}");
     match kind {
         kind if kind == reply => Answer::Reply(fits(value)),
@@ -92,12 +96,32 @@ pub fn answer_of(words: &[u64; 3]) -> Answer {
     }
 }
 
+impl Hub {
+    /// `hub_payload` makes of these words this part of this buffer.
+    pub fn place_is(
+        &mut self,
+        message: &[u8],
+        working: &[u8],
+        words: &[u64; 11],
+        buffer: u64,
+        range: &std::ops::Range<usize>,
+    ) {
+        let mut place = [BEFORE; 3];
+        assert_eq!(self.payload(message, working, words, &mut place), 0);
+        let place = by_name(&place, place_words());
+        assert_eq!(place, [buffer, range.start as u64, range.len() as u64], "{words:?}");
+    }
+}
+
 impl Implementation for Hub {
     fn read_header(&mut self, message: &[u8]) -> Result<Framed, Refusal> {
         let mut words = [BEFORE; 11];
         let number = Hub::read_header(self, message, &mut words);
-        let (header, kind, sealed, body) = header_of(&unless_refused(number, words)?);
-        assert_eq!(sealed, header.sealed());
+        let [plain, _, still_sealed] = sealed();
+        let (header, kind, body) = header_of(&unless_refused(number, words)?, still_sealed);
+        // A sealed message's words name no payload, though both buffers have such a part.
+        let payload = if header.sealed() { 0..0 } else { body.clone() };
+        self.place_is(message, message, &words, plain, &payload);
         Ok(Framed { header, kind, body })
     }
 
@@ -109,12 +133,11 @@ impl Implementation for Hub {
     ) -> Result<Message, Refusal> {
         let mut words = [BEFORE; 11];
         let number = Hub::read(self, message, keys, working, &mut words);
-        let (header, kind, sealed, range) = header_of(&unless_refused(number, words)?);
-        let mut place = [BEFORE; 3];
-        assert_eq!(Hub::payload(self, message, working, &words, &mut place), 0);
-        let [buffer, from, size] = by_name(&place, place_words());
-        assert_eq!((buffer, from, size), (sealed.into(), range.start as u64, range.len() as u64));
-        let payload = if sealed { Place::Working(range) } else { Place::Message(range) };
+        let [plain, opened, _] = sealed();
+        let (header, kind, range) = header_of(&unless_refused(number, words)?, opened);
+        let buffer = if header.sealed() { opened } else { plain };
+        self.place_is(message, working, &words, buffer, &range);
+        let payload = if header.sealed() { Place::Working(range) } else { Place::Message(range) };
         Ok(Message { header, kind, payload })
     }
 

@@ -88,7 +88,8 @@ mod through {
         pub static through_answer_words: [usize; 3];
         pub static through_piece_words: [usize; 3];
         pub static through_state_places: [usize; 13];
-        pub static through_kinds: [u64; 6];
+        pub static through_kinds: [u64; 7];
+        pub static through_sealed: [u64; 3];
         pub static through_types: [u64; 3];
         pub static through_flags: [u64; 5];
         pub static through_connects: [u64; 6];
@@ -115,7 +116,8 @@ constants! {
     answer_words: [usize; 3] = through_answer_words, "Kind, value, length.";
     piece_words: [usize; 3] = through_piece_words, "Count, from, size.";
     state_places: [usize; 13] = through_state_places, "Fragment size to last length, and the end.";
-    kinds: [u64; 6] = through_kinds, "Reply, Again, Failure, Taken, Repeat, Complete.";
+    kinds: [u64; 7] = through_kinds, "Refused, Reply, Again, Failure, Taken, Repeat, Complete.";
+    sealed: [u64; 3] = through_sealed, "Plain, opened, still sealed.";
     types: [u64; 3] = through_types, "Discovery, Connect, Session.";
     flags: [u64; 5] = through_flags, "Acknowledge, HMAC, encrypted, both, wake.";
     connects: [u64; 6] = through_connects, "The Connect types, in order.";

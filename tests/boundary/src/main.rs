@@ -76,6 +76,8 @@ fn constants(hub: &Hub) {
         assert_eq!(hub_h::refusals()[..], numbers);
         assert_eq!(hub_h::sizes(), [151, 11, 8, 3, 3, 3, 1, 32, 64, 64]);
         assert_eq!(hub_h::bounds(), [42, 18_530, 65_535, 65_456, 64, 16_384]);
+        assert_eq!(hub_h::kinds(), [0, 1, 2, 3, 4, 5, 6]);
+        assert_eq!(hub_h::sealed(), [0, 1, 2]);
         assert_eq!(hub_h::types(), [1, 2, 4]);
         assert_eq!(hub_h::flags(), [1, 2, 4, 6, 8]);
         assert_eq!(hub_h::connects(), [0, 1, 2, 3, 6, 7]);
@@ -128,7 +130,7 @@ fn all_came(hub: &Hub) -> String {
 fn every_sweep() {
     let mut comparison = Comparison::new(Hub::default());
     let (mut sweeps, mut cases) = (0, 0);
-    for sweep in sweeps::all() {
+    for sweep in sweeps::all().into_iter().chain(sweeps::of_words()) {
         agree(sweep.name, || sweep.run(&mut comparison));
         println!("boundary: {}: {} cases alike", sweep.name, sweep.cases);
         (sweeps, cases) = (sweeps + 1, cases + sweep.cases);

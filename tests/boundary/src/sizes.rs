@@ -9,11 +9,12 @@ use second::generate::{Case, WriteCase, case, cut_case, dress, gateway, write_ca
 use second::header::Header;
 use second::prng::Prng;
 
-use crate::hub::{answer_of, fields_of};
+use crate::hub::{BEFORE, answer_of, by_name, fields_of};
 use crate::hub_h::{Hub, header_words};
 use crate::state::{STATE, decode, encode, encode_next};
 
-const WRONG_BUFFER: u8 = 255;
+/// What a call returns where a buffer of fixed size, or a word, is of another size.
+pub const WRONG_BUFFER: u8 = 255;
 
 /// Every size from 0 to a little more than the right one, but for that.
 fn wrong(right: usize) -> impl Iterator<Item = usize> {
@@ -115,10 +116,9 @@ pub fn any_state(hub: &mut Hub, prng: &mut Prng) {
     let number =
         hub.step(&mut state, &theirs.message, &theirs.keys, working, report, verdict, &mut words);
     if let Answer::Refused(refusal) = answer {
-        let unchanged = state == before && words == [7; 3];
         assert!(
-            number == refusal.number() && unchanged,
-            "{before:?} {ours:?}: {number}, {refusal}"
+            number == refusal.number() && state == before && words == [0; 3],
+            "{before:?} {ours:?}: {number} {words:?}, {refusal}"
         );
     } else {
         assert!(
@@ -130,38 +130,56 @@ pub fn any_state(hub: &mut Hub, prng: &mut Prng) {
     assert!(ours == theirs, "{before:?} {ours:?}: buffers");
 }
 
-/// The writer with words wider than their fields: as if they were the widest that fit, but a
-/// SequenceNumber that is too wide is a wrong buffer.
+/// The fields by their words; none where a word is too wide for its field.
+fn header_by(fields: &[u64; 8]) -> Option<Header> {
+    let [kind, flags, sequence, request, index, count, session, channel] =
+        by_name(fields, header_words()[..8].try_into().expect("eight names"));
+    Some(Header {
+        message_type: kind.try_into().ok()?,
+        flags: flags.try_into().ok()?,
+        sequence: sequence.try_into().ok()?,
+        request,
+        index: index.try_into().ok()?,
+        count: count.try_into().ok()?,
+        session,
+        channel,
+    })
+}
+
+/// The writer with these words for its fields. A word too wide for its field is a wrong buffer,
+/// and then nothing is changed, whatever else is wrong; else it is as the second implementation has
+/// it, and the length of what is refused is 0. Answers what was returned.
+pub fn write_words(hub: &mut Hub, fields: &[u64; 8], case: &WriteCase) -> u8 {
+    let WriteCase { chain, payload, keys, output, .. } = case;
+    let (mut out, mut length) = (output.clone(), [BEFORE]);
+    let number = hub.write(fields, chain, payload, keys, &mut out, &mut length);
+    let mut expected = case.clone();
+    let (answer, written) = match header_by(fields) {
+        None => (WRONG_BUFFER, BEFORE),
+        Some(header) => {
+            expected.header = header;
+            match expected.write() {
+                Ok(written) => (0, written as u64),
+                Err(refusal) => (refusal.number(), 0),
+            }
+        }
+    };
+    assert_eq!((number, length[0]), (answer, written), "{fields:?} {expected:?}");
+    assert!(out == expected.output, "{fields:?}: output");
+    number
+}
+
+/// The writer with one or two words that may be wider than their fields.
 pub fn wide_fields(hub: &mut Hub, prng: &mut Prng) {
     let case = write_case(prng);
     let mut fields = fields_of(&case.header);
     let [kind, flags, sequence, _, index, count, ..] = header_words();
     for _ in 0..prng.between(1, 2) {
         let field = prng.pick(&[kind, flags, sequence, index, count]);
-        let wide = 1 << prng.pick(&[8, 16, 31, 32, 33, 48, 63]);
+        let wide = 1 << prng.pick(&[7, 8, 15, 16, 31, 32, 33, 48, 63]);
         fields[field] = fields[field].wrapping_add(wide);
     }
-    let (mut out, mut length) = (case.output.clone(), [9]);
-    let number = hub.write(&fields, &case.chain, &case.payload, &case.keys, &mut out, &mut length);
-    if fields[sequence] > u32::MAX.into() {
-        assert!(number == WRONG_BUFFER && out == case.output && length == [9], "{fields:?}");
-        return;
-    }
-    let header = Header {
-        message_type: fields[kind].try_into().unwrap_or(u8::MAX),
-        flags: fields[flags].try_into().unwrap_or(u16::MAX),
-        sequence: fields[sequence] as u32,
-        index: fields[index].try_into().unwrap_or(u16::MAX),
-        count: fields[count].try_into().unwrap_or(u16::MAX),
-        ..case.header
-    };
-    let mut expected = WriteCase { header, ..case };
-    let (answer, written) = match expected.write() {
-        Ok(written) => (0, written as u64),
-        Err(refusal) => (refusal.number(), 9),
-    };
-    assert_eq!((number, length[0]), (answer, written), "{fields:?} {expected:?}");
-    assert!(out == expected.output, "{fields:?}: output");
+    write_words(hub, &fields, &case);
 }
 
 /// A place by any words: it is inside the buffer that it names, or it is empty.
@@ -176,7 +194,7 @@ pub fn any_place(hub: &mut Hub, prng: &mut Prng) {
     };
     let mut header: [u64; 11] = std::array::from_fn(|_| prng.word());
     let [.., sealed, from, size] = header_words();
-    header[sealed] = if prng.chance(5) { some(prng) } else { prng.below(2) as u64 };
+    header[sealed] = if prng.chance(5) { some(prng) } else { prng.below(3) as u64 };
     (header[from], header[size]) = (some(prng), some(prng));
     let mut place = [5; 3];
     assert_eq!(hub.payload(&message, &working, &header, &mut place), 0);

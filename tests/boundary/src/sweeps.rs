@@ -6,14 +6,18 @@
 pub mod conversations;
 pub mod described;
 pub mod header;
+pub mod made_up;
 pub mod payload;
 pub mod sealed;
 pub mod trial;
+pub mod words;
 pub mod written;
 
 use std::fmt::Debug;
 
 use second::compare::{Comparison, Difference, Implementation};
+
+use crate::hub_h::Hub;
 
 /// How many cases of a sweep agreed, all of them, or the first that did not.
 pub type Tried = Result<u64, Difference>;
@@ -74,6 +78,21 @@ pub fn all<I: Implementation>() -> Vec<Sweep<I>> {
         Sweep::new("reports in every order, disturbed, empty", 813, conversations::reports),
         Sweep::new("fragment sizes at their edges, 24 and 25", 92, conversations::sizes),
         Sweep::new("19, 17, 18, 21, 20, 22, 23 in their order", 25, conversations::conflicts),
+        Sweep::new("indexes heard at and above the count", 240, made_up::heard),
+    ]
+}
+
+/// The sweeps of what include/hub.h's calls leave in their words.
+pub fn of_words() -> Vec<Sweep<Hub>> {
+    vec![
+        Sweep::new(
+            "a read that is refused after one that was done",
+            375,
+            words::refused_after_read,
+        ),
+        Sweep::new("the words of a header as a place", 25, words::header_as_place),
+        Sweep::new("each field of the writer at its edge", 69, words::fields_at_edges),
+        Sweep::new("a step that is refused after one that was done", 26, words::refused_after_step),
     ]
 }
 

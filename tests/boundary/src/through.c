@@ -86,7 +86,7 @@ extern const uint32_t through_version_here;
 extern const uint8_t through_refusals[27];
 extern const size_t through_sizes[10], through_bounds[6], through_header_words[11], through_place_words[3], through_answer_words[3],
     through_piece_words[3], through_state_places[13];
-extern const uint64_t through_kinds[6], through_types[3], through_flags[5], through_connects[6];
+extern const uint64_t through_kinds[7], through_sealed[3], through_types[3], through_flags[5], through_connects[6];
 
 const uint32_t through_version_here = HUB_VERSION;
 const uint8_t through_refusals[27] = {
@@ -106,7 +106,8 @@ const size_t through_piece_words[3] = {HUB_PIECE_COUNT, HUB_PIECE_FROM, HUB_PIEC
 const size_t through_state_places[13] = {HUB_STATE_FRAGMENT_SIZE, HUB_STATE_STATE,       HUB_STATE_SESSION,  HUB_STATE_NONCE, HUB_STATE_X,
                                          HUB_STATE_Y,             HUB_STATE_CERTIFICATE, HUB_STATE_EXPECTED, HUB_STATE_HEARD, HUB_STATE_COUNT,
                                          HUB_STATE_CHANNEL,       HUB_STATE_LAST,        HUB_STATE};
-const uint64_t through_kinds[6] = {HUB_REPLY, HUB_AGAIN, HUB_FAILURE, HUB_TAKEN, HUB_REPEAT, HUB_COMPLETE};
+const uint64_t through_kinds[7] = {HUB_REFUSED, HUB_REPLY, HUB_AGAIN, HUB_FAILURE, HUB_TAKEN, HUB_REPEAT, HUB_COMPLETE};
+const uint64_t through_sealed[3] = {HUB_PLAIN, HUB_OPENED, HUB_STILL_SEALED};
 const uint64_t through_types[3] = {HUB_TYPE_DISCOVERY, HUB_TYPE_CONNECT, HUB_TYPE_SESSION};
 const uint64_t through_flags[5] = {HUB_FLAG_ACKNOWLEDGE, HUB_FLAG_HMAC, HUB_FLAG_ENCRYPTED, HUB_SEAL, HUB_FLAG_WAKE};
 const uint64_t through_connects[6] = {HUB_CONNECTION_REQUEST,      HUB_CONNECTION_RESPONSE, HUB_AUTHENTICATION_REQUEST,

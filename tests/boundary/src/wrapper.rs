@@ -42,7 +42,8 @@ fn place(part: &[u8], whole: &[u8]) -> Option<std::ops::Range<usize>> {
 impl Implementation for Wrapper {
     fn read_header(&mut self, message: &[u8]) -> Result<Framed, Refusal> {
         let framed = h::read_header(message).map_err(refused)?;
-        let body = place(framed.body, message).expect("a part of the message");
+        assert_eq!(matches!(framed.body, h::Body::Sealed(_)), framed.header.is_sealed());
+        let body = place(framed.body.on_wire(), message).expect("a part of the message");
         Ok(Framed { header: header(framed.header), kind: kind(framed.header), body })
     }
 

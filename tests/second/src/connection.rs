@@ -81,11 +81,11 @@ pub enum Answer {
     Again(u8),
     /// Authentication failed; say so.
     Failure,
-    /// A new piece; how many different ones have come.
+    /// A new piece; how many different ones have come, it with them.
     Taken(u32),
     /// A piece that had come; how many different ones have come.
     Repeat(u32),
-    /// The last missing piece; the report's length, and how many pieces it came in.
+    /// The last missing piece; the report's length, and how many different pieces have come: all.
     Complete(usize, u32),
 }
 

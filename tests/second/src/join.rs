@@ -25,7 +25,7 @@ impl Connection {
         if self.heard & bit(header) != 0 {
             let taken = if is_last(header) { self.last_length as usize } else { size };
             require(piece.len() == taken && piece == room, Refusal::Conflict)?;
-            return Ok((self, Answer::Repeat(self.heard.count_ones())));
+            return Ok((self, Answer::Repeat(come(self.heard, header.count))));
         }
         room.copy_from_slice(piece);
         Ok(self.take(header, piece.len()))
@@ -46,7 +46,8 @@ impl Connection {
         let heard = self.heard | bit(header);
         let last_length = if is_last(header) { length as u32 } else { self.last_length };
         let (count, channel) = (header.count, header.channel);
-        if (0..count).all(|index| heard & (1 << index) != 0) {
+        let come = come(heard, count);
+        if come == u32::from(count) {
             let whole = self.fragment_size as usize * usize::from(count - 1);
             let next = Connection {
                 expected: self.expected + 1,
@@ -56,11 +57,17 @@ impl Connection {
                 last_length: 0,
                 ..self
             };
-            return (next, Answer::Complete(whole + last_length as usize, count.into()));
+            return (next, Answer::Complete(whole + last_length as usize, come));
         }
         let next = Connection { heard, count, channel, last_length, ..self };
-        (next, Answer::Taken(heard.count_ones()))
+        (next, Answer::Taken(come))
     }
+}
+
+/// How many different pieces of a message have come: the indexes below its count that are heard. (A
+/// connection that is made up may have heard others.)
+fn come(heard: u64, count: u16) -> u32 {
+    (0..count).map(|index| (heard >> index & 1) as u32).sum()
 }
 
 fn bit(header: &Header) -> u64 {

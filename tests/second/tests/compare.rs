@@ -64,6 +64,7 @@ enum Error {
     OutputTouchedBeyond,
     OpenForgetsF,
     RepeatCounted,
+    AllHeardTold,
     ReportTouchedBeyond,
     LastLengthKept,
     NothingStored,
@@ -133,6 +134,9 @@ impl Implementation for Spoilt {
         let (mut next, mut answer) = connection.step(message, keys, working, report, verdict);
         match (self.0, answer) {
             (Error::RepeatCounted, Answer::Repeat(heard)) => answer = Answer::Repeat(heard + 1),
+            (Error::AllHeardTold, Answer::Taken(_)) => {
+                answer = Answer::Taken(next.heard.count_ones());
+            }
             (Error::ReportTouchedBeyond, Answer::Taken(_)) => {
                 report.last_mut().into_iter().for_each(|byte| *byte = byte.wrapping_add(1));
             }
@@ -175,6 +179,7 @@ fn it_notices_every_kind_of_error() {
         Error::OutputTouchedBeyond,
         Error::OpenForgetsF,
         Error::RepeatCounted,
+        Error::AllHeardTold,
         Error::ReportTouchedBeyond,
         Error::LastLengthKept,
         Error::NothingStored,

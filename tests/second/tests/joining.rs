@@ -304,12 +304,22 @@ fn heard_sets_that_are_made_up() {
     let gateway = gateway();
     let channel = gateway.channel;
     let mut hub = ready(4);
-    // All heard, yet not complete: a copy is a Repeat.
+    // All heard, yet not complete: a copy is a Repeat, and what is heard beyond the count is no piece.
     hub.connection =
         Connection { heard: u64::MAX, count: 2, channel, last_length: 3, ..hub.connection };
-    assert_eq!(hub.take_in_vain(&gateway.piece(0, 0, 2, b"UUUU")), Answer::Repeat(64));
-    assert_eq!(hub.take_in_vain(&gateway.piece(0, 1, 2, b"UUU")), Answer::Repeat(64));
+    assert_eq!(hub.take_in_vain(&gateway.piece(0, 0, 2, b"UUUU")), Answer::Repeat(2));
+    assert_eq!(hub.take_in_vain(&gateway.piece(0, 1, 2, b"UUU")), Answer::Repeat(2));
     assert_eq!(refused(hub.take_in_vain(&gateway.piece(0, 1, 2, b"UUUU"))), 23);
+    // Heard beyond the count and one below it: Taken and Repeat tell those below it.
+    let beyond = Connection { heard: u64::MAX << 3 | 1, count: 3, ..hub.connection };
+    hub.connection = beyond;
+    assert_eq!(hub.take_in_vain(&gateway.piece(0, 0, 3, b"UUUU")), Answer::Repeat(1));
+    assert_eq!(hub.take(&gateway.piece(0, 1, 3, b"abcd")), Answer::Taken(2));
+    assert_eq!(hub.connection, Connection { heard: u64::MAX << 3 | 3, ..beyond });
+    assert_eq!(hub.take(&gateway.piece(0, 2, 3, b"abc")), Answer::Complete(11, 3));
+    let mut hub = ready(4);
+    hub.connection =
+        Connection { heard: u64::MAX, count: 2, channel, last_length: 3, ..hub.connection };
     // Heard beyond the count: complete once every index under the count is heard.
     hub.connection.heard = u64::MAX << 1;
     assert_eq!(hub.take(&gateway.piece(0, 0, 2, b"abcd")), Answer::Complete(7, 2));

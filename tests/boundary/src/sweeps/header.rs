@@ -83,7 +83,7 @@ pub fn chains<I: Implementation>(comparison: &mut Comparison<I>) -> Tried {
 }
 
 /// A message with one fault more, by its number.
-fn with_fault(mut case: Described, number: u8) -> Described {
+pub fn with_fault(mut case: Described, number: u8) -> Described {
     match number {
         1 => case.given = 41,
         2 => case.signature = 0x3031,
