@@ -2,7 +2,8 @@
 -- The bytes at a place, `bytesAt`: how many they are, that they are a part of the list where it has them, and that a list filled from
 -- its start one byte after the other comes to hold them.
 use Rattle.laws.proofs.Kit.{ℕ, zero, suc, _+_, _≤_, _<_, _≡_, refl, sym, List, [], _∷_, _++_, append-nil, append-assoc, length, take, drop}
-use Rattle.laws.proofs.Kit.{getD, set, length-append, length-drop, take-at, take-suc, drop-at, drop-length, getD-take, add-one, arith}
+use Rattle.laws.proofs.Kit.{getD, set, length-append, length-drop, take-at, take-suc, drop-at, drop-length, getD-take, add-zero, add-one, arith}
+use native.Mathlib.Nat.{add-suc, add-assoc}
 use lib.Seq.{drop-cons, getD-drop, set-at}
 use Rattle.laws.specs.Bytes.{be8, bytesAt}
 
@@ -18,6 +19,12 @@ bytesAt-part m at (suc n) h =
     let k : n < length (drop at m) = rw length-drop (omega arith) in
     let p : at + n ≤ length m = omega arith in
     rw (bytesAt-part m at n p, take-suc (drop at m) n 0 k, getD-drop at m n 0)
+
+-- Two runs of bytes, the second where the first ends.
+pub bytesAt-append : (m : List ℕ) (at n k : ℕ) → bytesAt m at (n + k) ≡ bytesAt m at n ++ bytesAt m (at + n) k
+unfolding bytesAt
+bytesAt-append m at n zero = rw (add-zero n, append-nil)
+bytesAt-append m at n (suc k) = rw (add-suc n k, bytesAt-append m at n k, append-assoc, add-assoc at n k)
 
 -- One more byte of a list that holds the first i of them.
 pub filled-more : (m l : List ℕ) (at i b : ℕ) → i < length l → b ≡ be8 m (at + i)

@@ -1,14 +1,10 @@
 -- SPDX-License-Identifier: MPL-2.0
 -- The tests of the code step over the fields of a description, one field at a time; where two formats begin alike, their beginning is tested once.
-use Rattle.laws.proofs.Kit.{ℕ, _+_, _≡_, refl, sym, Bool, true, false, _&&_, _||_, List, [], _∷_, length, eqb, leb, le-leb, arith}
+use Rattle.laws.proofs.Kit.{ℕ, _+_, _≡_, refl, sym, Bool, _&&_, _||_, List, [], _∷_, length, eqb, leb, le-leb, arith}
 use Rattle.laws.specs.Bytes.{be8, be16}
-use Rattle.laws.proofs.Bools.{and-one, and-assoc}
+use Rattle.laws.proofs.Bools.{and-one, and-assoc, and-or}
 use Rattle.payloads.specs.Format.{Width, widthOf, numberAt, fixed, free, Format, acceptsFrom, accepts}
 use Rattle.payloads.specs.Shapes.{ofType, deviceAuthentication}
-
-pub and-or : (a b c : Bool) → (a && (b || c)) ≡ ((a && b) || (a && c))
-and-or true b c = refl
-and-or false b c = refl
 
 module _ (p : List ℕ) where
   pub over-fixed : (w : Width) (n at : ℕ) (f : Format) {x : ℕ} {r : Bool} → x ≡ numberAt w p at → r ≡ acceptsFrom f p (at + widthOf w)

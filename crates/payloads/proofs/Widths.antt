@@ -1,12 +1,11 @@
 -- SPDX-License-Identifier: MPL-2.0
 -- A number of any width is read back from where it was written, and its bytes are those that it was read from.
-use Rattle.laws.proofs.Kit.{ℕ, zero, suc, _+_, _*_, _/_, _%_, _≤_, _<_, _≡_, refl, sym, _∙_, ap₂, List, [], _∷_, _++_, append-nil, append-assoc}
+use Rattle.laws.proofs.Kit.{ℕ, _+_, _*_, _/_, _%_, _≤_, _<_, _≡_, refl, sym, _∙_, ap₂, List, [], _∷_, _++_}
 use Rattle.laws.proofs.Kit.{length, drop, drop-drop, div-add-mod', add-zero, arith}
 use lib.ListN.{take-append-drop}
-use native.Mathlib.Nat.{add-suc, add-assoc}
 use Rattle.laws.specs.Bytes.{AreBytes, be16, be32, bytes16, bytes32, bytes64, bytesAt}
 use Rattle.laws.proofs.Numbers.{be8-past, be16-past, be32-past, be16-below, be32-below}
-use Rattle.laws.proofs.Parts.{bytesAt-part}
+use Rattle.laws.proofs.Parts.{bytesAt-part, bytesAt-append}
 use Rattle.payloads.specs.Format.{Width, one, two, four, eight, widthOf, numberAt, bytesOf}
 
 pub length-bytesOf : (w : Width) (x : ℕ) → length (bytesOf w x) ≡ widthOf w
@@ -49,12 +48,6 @@ eight-bytes a b h =
     let q : (a * 4294967296 + b) / 4294967296 ≡ a = omega arith in
     let r : (a * 4294967296 + b) % 4294967296 ≡ b = omega arith in
     rw (q, r)
-
--- Two runs of bytes, the second where the first ends.
-bytesAt-append : (p : List ℕ) (at n m : ℕ) → bytesAt p at (n + m) ≡ bytesAt p at n ++ bytesAt p (at + n) m
-unfolding bytesAt
-bytesAt-append p at n zero = rw (add-zero n, append-nil)
-bytesAt-append p at n (suc m) = rw (add-suc n m, bytesAt-append p at n m, append-assoc, add-assoc at n m)
 
 module _ (p : List ℕ) (bytes : AreBytes p) where
   at-two : (at : ℕ) → bytes16 (be16 p at) ≡ bytesAt p at 2

@@ -1,11 +1,10 @@
 -- SPDX-License-Identifier: MPL-2.0
 -- Parts one after the other: as they are stored, and as they stand in a list, each at its place.
-use Rattle.laws.proofs.Kit.{ℕ, zero, suc, _+_, _-_, _≤_, _≡_, refl, sym, _∙_, List, [], _∷_, _++_, append-nil, append-assoc, length, take, drop}
-use Rattle.laws.proofs.Kit.{length-append, sets, add-zero}
-use native.Mathlib.Nat.{add-suc, add-assoc}
+use Rattle.laws.proofs.Kit.{ℕ, _+_, _-_, _≤_, _≡_, refl, sym, _∙_, List, [], _∷_, _++_, append-assoc, length, take, drop}
+use Rattle.laws.proofs.Kit.{length-append, sets}
 use Rattle.laws.specs.Bytes.{bytesAt}
 use Rattle.laws.proofs.Lists.{copied-part}
-use Rattle.laws.proofs.Parts.{part-back, bytesAt-part}
+use Rattle.laws.proofs.Parts.{part-back, bytesAt-part, bytesAt-append}
 use Rattle.laws.proofs.Stores.{sets-sets}
 use Rattle.state.specs.State.{joined}
 
@@ -28,12 +27,6 @@ pub joined-stand : (a : List ℕ) (xs : List (List ℕ)) → Stand (a ++ joined 
 joined-stand a [] = tt
 joined-stand a (x ∷ xs) =
     (part-back a x (joined xs) (length a) (length x) refl refl, rw (← append-assoc a x (joined xs), ← length-append a x) (joined-stand (a ++ x) xs))
-
--- Two runs of bytes, the second where the first ends.
-pub bytesAt-append : (s : List ℕ) (at n m : ℕ) → bytesAt s at (n + m) ≡ bytesAt s at n ++ bytesAt s (at + n) m
-unfolding bytesAt
-bytesAt-append s at n zero = rw (add-zero n, append-nil)
-bytesAt-append s at n (suc m) = rw (add-suc n m, bytesAt-append s at n m, append-assoc, add-assoc at n m)
 
 -- And where they stand, they are the bytes there.
 pub stand-joined : (s : List ℕ) (p : ℕ) (xs : List (List ℕ)) → Stand s p xs → joined xs ≡ bytesAt s p (length (joined xs))

@@ -5,13 +5,13 @@ use Rattle.laws.proofs.Kit.{add-zero, arith}
 use native.Mathlib.Nat.{mul-add-div-right, div-eq-of-lt, mul-add-mod-self-right, mod-eq-of-lt}
 use Rattle.laws.specs.Bytes.{AreBytes, be8, be16, be32, be64, bytesAt, bytes16, bytes32, bytes64}
 use Rattle.laws.proofs.Numbers.{be16-below, be32-below}
-use Rattle.laws.proofs.Parts.{bytesAt-part}
+use Rattle.laws.proofs.Parts.{bytesAt-part, bytesAt-append}
 use Rattle.wire.specs.Fields.{mostPieces}
 use Rattle.joining.specs.Heard.{has, most}
 use Rattle.state.specs.Layout.{sizePlace, sessionPlace, expectedPlace, heardPlace, heardSize, countPlace, channelPlace, lastPlace}
 use Rattle.state.specs.State.{bitAt, heardAt, heardByte, heardBytes, progressAt, progressParts, connectionAt, Fits, Whole}
 use Rattle.state.proofs.Listed.{length-listed, listed-at, listed-same, bytesAt-listed}
-use Rattle.state.proofs.Parted.{Stand, bytesAt-append, stand-joined}
+use Rattle.state.proofs.Parted.{Stand, stand-joined}
 use Rattle.state.proofs.Bits.{eight-bits}
 use Rattle.state.proofs.StateBack.{eights, allParts, all-parts, read-back}
 

@@ -1,8 +1,7 @@
 -- SPDX-License-Identifier: MPL-2.0
 -- The code joins the rows of the list, without the list's end.
-use Rattle.laws.proofs.Bools.{or-assoc, or-none}
+use Rattle.laws.proofs.Bools.{and-or, or-assoc, or-none}
 use Rattle.payloads.specs.Shapes.{isShaped}
-use Rattle.payloads.proofs.Steps.{and-or}
 use Rattle.payloads.proofs.shapes.is_shaped.Statement.{statement}
 use Rattle.payloads.proofs.shapes.is_shaped.Tie as tie
 
