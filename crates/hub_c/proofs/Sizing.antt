@@ -9,7 +9,8 @@ use Rattle.wire.specs.declared.header.HeaderRead.{HeaderRead}
 use Rattle.wire.specs.declared.header.HeaderRead.the-variants.{Refused, Read}
 use Rattle.wire.proofs.Sound.{read-sound}
 use Rattle.lines.specs.Listing.{headerLine, lineOf}
-use Rattle.joining.specs.Cut.{cutRefusal, cutCount, cutPiece}
+use Rattle.joining.specs.declared.cut.Cutting.{Cutting}
+use Rattle.joining.specs.Cut.{cutRefusal, cutting, cutPiece}
 use Rattle.state.proofs.Listed.{sets-whole}
 use Rattle.hub_c.specs.Pieces.{cutWords}
 use Rattle.hub_c.specs.Line.{lineText}
@@ -39,15 +40,17 @@ pub told : {A B : Type 0} (f : A → B) (a b : A) (s : B) → a ≡ b → s ≡ 
 told f a b s p q = rw p q
 
 -- What the cutter answers is put into words.
-module _ (F : ℕ) (R : List ℕ) (i n : ℕ) (judged : n ≡ cutRefusal F (length R) i) where
-  pub cut-refused : (w : List ℕ) → (n ≡ 0 → ⊥) → w ≡ 0 ∷ 0 ∷ 0 ∷ [] → w ≡ cutWords F R i
-  unfolding cutWords
-  cut-refused w z q = rw (← judged, ne-eqb n 0 z) q
+module _ (F : ℕ) (R : List ℕ) (i : ℕ) (k : Cutting) (answered : k ≡ cutting F (length R) i) where
+  pub cut-judged : k .refusal ≡ cutRefusal F (length R) i
+  cut-judged = ap (λ (k : Cutting). k .refusal) answered
 
-  pub cut-told : (count : ℕ) (p w : List ℕ) → n ≡ 0 → count ≡ cutCount F (length R) i → p ≡ cutPiece F R i → w ≡ count ∷ F * i ∷ length p ∷ []
-      → w ≡ cutWords F R i
+  pub cut-refused : (w : List ℕ) → (k .refusal ≡ 0 → ⊥) → w ≡ 0 ∷ 0 ∷ 0 ∷ [] → w ≡ cutWords F R i
   unfolding cutWords
-  cut-told count p w z e f q = rw (q, e, f, eq-eqb (cutRefusal F (length R) i) 0 (sym judged ∙ z))
+  cut-refused w z q = rw (← cut-judged, ne-eqb (k .refusal) 0 z) q
+
+  pub cut-told : (p w : List ℕ) → k .refusal ≡ 0 → p ≡ cutPiece F R i → w ≡ k .count ∷ F * i ∷ length p ∷ [] → w ≡ cutWords F R i
+  unfolding cutWords
+  cut-told p w z f q = rw (q, answered, f, eq-eqb (cutRefusal F (length R) i) 0 (sym cut-judged ∙ z))
 
 -- The length that stands in an accepted message is the number of its bytes; a refusal's line has none.
 pub line-told : (m : List ℕ) → lineOf (readHeader m) (be16 m 2) ≡ lineText m

@@ -9,6 +9,7 @@ use lib.ListN.{length}
 use Rattle.laws.specs.Rows.{first}
 use Rattle.laws.specs.Parts.{part}
 use Rattle.wire.specs.Refusals.{wrongFragmentSize, wrongPiece}
+use Rattle.joining.specs.declared.cut.Cutting.{Cutting}
 use Rattle.joining.specs.Heard.{most}
 
 -- 24: "F outside 1 to 16,384".
@@ -34,6 +35,10 @@ cutRefusal F bytes i = first (sizeRows F ++ pieceRows F bytes i)
 -- "Asked for piece i, the cutter answers the count … A refusal gives count 0".
 abbrev pub cutCount : ℕ → ℕ → ℕ → ℕ
 cutCount F bytes i = cond (eqb (cutRefusal F bytes i) 0) (pieceCount F bytes) 0
+
+-- What is answered: the refusal's number or 0, and the count.
+abbrev pub cutting : ℕ → ℕ → ℕ → Cutting
+cutting F bytes i = record { refusal = cutRefusal F bytes i; count = cutCount F bytes i }
 
 -- "… and that part of the report", a refusal "the empty part at the report's start".
 abbrev pub cutPiece : ℕ → List ℕ → ℕ → List ℕ

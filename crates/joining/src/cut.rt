@@ -3,7 +3,7 @@
 ghost use mathlib.Core.Path.{_≡_};
 ghost use Prim.Native.Nat.{_<_, _+_};
 ghost use lib.ListN.{length};
-ghost use Rattle.joining.specs.Cut.{badSize, pieceCount, cutRefusal, cutCount, cutPiece};
+ghost use Rattle.joining.specs.Cut.{badSize, pieceCount, cutRefusal, cutting, cutPiece};
 use super::heard::PIECES;
 use octets::bounds::lesser;
 use rows::next;
@@ -51,7 +51,7 @@ fn cut_refusal(size: usize, bytes: usize, i: usize) -> u8
 
 // Asked for piece i of a report: whether it can be cut, and into how many pieces.
 pub fn cut(report: &[u8], size: usize, i: usize) -> Cutting
-    ensures { λ r. ⌜ (r .refusal ≡ cutRefusal size (length (now (report .entry))) i) × (r .count ≡ cutCount size (length (now (report .entry))) i) ⌝ }
+    ensures { λ r. ⌜ r ≡ cutting size (length (now (report .entry))) i ⌝ }
 {
     let refusal = cut_refusal(size, report.len(), i);
     if refusal != 0 {

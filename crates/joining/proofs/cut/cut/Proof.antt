@@ -6,12 +6,10 @@ use Rattle.joining.proofs.cut.cut.Statement.{statement}
 use Rattle.joining.proofs.cut.cut.Tie as tie
 
 returns : tie.Need-returns
-returns c = (c .before .cut-refusal .ensures, rw (← (c .before .cut-refusal .ensures), ne-eqb _ _ (c .if1 .taken)))
+returns c = rw (← (c .before .cut-refusal .ensures), ne-eqb _ _ (c .if1 .taken))
 
 returns-2 : tie.Need-returns-2
-returns-2 c =
-    let r = c .before .before .cut-refusal .ensures in
-    (r, rw (← r, eq-eqb _ _ (c .before .if1 .left)) (c .piece-count .ensures))
+returns-2 c = rw (← (c .before .before .cut-refusal .ensures), eq-eqb _ _ (c .before .if1 .left), c .piece-count .ensures)
 
 pub cut-spec : {M : Type 1} → statement M
 cut-spec =
