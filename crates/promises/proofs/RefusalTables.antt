@@ -16,6 +16,7 @@ use Rattle.message.specs.Writing.{lengthOf, writeRefusal, writeAnswer}
 use Rattle.message.specs.declared.reading.MessageRead.the-variants.{Refused as notRead}
 use Rattle.writer.specs.declared.Written.the-variants.{Refused as notWritten, Bytes}
 use Rattle.joining.specs.Cut.{badSize, pieceCount, cutRefusal, cutCount}
+use Rattle.joining.specs.declared.cut.Cutting.{Cutting}
 use Rattle.hub.specs.declared.Opened.{Opened}
 use Rattle.hub.specs.Opening.{opened}
 use Rattle.promises.specs.Refusals.{sealed, start, headerTable, payloadIn, sealedTable, readerTable, ReaderExact}
@@ -32,13 +33,16 @@ cut-some : (F bytes i : ℕ) → cutRefusal F bytes i ≡ 0 → cutCount F bytes
 cut-some F bytes i z e = some F bytes (rw z at e)
 
 cut-refused : (F : ℕ) (report : List ℕ) (i n : ℕ) → (n ≡ 0 → ⊥) → cutRefusal F (length report) i ≡ n → CutRefused F report i n
-cut-refused F report i n z e = (e, rw (e, ne-eqb n 0 z), rw (e, ne-eqb n 0 z))
+cut-refused F report i n z e = (rw (e, ne-eqb n 0 z), rw (e, ne-eqb n 0 z))
 
 pub cutter-exact : CutterExact
 unfolding cutRefusal
 cutter-exact F report i n =
     exactly (CutRefused F report i n) n (cutTable F (length report) i) refl
-    (λ p. (λ z. cut-some F (length report) i (p .0 ∙ z) (p .1), p .0)) (cut-refused F report i n)
+    (λ p.
+    let e = ap (λ (a : Cutting). a .refusal) (p .0) in
+    (λ z. cut-some F (length report) i (e ∙ z) (ap (λ (a : Cutting). a .count) (p .0)), e))
+    (cut-refused F report i n)
 
 pub opener-exact : OpenerExact
 unfolding opened

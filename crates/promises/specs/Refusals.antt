@@ -27,7 +27,8 @@ use Rattle.message.specs.Writing.{lengthOf, writeAnswer}
 use Rattle.writer.specs.declared.Written.the-variants.{Refused as notWritten}
 use Rattle.joining.specs.Heard.{most}
 use Rattle.joining.specs.Answers.{refused}
-use Rattle.joining.specs.Cut.{badSize, pieceCount, cutRefusal, cutCount, cutPiece}
+use Rattle.joining.specs.Cut.{badSize, pieceCount, cutting, cutPiece}
+use Rattle.joining.specs.declared.cut.Cutting.{Cutting}
 use Rattle.joining.specs.Join.{unlike, misfit, conflict}
 use Rattle.hub.specs.declared.Connection.{Connection}
 use Rattle.hub.specs.declared.Opened.{Opened}
@@ -147,15 +148,19 @@ module _ (c : Connection) (m keys working report : List ℕ) (verdict : ℕ) whe
       payload m (workingAfter m keys working) (sealed m) (cond (sealed m) 4 (start m))
       (cond (sealed m) (be32 (opened m keys (start m)) 0) (leaves (chainOf m)))
 
-  -- "A step checks in this order, the first that applies being the answer: 25; 24; 1 to 9; for sealed messages 10 to 13; 14; 16; 15; then
-  -- 19, 17, 18, 21, 20, 22, 23."
-  abbrev pub stepTable : List (ℕ × Bool)
-  stepTable =
+  -- Rows 25 and 24, which come before the message is looked at.
+  abbrev pub readyTable : List (ℕ × Bool)
+  readyTable =
       -- verdict not 0 or 1
       (25, ltb 1 verdict)
       -- F outside 1 to 16,384 … in the connection given to a step
       ∷ (24, badSize (c .size))
-      ∷ (readerTable m keys (length working) ++ hostTable c (headerOf m) handed report verdict)
+      ∷ []
+
+  -- "A step checks in this order, the first that applies being the answer: 25; 24; 1 to 9; for sealed messages 10 to 13; 14; 16; 15; then
+  -- 19, 17, 18, 21, 20, 22, 23."
+  abbrev pub stepTable : List (ℕ × Bool)
+  stepTable = readyTable ++ (readerTable m keys (length working) ++ hostTable c (headerOf m) handed report verdict)
 
   -- The step: "Given exactly when".
   abbrev pub StepExact : Type 0
@@ -169,10 +174,7 @@ module _ (c : Connection) (m keys working report : List ℕ) (verdict : ℕ) whe
 
   -- The rows that leave the working buffer untouched: 25, 24, 1 to 13.
   abbrev pub untouchedTable : List (ℕ × Bool)
-  untouchedTable =
-      (25, ltb 1 verdict)
-      ∷ (24, badSize (c .size))
-      ∷ (headerTable m ++ sealedTable m keys (length working))
+  untouchedTable = readyTable ++ (headerTable m ++ sealedTable m keys (length working))
 
   -- "The working buffer is untouched by refusals 1 to 13, 24 and 25, and by plain messages. After a sealed message got past 13 its first bytes
   -- hold the opened sealed part, the rest is unchanged."
@@ -192,8 +194,11 @@ abbrev pub cutTable : ℕ → ℕ → ℕ → List (ℕ × Bool)
 cutTable F bytes i = (24, badSize F) ∷ (7, ltb (F * most) bytes || leb (pieceCount F bytes) i) ∷ []
 
 -- What the cutter answers where it refuses with n: "A refusal gives count 0 and the empty part".
+abbrev pub notCut : ℕ → Cutting
+notCut n = record { refusal = n; count = 0 }
+
 abbrev pub CutRefused : ℕ → List ℕ → (i n : ℕ) → Type 0
-CutRefused F report i n = (cutRefusal F (length report) i ≡ n) × (cutCount F (length report) i ≡ 0) × (cutPiece F report i ≡ [])
+CutRefused F report i n = (cutting F (length report) i ≡ notCut n) × (cutPiece F report i ≡ [])
 
 -- The cutter: "Given exactly when".
 abbrev pub CutterExact : Type 0
