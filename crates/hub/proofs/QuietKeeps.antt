@@ -4,6 +4,7 @@ use Rattle.laws.proofs.Kit.{ℕ, _≡_, refl, true, false, List}
 use mathlib.Core.Bool.{false≢true}
 use Rattle.message.specs.Reading.{workingAfter}
 use Rattle.message.specs.Handed.{payload}
+use Rattle.message.specs.declared.reading.MessageRead.the-variants.{Read}
 use Rattle.joining.specs.declared.Piece.{Piece}
 use Rattle.joining.specs.Join.{join, reportAfter}
 use Rattle.joining.proofs.JoinWays.{join-cases}
@@ -37,6 +38,7 @@ module _ (c : Connection) (b : List ℕ) where
   pub step-still : (m k w : List ℕ) (v : ℕ) → Still c b (step c m k w b v) (reportStepped c m k w b v)
   step-still m k w v =
       step-cases c m k w b v (Still c b) (λ n e. (refl, refl))
-      (λ z h s from size e.
-      hear-cases c h (payload m (workingAfter m k w) s from size) b v (Still c b) (λ f e. (refl, refl)) (λ f k. connect-still (h .session) _ v)
+      (λ z found e.
+      let h = found .header in
+      hear-cases c h (payload m (workingAfter m k w) (Read found)) b v (Still c b) (λ f e. (refl, refl)) (λ f k. connect-still (h .session) _ v)
       (λ f j. joined-still (pieceIn h) _) (λ f k j e. (refl, refl)))

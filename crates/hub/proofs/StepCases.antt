@@ -1,10 +1,11 @@
 -- SPDX-License-Identifier: MPL-2.0
 -- A property of what a step answers and leaves, by the way that it went: a law of all steps is one of these cases.
-use Rattle.laws.proofs.Kit.{ℕ, _≡_, refl, Bool, true, false, List, length, eqb, ltb, eqb-true}
+use Rattle.laws.proofs.Kit.{ℕ, _≡_, refl, true, false, List, length, eqb, ltb, eqb-true}
 use Rattle.laws.proofs.Cases.{on}
 use Rattle.wire.specs.declared.header.Header.{Header}
 use Rattle.message.specs.Reading.{readMessage, workingAfter}
 use Rattle.message.specs.Handed.{payload}
+use Rattle.message.specs.declared.reading.FoundMessage.{FoundMessage}
 use Rattle.message.specs.declared.reading.MessageRead.{MessageRead}
 use Rattle.message.specs.declared.reading.MessageRead.the-variants.{Refused, Read}
 use Rattle.joining.specs.declared.Joined.{Joined}
@@ -47,15 +48,15 @@ module _ (c : Connection) (m k w b : List ℕ) (v : ℕ) (G : Stepped → List �
 
   -- It is enough that refusals have it and what is heard.
   pub step-cases : ((n : ℕ) → G (refuse c n) b)
-      → (badSize (c .size) ≡ false → (h : Header) (s : Bool) (from size : ℕ) → readMessage m k (length w) ≡ Read h s from size
-      → G (hear c h (payload m (workingAfter m k w) s from size) b v) (reportHeard c h (payload m (workingAfter m k w) s from size) b))
+      → (badSize (c .size) ≡ false → (f : FoundMessage) → readMessage m k (length w) ≡ Read f → let p = payload m (workingAfter m k w) (Read f) in
+      G (hear c (f .header) p b v) (reportHeard c (f .header) p b))
       → G (step c m k w b v) (reportStepped c m k w b v)
   step-cases refused read = step-tests (λ t. refused 25) (λ t z. refused 24) (λ t z. by z (readMessage m k (length w)) refl)
     where
       by : badSize (c .size) ≡ false → (r : MessageRead) → readMessage m k (length w) ≡ r
           → G (afterRead c m (workingAfter m k w) b v r) (reportRead c m (workingAfter m k w) b r)
       by z (Refused n) e = refused n
-      by z (Read h s from size) e = read z h s from size e
+      by z (Read f) e = read z f e
 
 -- Of answer and connection alone: refusals have it, every Connect message, and every piece that is joined.
 module _ (c : Connection) (m k w b : List ℕ) (v : ℕ) (G : Stepped → Type 0) where
@@ -63,7 +64,8 @@ module _ (c : Connection) (m k w b : List ℕ) (v : ℕ) (G : Stepped → Type 0
       → G (step c m k w b v)
   step-has refused connects joining =
       step-cases c m k w b v (λ s b′. G s) refused
-      (λ z h s from size e.
-      let p = payload m (workingAfter m k w) s from size in
+      (λ z found e.
+      let h = found .header in
+      let p = payload m (workingAfter m k w) (Read found) in
       hear-cases c h p b v (λ s b′. G s) (λ f. refused 16) (λ f t. connects (h .session) p)
       (λ f j. joining (join (c .size) (c .progress) (pieceIn h) p b)) (λ f t j. refused 15))

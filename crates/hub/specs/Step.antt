@@ -20,12 +20,12 @@ use Rattle.hub.specs.Hear.{hear, reportHeard}
 -- What becomes of the reader's answer.
 abbrev pub afterRead : Connection → List ℕ → List ℕ → List ℕ → ℕ → MessageRead → Stepped
 afterRead c message working report verdict (Refused n) = refuse c n
-afterRead c message working report verdict (Read h sealed from size) = hear c h (payload message working sealed from size) report verdict
+afterRead c message working report verdict (Read f) = hear c (f .header) (payload message working (Read f)) report verdict
 
 -- The report buffer after a message, by what reading it answered.
 abbrev pub reportRead : Connection → List ℕ → List ℕ → List ℕ → MessageRead → List ℕ
 reportRead c message working report (Refused n) = report
-reportRead c message working report (Read h sealed from size) = reportHeard c h (payload message working sealed from size) report
+reportRead c message working report (Read f) = reportHeard c (f .header) (payload message working (Read f)) report
 
 -- 25: "verdict not 0 or 1"; 24: "F outside 1 to 16,384 … in the connection given to a step"; 0 is neither. Both come before the message
 -- is looked at.

@@ -28,16 +28,12 @@ impl Connection {
         if joining::cut::bad_size(self.size) {
             return self.refuse(refusals::WRONG_FRAGMENT_SIZE);
         }
-        match message::reading::read(message, keys, working) {
+        let read = message::reading::read(message, keys, working);
+        match read {
             MessageRead::Refused(n) => self.refuse(n),
-            MessageRead::Read {
-                header,
-                sealed,
-                from,
-                size,
-            } => {
-                let payload = message::payload::payload(message, working, sealed, from, size);
-                self.hear(header, payload, report, verdict)
+            MessageRead::Read(found) => {
+                let payload = message::payload::payload(message, working, read);
+                self.hear(found.header, payload, report, verdict)
             }
         }
     }

@@ -59,4 +59,4 @@ line-told m = by (readHeader m) refl
   where
     by : (a : HeaderRead) → readHeader m ≡ a → lineOf a (be16 m 2) ≡ lineOf a (length m)
     by (Refused n) e = refl
-    by (Read h start size) e = ap (headerLine h) (read-sound m h start size e .good .size)
+    by (Read f) e = ap (headerLine (f .header)) (read-sound m f e .good .size)

@@ -3,46 +3,26 @@
 use Prim.Native.Nat.{ℕ, _+_}
 use mathlib.Core.Path.{_≡_}
 use mathlib.Core.List.{List, [], _∷_, _++_}
-use mathlib.Core.Bool.{Bool, false, cond, not, _&&_, _||_}
+use mathlib.Core.Bool.{Bool, cond, not, _&&_, _||_}
 use lib.Dec.{eqb, ltb}
-use lib.ListN.{length, getD, take, drop}
-use Rattle.wire.specs.Fields.{isSealed}
-use Rattle.wire.specs.Reader.{emptyHeader}
+use lib.ListN.{length}
+use Rattle.wire.specs.Answers.{foundHeader}
+use Rattle.wire.specs.Reader.{readHeader}
+use Rattle.wire.specs.declared.answers.Found.{Found}
 use Rattle.wire.specs.declared.header.Header.{Header}
-use Rattle.wire.specs.declared.header.HeaderRead.{HeaderRead}
-use Rattle.wire.specs.declared.header.HeaderRead.the-variants as head
-use Rattle.message.specs.Handed.{payload}
-use Rattle.message.specs.declared.reading.MessageRead.{MessageRead}
-use Rattle.message.specs.declared.reading.MessageRead.the-variants.{Refused, Read}
-use Rattle.joining.specs.Heard.{bit}
-use Rattle.hub_c.specs.declared.reading.Found.{Found}
+use Rattle.message.specs.Answers.{foundMessage}
+use Rattle.message.specs.Handed.{Place, placeOf}
+use Rattle.message.specs.Reading.{readMessage}
 use Rattle.hub_c.specs.Sizes.{headerSize, placeSize}
-
--- What stands beside a refusal: the empty header and no place.
-abbrev pub nothing : ℕ → Found
-nothing n = record { refusal = n; header = emptyHeader; sealed = false; from = 0; size = 0 }
-
--- What the reader of headers answered; a message counts as sealed by its flags.
-abbrev pub ofHeader : HeaderRead → Found
-ofHeader (head.Refused n) = nothing n
-ofHeader (head.Read h start size) = record { refusal = 0; header = h; sealed = isSealed (h .flags); from = start; size = size }
-
--- What the reader of messages answered.
-abbrev pub ofMessage : MessageRead → Found
-ofMessage (Refused n) = nothing n
-ofMessage (Read h sealed from size) = record { refusal = 0; header = h; sealed = sealed; from = from; size = size }
 
 -- The fields of a header: type, flags, sequence, request, index, count, session, channel.
 abbrev pub fieldWords : Header → List ℕ
 fieldWords h = h .kind ∷ h .flags ∷ h .sequence ∷ h .request ∷ h .index ∷ h .count ∷ h .session ∷ h .channel ∷ []
 
--- The words of what was read: the fields, whether it is sealed (0 or 1), and the place: from where, how many bytes.
+-- The words of what was read: the fields, then the part: plain (0), opened (1) or still sealed (2), from where, how many bytes. Beside a refusal all
+-- are 0.
 abbrev pub foundWords : Found → List ℕ
-foundWords f = fieldWords (f .header) ++ (bit (f .sealed) ∷ f .from ∷ f .size ∷ [])
-
--- The words that are handed out; a refusal leaves them as they were.
-unfoldable pub handed : Found → List ℕ → List ℕ
-handed f words = cond (eqb (f .refusal) 0) (foundWords f) words
+foundWords f = fieldWords (f .header) ++ (f .sealed ∷ f .from ∷ f .size ∷ [])
 
 -- One of the two buffers of words has another size.
 abbrev pub wrongPlace : (header place : List ℕ) → Bool
@@ -52,18 +32,31 @@ wrongPlace header place = not (eqb (length header) headerSize) || not (eqb (leng
 abbrev pub holds : (buffer room which from size : ℕ) → Bool
 holds buffer room which from size = eqb which buffer && not (ltb room (from + size))
 
--- The place of the payload: which buffer, from where, how many bytes; what does not fit is the empty part at the message's start.
-unfoldable pub placeOf : (message working which from size : ℕ) → List ℕ
-placeOf message working which from size =
+-- The place of the payload: which buffer, from where, how many bytes; what does not fit, or is in neither, is the empty part at the message's
+-- start.
+unfoldable pub placeIn : (message working which from size : ℕ) → List ℕ
+placeIn message working which from size =
     cond (holds 0 message which from size) (0 ∷ from ∷ size ∷ [])
     (cond (holds 1 working which from size) (1 ∷ from ∷ size ∷ []) (0 ∷ 0 ∷ 0 ∷ []))
 
--- The part of one of the two buffers that a place names.
-abbrev pub partAt : (message working place : List ℕ) → List ℕ
-partAt message working place = take (getD place 2 0) (drop (getD place 1 0) (cond (eqb (getD place 0 0) 1) working message))
+-- The place by the words of what was read.
+abbrev pub placeBy : (message working : List ℕ) → Found → List ℕ
+placeBy message working f = placeIn (length message) (length working) (f .sealed) (f .from) (f .size)
 
--- The place names the part that document 01 has handed out: "a part of the message if it was plain, of the working buffer if it was sealed".
+-- The words of a place.
+abbrev pub placeWords : Place → List ℕ
+placeWords p = p .buffer ∷ p .from ∷ p .size ∷ []
+
+-- The words that hub_read gave name the place of the part that document 01 has handed out, on a refusal too: "a part of the message if it was
+-- plain, of the working buffer if it was sealed. On a refusal that part is empty, at the message's start."
 abbrev pub PlaceHanded : Type 0
 PlaceHanded =
-    (message working : List ℕ) (sealed : Bool) (from size : ℕ)
-    → partAt message working (placeOf (length message) (length working) (bit sealed) from size) ≡ payload message working sealed from size
+    (message keys working : List ℕ) → let read = readMessage message keys (length working) in
+    placeBy message working (foundMessage read) ≡ placeWords (placeOf read)
+
+-- Those that hub_read_header gave do so of a plain message; of a sealed one, which nobody has opened, and on a refusal, they name the empty part at
+-- the message's start.
+abbrev pub PlaceUnopened : Type 0
+PlaceUnopened =
+    (message working : List ℕ) → let f = foundHeader (readHeader message) in
+    placeBy message working f ≡ cond (eqb (f .sealed) 0) (0 ∷ f .from ∷ f .size ∷ []) (0 ∷ 0 ∷ 0 ∷ [])

@@ -1,6 +1,5 @@
 // SPDX-License-Identifier: MPL-2.0
 // The listing's line of one message.
-use super::reading::of_header;
 use super::words::WRONG_BUFFER;
 use super::words::put_length;
 use lines::listing::LINE;
@@ -10,9 +9,9 @@ ghost use mathlib.Core.List.{_∷_, []};
 ghost use mathlib.Core.Bool.{cond};
 ghost use lib.ListN.{length};
 ghost use lib.Seq.{sets};
+ghost use Rattle.wire.specs.Answers.{foundHeader};
 ghost use Rattle.wire.specs.Reader.{readHeader};
 ghost use Rattle.hub_c.specs.Sizes.{wrongBuffer};
-ghost use Rattle.hub_c.specs.Headers.{ofHeader};
 ghost use Rattle.hub_c.specs.Line.{lineText, wrongLine};
 
 // Writes the line of a message that is given whole, `type sequence index count length` or `refused N`, and a newline, into a buffer of 64 bytes,
@@ -20,7 +19,7 @@ ghost use Rattle.hub_c.specs.Line.{lineText, wrongLine};
 #[no_mangle]
 pub extern "C" fn hub_list(message: &[u8], line: &mut [u8], size: &mut [u64]) -> u8
     ensures { λ r. ⌜ r ≡ cond (wrongLine (now (line .entry)) (now (size .entry))) wrongBuffer
-        (ofHeader (readHeader (now (message .entry))) .refusal) ⌝ }
+        (foundHeader (readHeader (now (message .entry))) .refusal) ⌝ }
     ensures { λ _. ⌜ now (line .exit) ≡ cond (wrongLine (now (line .entry)) (now (size .entry))) (now (line .entry))
         (sets (now (line .entry)) 0 (lineText (now (message .entry)))) ⌝ }
     ensures { λ _. ⌜ now (size .exit) ≡ cond (wrongLine (now (line .entry)) (now (size .entry))) (now (size .entry))
@@ -32,6 +31,6 @@ pub extern "C" fn hub_list(message: &[u8], line: &mut [u8], size: &mut [u64]) ->
     let answer = wire::header::read_header(message);
     let end = lines::listing::put_line(answer, number16(message, 2), line, 0);
     put_length(size, end as u64);
-    let found = of_header(answer);
+    let found = answer.found();
     found.refusal
 }

@@ -2,7 +2,7 @@
 // Reading: what was read of a message, in words.
 //
 //     0      1       2          3         4       5       6         7         8        9      10
-//     | type | flags | sequence | request | index | count | session | channel | sealed | from | length
+//     | type | flags | sequence | request | index | count | session | channel | sealed | from | size
 //
 use super::words::PLACE;
 use super::words::WRONG_BUFFER;
@@ -10,92 +10,23 @@ use super::words::put_three;
 use super::words::put_triple;
 use super::words::put_word;
 use super::words::word;
-use message::reading::MessageRead;
 use octets::bounds::lacks;
+use wire::answers::Found;
 use wire::header::Header;
-use wire::header::HeaderRead;
-use wire::header::is_sealed;
 ghost use mathlib.Core.Path.{_≡_};
 ghost use mathlib.Core.List.{_∷_, []};
 ghost use mathlib.Core.Bool.{cond};
 ghost use lib.ListN.{length, getD};
 ghost use lib.Seq.{sets};
+ghost use Rattle.wire.specs.Answers.{foundHeader};
 ghost use Rattle.wire.specs.Reader.{readHeader};
+ghost use Rattle.message.specs.Answers.{foundMessage};
 ghost use Rattle.message.specs.Reading.{readMessage, workingAfter};
-ghost use Rattle.joining.specs.Heard.{bit};
 ghost use Rattle.hub_c.specs.Sizes.{wrongBuffer, headerSize, sized, kept};
-ghost use Rattle.hub_c.specs.Headers.{nothing, ofHeader, ofMessage, fieldWords, handed, wrongPlace, placeOf};
+ghost use Rattle.hub_c.specs.Headers.{fieldWords, foundWords, wrongPlace, placeIn};
 
 // The words of a header.
 const HEADER: usize = 11;
-
-// What was read of a message; the refusal is 0 where there is none, and beside a refusal all is 0.
-pub struct Found {
-    pub refusal: u8,
-    pub header: Header,
-    pub sealed: bool,
-    pub from: usize,
-    pub size: usize,
-}
-
-// Nothing, for this refusal.
-fn nothing(refusal: u8) -> Found
-    ensures { λ r. ⌜ r ≡ nothing refusal ⌝ }
-{
-    Found {
-        refusal,
-        header: Header::empty(),
-        sealed: false,
-        from: 0,
-        size: 0,
-    }
-}
-
-pub(crate) fn of_header(read: HeaderRead) -> Found
-    ensures { λ r. ⌜ r ≡ ofHeader read ⌝ }
-{
-    match read {
-        HeaderRead::Refused(n) => nothing(n),
-        HeaderRead::Read {
-            header,
-            start,
-            size,
-        } => Found {
-            refusal: 0,
-            header,
-            sealed: is_sealed(header.flags),
-            from: start,
-            size,
-        },
-    }
-}
-
-fn of_message(read: MessageRead) -> Found
-    ensures { λ r. ⌜ r ≡ ofMessage read ⌝ }
-{
-    match read {
-        MessageRead::Refused(n) => nothing(n),
-        MessageRead::Read {
-            header,
-            sealed,
-            from,
-            size,
-        } => Found {
-            refusal: 0,
-            header,
-            sealed,
-            from,
-            size,
-        },
-    }
-}
-
-// A bool as a word.
-fn flag(b: bool) -> u64
-    ensures { λ r. ⌜ r ≡ bit b ⌝ }
-{
-    if b { 1 } else { 0 }
-}
 
 // Puts the fields of a header.
 fn put_fields(h: Header, out: &mut [u64])
@@ -107,44 +38,40 @@ fn put_fields(h: Header, out: &mut [u64])
     put_word(out, 7, h.channel);
 }
 
-// Puts the place of a payload after the fields.
-fn put_place(sealed: bool, from: usize, size: usize, out: &mut [u64])
-    ensures { λ _. ⌜ now (out .exit) ≡ sets (now (out .entry)) 8 (bit sealed ∷ from ∷ size ∷ []) ⌝ }
-{
-    put_three(out, 8, flag(sealed), from as u64, size as u64);
-}
-
-// Hands out what was read: the words, or the refusal's number.
+// Hands out what was read: its words, and the refusal's number. Beside a refusal all words are 0.
 fn hand(found: Found, out: &mut [u64]) -> u8
     requires { ⌜ length (now out) ≡ headerSize ⌝ }
     ensures { λ r. ⌜ r ≡ found .refusal ⌝ }
-    ensures { λ _. ⌜ now (out .exit) ≡ handed found (now (out .entry)) ⌝ }
+    ensures { λ _. ⌜ now (out .exit) ≡ foundWords found ⌝ }
 {
-    if found.refusal != 0 {
-        return found.refusal;
-    }
     let header = found.header;
     put_fields(header, out);
-    put_place(found.sealed, found.from, found.size, out);
-    0
+    put_three(
+        out,
+        8,
+        found.sealed as u64,
+        found.from as u64,
+        found.size as u64,
+    );
+    found.refusal
 }
 
-// Reads a message as far as it goes without keys: refusals 1 to 9, else the header's words. The place is that of the payload in the message,
-// for a sealed message that of its sealed part.
+// Reads a message as far as it goes without keys: refusals 1 to 9, and the header's words, all 0 beside a refusal. The place is that of the payload
+// in the message (sealed is 0), for a sealed message that of its sealed part (sealed is 2, so hub_payload hands out nothing by these words).
 #[no_mangle]
 pub extern "C" fn hub_read_header(message: &[u8], header: &mut [u64]) -> u8
-    ensures { λ r. ⌜ r ≡ sized headerSize (now (header .entry)) (ofHeader (readHeader (now (message .entry))) .refusal) ⌝ }
+    ensures { λ r. ⌜ r ≡ sized headerSize (now (header .entry)) (foundHeader (readHeader (now (message .entry))) .refusal) ⌝ }
     ensures { λ _. ⌜ now (header .exit) ≡ kept headerSize (now (header .entry))
-        (handed (ofHeader (readHeader (now (message .entry)))) (now (header .entry))) (now (header .entry)) ⌝ }
+        (foundWords (foundHeader (readHeader (now (message .entry))))) (now (header .entry)) ⌝ }
 {
     if header.len() != HEADER {
         return WRONG_BUFFER;
     }
-    hand(of_header(wire::header::read_header(message)), header)
+    hand(wire::header::read_header(message).found(), header)
 }
 
-// Reads a message: refusals 1 to 14, else the header's words. The place is that of the payload, in the message if it was plain, in the working
-// buffer if it was sealed.
+// Reads a message: refusals 1 to 14, and the header's words, all 0 beside a refusal. The place is that of the payload, in the message if it was
+// plain (sealed is 0), in the working buffer if it was sealed (sealed is 1).
 #[no_mangle]
 pub extern "C" fn hub_read(
     message: &[u8],
@@ -152,19 +79,19 @@ pub extern "C" fn hub_read(
     working: &mut [u8],
     header: &mut [u64],
 ) -> u8
-    ensures { λ r. ⌜ r ≡ sized headerSize (now (header .entry)) (ofMessage
+    ensures { λ r. ⌜ r ≡ sized headerSize (now (header .entry)) (foundMessage
         (readMessage (now (message .entry)) (now (keys .entry)) (length (now (working .entry)))) .refusal) ⌝ }
     ensures { λ _. ⌜ now (working .exit) ≡ kept headerSize (now (header .entry))
         (workingAfter (now (message .entry)) (now (keys .entry)) (now (working .entry))) (now (working .entry)) ⌝ }
     ensures { λ _. ⌜ now (header .exit) ≡ kept headerSize (now (header .entry))
-        (handed (ofMessage (readMessage (now (message .entry)) (now (keys .entry)) (length (now (working .entry))))) (now (header .entry)))
+        (foundWords (foundMessage (readMessage (now (message .entry)) (now (keys .entry)) (length (now (working .entry))))))
         (now (header .entry)) ⌝ }
 {
     if header.len() != HEADER {
         return WRONG_BUFFER;
     }
     hand(
-        of_message(message::reading::read(message, keys, working)),
+        message::reading::read(message, keys, working).found(),
         header,
     )
 }
@@ -177,8 +104,8 @@ struct Place {
 }
 
 // The place of a payload by the numbers of a header, in a message and a working buffer of these lengths.
-fn place_of(message: usize, working: usize, which: u64, from: usize, size: usize) -> Place
-    ensures { λ r. ⌜ r .buffer ∷ r .from ∷ r .size ∷ [] ≡ placeOf message working which from size ⌝ }
+fn place_in(message: usize, working: usize, which: u64, from: usize, size: usize) -> Place
+    ensures { λ r. ⌜ r .buffer ∷ r .from ∷ r .size ∷ [] ≡ placeIn message working which from size ⌝ }
 {
     if (which == 0) & !lacks(message, from, size) {
         return Place {
@@ -212,13 +139,13 @@ pub extern "C" fn hub_payload(
 ) -> u8
     ensures { λ r. ⌜ r ≡ cond (wrongPlace (now (header .entry)) (now (place .entry))) wrongBuffer 0 ⌝ }
     ensures { λ _. ⌜ now (place .exit) ≡ cond (wrongPlace (now (header .entry)) (now (place .entry))) (now (place .entry))
-        (placeOf (length (now (message .entry))) (length (now (working .entry))) (getD (now (header .entry)) 8 0)
+        (placeIn (length (now (message .entry))) (length (now (working .entry))) (getD (now (header .entry)) 8 0)
         (getD (now (header .entry)) 9 0) (getD (now (header .entry)) 10 0)) ⌝ }
 {
     if (header.len() != HEADER) | (place.len() != PLACE) {
         return WRONG_BUFFER;
     }
-    let found = place_of(
+    let found = place_in(
         message.len(),
         working.len(),
         word(header, 8),

@@ -27,7 +27,7 @@ refusedName = 114 ∷ 101 ∷ 102 ∷ 117 ∷ 115 ∷ 101 ∷ 100 ∷ 32 ∷ []
 -- "A refusal writes the line `refused N`".
 unfoldable pub lineOf : HeaderRead → ℕ → List ℕ
 lineOf (Refused n) size = named refusedName n
-lineOf (Read h start rest) size = headerLine h size
+lineOf (Read f) size = headerLine (f .header) size
 
 -- The room that a line needs.
 abbrev pub lineRoom : ℕ
@@ -36,7 +36,7 @@ lineRoom = 64
 -- A message was refused.
 abbrev pub isRefused : HeaderRead → Bool
 isRefused (Refused n) = true
-isRefused (Read h start rest) = false
+isRefused (Read f) = false
 
 -- What one turn does: the line that it writes, the bytes of the stream that it takes, whether the run goes on with this stream, and
 -- whether it is over.

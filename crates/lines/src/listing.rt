@@ -43,11 +43,7 @@ pub fn put_line(answer: HeaderRead, size: u16, out: &mut [u8], at: usize) -> usi
     }
     match answer {
         HeaderRead::Refused(number) => put_name(b"refused ", number as u32, out, at),
-        HeaderRead::Read {
-            header,
-            start: _,
-            size: _,
-        } => put_header(header, size, out, at),
+        HeaderRead::Read(found) => put_header(found.header, size, out, at),
     }
 }
 
@@ -57,11 +53,7 @@ pub fn is_refused(answer: HeaderRead) -> bool
 {
     match answer {
         HeaderRead::Refused(_) => true,
-        HeaderRead::Read {
-            header: _,
-            start: _,
-            size: _,
-        } => false,
+        HeaderRead::Read(_) => false,
     }
 }
 

@@ -1,5 +1,6 @@
 -- SPDX-License-Identifier: MPL-2.0
 pub mod Readers
+pub mod Told
 pub mod WrittenSizes
 pub mod WrittenLengths
 pub mod Written

@@ -7,6 +7,7 @@ use Rattle.laws.proofs.ByteLists.{append-bytes, cons-bytes, nil-bytes, bytes16-
 use Rattle.wire.specs.Fields.{isSealed, tagSize}
 use Rattle.wire.specs.Reader.{readHeader}
 use Rattle.wire.specs.declared.header.Header.{Header}
+use Rattle.wire.specs.declared.header.FoundHeader.{FoundHeader}
 use Rattle.wire.specs.declared.header.HeaderRead.the-variants as head
 use Rattle.wire.proofs.Sound.{sealed-tag, plain-tag}
 use Rattle.writer.specs.Header.{headerBytes}
@@ -21,7 +22,7 @@ use Rattle.seal.proofs.Padded.{sizes, told-plainText, payload-plainText}
 use Rattle.seal.proofs.Seals.{length-tag}
 use Rattle.seal.proofs.Unsealed.{in-parts, length-part, opened-back, opens-back}
 use Rattle.message.specs.declared.reading.MessageRead.the-variants.{Read}
-use Rattle.message.specs.Reading.{opened, plainRead, sealedRead, readMessage}
+use Rattle.message.specs.Reading.{opened, inMessage, inWorking, plainRead, sealedRead, readMessage}
 use Rattle.message.specs.Widths.{InWidth}
 use Rattle.message.specs.Writing.{lengthOf, writeRefusal, beforePayload, messageBytes}
 use Rattle.message.proofs.WrittenLengths.{length-header, length-before, plain-is, sealed-is, length-messageBytes}
@@ -41,9 +42,13 @@ header-bytes h n w small =
     (append-bytes (bytes16-bytes (h .count) (w .count))
     (append-bytes (bytes64-bytes (h .session) (w .session)) (bytes64-bytes (h .channel) (w .channel)))))))))))
 
+-- A header, and what stands between chain and tag.
+abbrev pub foundAt : Header → ℕ → ℕ → FoundHeader
+foundAt h start size = record { header = h; start = start; size = size }
+
 -- A sealed message that was written, as the reader finds it.
 pub record SealedBack (h : Header) (chain payload keys : List ℕ) (room : ℕ) : Type 0 where
-  pub header : readHeader (messageBytes h chain payload keys) ≡ head.Read h (40 + length chain) (sealedSize (length payload))
+  pub header : readHeader (messageBytes h chain payload keys) ≡ head.Read (foundAt h (40 + length chain) (sealedSize (length payload)))
   pub opens : sealedSize (length payload) ≤ room → openRefusal keys (messageBytes h chain payload keys) (40 + length chain) room ≡ 0
   pub told : be32 (opened (messageBytes h chain payload keys) keys (40 + length chain)) 0 ≡ length payload
   pub handed : payloadOf (opened (messageBytes h chain payload keys) keys (40 + length chain)) ≡ payload
@@ -61,7 +66,7 @@ module _ (h : Header) (chain payload keys : List ℕ) (room space : ℕ) (good :
   -- The header of a message that ends in this body and this tag.
   header-back : (body tag : List ℕ) → messageBytes h chain payload keys ≡ before ++ (body ++ tag) → length tag ≡ tagSize (h .flags)
       → (isSealed (h .flags) ≡ true → (length body % 16 ≡ 0) × (1 ≤ length body))
-      → readHeader (messageBytes h chain payload keys) ≡ head.Read h start (length body)
+      → readHeader (messageBytes h chain payload keys) ≡ head.Read (foundAt h start (length body))
   header-back body tag bytes tagged blocks =
       let long = simp length-append at (ap length bytes) in
       let n : lengthOf h chain payload ≡ 40 + length chain + length body + length tag =
@@ -72,7 +77,7 @@ module _ (h : Header) (chain payload keys : List ℕ) (room space : ℕ) (good :
 
   -- A plain message.
   module _ (plain : isSealed (h .flags) ≡ false) where
-    plain-header : readHeader (messageBytes h chain payload keys) ≡ head.Read h start (length payload)
+    plain-header : readHeader (messageBytes h chain payload keys) ≡ head.Read (foundAt h start (length payload))
     plain-header =
         header-back payload [] (rw append-nil (plain-is h chain payload keys plain .0)) (sym (plain-tag (h .kind) (h .flags) (a .flags) plain))
         (λ s. absurd (true≢false (sym s ∙ plain)))
@@ -81,7 +86,7 @@ module _ (h : Header) (chain payload keys : List ℕ) (room space : ℕ) (good :
     pub payload-plain : take (length payload) (drop (40 + length chain) (messageBytes h chain payload keys)) ≡ payload
     payload-plain = rw (plain-is h chain payload keys plain .0, drop-at before payload start (length-before h chain payload)) (take-length payload)
 
-    pub read-plain : readMessage (messageBytes h chain payload keys) keys room ≡ Read h false (40 + length chain) (length payload)
+    pub read-plain : readMessage (messageBytes h chain payload keys) keys room ≡ Read (inMessage (foundAt h (40 + length chain) (length payload)))
     unfolding readMessage plainRead
     read-plain = rw (plain-header, plain, payload-plain, rw plain at (a .shaped))
 
@@ -113,7 +118,8 @@ module _ (h : Header) (chain payload keys : List ℕ) (room space : ℕ) (good :
           handed = rw plain (payload-plainText payload (omega arith));
         }
 
-    pub read-sealed : sealedSize (length payload) ≤ room → readMessage (messageBytes h chain payload keys) keys room ≡ Read h true 4 (length payload)
+    pub read-sealed : sealedSize (length payload) ≤ room
+        → readMessage (messageBytes h chain payload keys) keys room ≡ Read (inWorking h (length payload))
     unfolding readMessage sealedRead
     read-sealed fits =
         let b = sealed-back in

@@ -13,10 +13,12 @@ use Rattle.wire.specs.Refusals.{wrongPayload}
 use Rattle.payloads.specs.Shapes.{badPayload}
 use Rattle.wire.specs.Reader.{readHeader}
 use Rattle.wire.specs.declared.header.Header.{Header}
+use Rattle.wire.specs.declared.header.FoundHeader.{FoundHeader}
 use Rattle.wire.specs.declared.header.HeaderRead.{HeaderRead}
 use Rattle.wire.specs.declared.header.HeaderRead.the-variants as head
 use Rattle.seal.specs.Padding.{payloadOf}
 use Rattle.seal.specs.Opening.{sealedPart, plainOf, openRefusal, openedInto}
+use Rattle.message.specs.declared.reading.FoundMessage.{FoundMessage}
 use Rattle.message.specs.declared.reading.MessageRead.{MessageRead}
 use Rattle.message.specs.declared.reading.MessageRead.the-variants.{Refused, Read}
 
@@ -32,21 +34,28 @@ unless n read = cond (eqb n 0) read (Refused n)
 abbrev pub payloadRows : (kind : ℕ) (sealed : Bool) (payload : List ℕ) → List (ℕ × Bool)
 payloadRows kind sealed payload = (wrongPayload, badPayload kind sealed payload) ∷ []
 
--- A plain message: 14 is left to test, and the payload stands in the message.
-unfoldable pub plainRead : List ℕ → Header → ℕ → ℕ → MessageRead
-plainRead m h start size = unless (first (payloadRows (h .kind) false (take size (drop start m)))) (Read h false start size)
+-- A plain payload: "handed out as a part of the message if it was plain".
+abbrev pub inMessage : FoundHeader → FoundMessage
+inMessage f = record { header = f .header; sealed = false; from = f .start; size = f .size }
 
--- A sealed message: 10 to 13, then 14; "handed out as a part … of the working buffer if it was sealed", after the four bytes of its size.
-unfoldable pub sealedRead : List ℕ → List ℕ → Header → ℕ → ℕ → MessageRead
-sealedRead m keys h start room = unless
-    (orElse (openRefusal keys m start room) (first (payloadRows (h .kind) true (payloadOf (opened m keys start)))))
-    (Read h true 4 (be32 (opened m keys start) 0))
+-- A payload of n bytes that was opened: "of the working buffer if it was sealed", after the four bytes of its size.
+abbrev pub inWorking : Header → ℕ → FoundMessage
+inWorking h n = record { header = h; sealed = true; from = 4; size = n }
+
+-- A plain message: 14 is left to test.
+unfoldable pub plainRead : List ℕ → FoundHeader → MessageRead
+plainRead m f = unless (first (payloadRows (f .header .kind) false (take (f .size) (drop (f .start) m)))) (Read (inMessage f))
+
+-- A sealed message: 10 to 13, then 14.
+unfoldable pub sealedRead : List ℕ → List ℕ → FoundHeader → ℕ → MessageRead
+sealedRead m keys f room = unless
+    (orElse (openRefusal keys m (f .start) room) (first (payloadRows (f .header .kind) true (payloadOf (opened m keys (f .start))))))
+    (Read (inWorking (f .header) (be32 (opened m keys (f .start)) 0)))
 
 -- What follows the header, by what reading the header answered.
 abbrev pub behindHeader : HeaderRead → List ℕ → List ℕ → ℕ → MessageRead
 behindHeader (head.Refused n) m keys room = Refused n
-behindHeader (head.Read h start size) m keys room =
-    cond (isSealed (h .flags)) (sealedRead m keys h start room) (plainRead m h start size)
+behindHeader (head.Read f) m keys room = cond (isSealed (f .header .flags)) (sealedRead m keys f room) (plainRead m f)
 
 -- What the reader answers, with a working buffer of `room` bytes.
 unfoldable pub readMessage : List ℕ → List ℕ → ℕ → MessageRead
@@ -55,7 +64,7 @@ readMessage m keys room = behindHeader (readHeader m) m keys room
 -- The working buffer after a message, by what reading its header answered.
 abbrev pub workingBehind : HeaderRead → List ℕ → List ℕ → List ℕ → List ℕ
 workingBehind (head.Refused n) m keys working = working
-workingBehind (head.Read h start size) m keys working = cond (isSealed (h .flags)) (openedInto keys m start working) working
+workingBehind (head.Read f) m keys working = cond (isSealed (f .header .flags)) (openedInto keys m (f .start) working) working
 
 -- "The working buffer is untouched by refusals 1 to 13 … and by plain messages. After a sealed message got past 13 its first bytes hold the
 -- opened sealed part, the rest is unchanged."

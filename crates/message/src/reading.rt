@@ -3,6 +3,7 @@
 use octets::numbers::number32;
 use payloads::shapes::bad_payload;
 use rows::next;
+use wire::header::FoundHeader;
 use wire::header::Header;
 use wire::header::HeaderRead;
 use wire::header::is_sealed;
@@ -15,16 +16,18 @@ ghost use Rattle.laws.specs.Rows.{first};
 ghost use Rattle.message.specs.Reading.{payloadRows, plainRead, sealedRead, readMessage, workingAfter};
 ghost use Rattle.seal.specs.Opening.{openedInto};
 
-// What reading answers: a refusal by its number; or the header and where the payload lies, in the message or, if it was sealed, in the
-// working buffer.
+// What is found in a message: the header, and where the payload lies, in the message or, if it was sealed, in the working buffer.
+pub struct FoundMessage {
+    pub header: Header,
+    pub sealed: bool,
+    pub from: usize,
+    pub size: usize,
+}
+
+// What reading answers: a refusal by its number, or what was found.
 pub enum MessageRead {
     Refused(u8),
-    Read {
-        header: Header,
-        sealed: bool,
-        from: usize,
-        size: usize,
-    },
+    Read(FoundMessage),
 }
 
 // The number of the first refusal that applies to a payload, 14, or 0.
@@ -35,50 +38,47 @@ fn bad_shape(kind: u8, sealed: bool, payload: &[u8]) -> u8
 }
 
 // A plain payload, where it stands in the message.
-fn read_plain(message: &[u8], header: Header, start: usize, size: usize) -> MessageRead
-    requires { ⌜ start + size ≤ length (now message) ⌝ }
-    ensures { λ r. ⌜ r ≡ plainRead (now (message .entry)) header start size ⌝ }
+fn read_plain(message: &[u8], found: FoundHeader) -> MessageRead
+    requires { ⌜ found .start + found .size ≤ length (now message) ⌝ }
+    ensures { λ r. ⌜ r ≡ plainRead (now (message .entry)) found ⌝ }
 {
-    let end = start + size;
+    let start = found.start;
+    let end = start + found.size;
+    let header = found.header;
     let n = bad_shape(header.kind, false, &message[start..end]);
     if n != 0 {
         return MessageRead::Refused(n);
     }
-    MessageRead::Read {
+    MessageRead::Read(FoundMessage {
         header,
         sealed: false,
         from: start,
-        size,
-    }
+        size: found.size,
+    })
 }
 
 // A sealed payload: the sealed part is opened into the working buffer, and the payload stands after its size.
-fn read_sealed(
-    message: &[u8],
-    keys: &[u8],
-    header: Header,
-    start: usize,
-    working: &mut [u8],
-) -> MessageRead
-    ensures { λ r. ⌜ r ≡ sealedRead (now (message .entry)) (now (keys .entry)) header start (length (now (working .entry))) ⌝ }
-    ensures { λ _. ⌜ now (working .exit) ≡ openedInto (now (keys .entry)) (now (message .entry)) start (now (working .entry)) ⌝ }
+fn read_sealed(message: &[u8], keys: &[u8], found: FoundHeader, working: &mut [u8]) -> MessageRead
+    ensures { λ r. ⌜ r ≡ sealedRead (now (message .entry)) (now (keys .entry)) found (length (now (working .entry))) ⌝ }
+    ensures { λ _. ⌜ now (working .exit) ≡ openedInto (now (keys .entry)) (now (message .entry)) (found .start) (now (working .entry)) ⌝ }
 {
-    let n = seal::opening::open(keys, message, start, working);
+    let n = seal::opening::open(keys, message, found.start, working);
     if n != 0 {
         return MessageRead::Refused(n);
     }
+    let header = found.header;
     let size = number32(working, 0) as usize;
     let end = 4 + size;
     let n = bad_shape(header.kind, true, &working[4..end]);
     if n != 0 {
         return MessageRead::Refused(n);
     }
-    MessageRead::Read {
+    MessageRead::Read(FoundMessage {
         header,
         sealed: true,
         from: 4,
         size,
-    }
+    })
 }
 
 // Reads a message. The working buffer is left alone by a plain message and by refusals 1 to 13; after a sealed message got past 13 its first
@@ -89,15 +89,11 @@ pub fn read(message: &[u8], keys: &[u8], working: &mut [u8]) -> MessageRead
 {
     match read_header(message) {
         HeaderRead::Refused(n) => MessageRead::Refused(n),
-        HeaderRead::Read {
-            header,
-            start,
-            size,
-        } => {
-            if is_sealed(header.flags) {
-                return read_sealed(message, keys, header, start, working);
+        HeaderRead::Read(found) => {
+            if is_sealed(found.header.flags) {
+                return read_sealed(message, keys, found, working);
             }
-            read_plain(message, header, start, size)
+            read_plain(message, found)
         }
     }
 }

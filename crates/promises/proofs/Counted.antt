@@ -6,6 +6,7 @@ use Rattle.message.specs.Reading.{workingAfter}
 use Rattle.message.specs.Handed.{payload}
 use mathlib.Core.Bool.{false≢true}
 use Rattle.joining.specs.declared.answer.Said.{Said}
+use Rattle.message.specs.declared.reading.MessageRead.the-variants.{Read}
 use Rattle.joining.specs.declared.Piece.{Piece}
 use Rattle.joining.specs.Answers.{isTaken, isRepeat, isComplete}
 use Rattle.joining.specs.Join.{join}
@@ -61,9 +62,10 @@ module _ (c : Connection) (es : List Event) (w : Holds (c .progress) es) where
   step-counts : (b : List ℕ) (x : Call) → Counted (indexIn x) (step c (x .message) (x .keys) (x .working) b (x .verdict))
   step-counts b x =
       step-cases c (x .message) (x .keys) (x .working) b (x .verdict) (λ s b′. Counted (indexIn x) s) (λ n. (w, idle refl refl refl))
-      (λ z h s from size e.
-      let p = payload (x .message) (workingAfter (x .message) (x .keys) (x .working)) s from size in
-      rw (ap (λ (h : Header). h .index) (read-header (x .message) (x .keys) (x .working) h s from size e))
+      (λ z found e.
+      let h = found .header in
+      let p = payload (x .message) (workingAfter (x .message) (x .keys) (x .working)) (Read found) in
+      rw (ap (λ (h : Header). h .index) (read-header (x .message) (x .keys) (x .working) found e))
       (hear-cases c h p b (x .verdict) (λ s b′. Counted (h .index) s) (λ f. (w, idle refl refl refl))
       (λ f k. connect-counts (h .index) (h .session) p (x .verdict)) (λ f j. join-counts (pieceIn h) p b) (λ f k j. (w, idle refl refl refl))))
 

@@ -1,6 +1,6 @@
 -- SPDX-License-Identifier: MPL-2.0
 -- The premises of `RepeatedStep` can be met: three messages, as the writer writes them, enrol a gateway, and three others ask for the same steps.
-use Rattle.laws.proofs.Kit.{ℕ, _≤_, _<_, _≡_, refl, _∙_, ap, false, not, and-false, List, [], _∷_, _++_, length, replicate, eqb, eqb-false, le-ltb}
+use Rattle.laws.proofs.Kit.{ℕ, _≤_, _<_, _≡_, refl, sym, _∙_, ap, false, not, and-false, List, [], _∷_, _++_, length, replicate, eqb, eqb-false, le-ltb}
 use Rattle.laws.proofs.Kit.{arith}
 use Rattle.laws.specs.Bytes.{AreBytes, bytesAt}
 use Rattle.wire.specs.Fields.{badType, badFlags, badPiece, mostPieces, isSealed}
@@ -10,6 +10,7 @@ use Rattle.payloads.specs.Reading.{readRequest, certificateOf}
 use Rattle.wire.specs.declared.header.Header.{Header}
 use Rattle.sha256.specs.Digests.{digest}
 use Rattle.seal.specs.Padding.{padding, sealedSize}
+use Rattle.message.specs.declared.reading.FoundMessage.{FoundMessage}
 use Rattle.message.specs.Writing.{lengthOf, writeRefusal, messageBytes}
 use Rattle.joining.specs.Cut.{badSize}
 use Rattle.hub.specs.declared.Connection.{Connection}
@@ -116,7 +117,11 @@ finish-same =
 
 -- One message is read in one way.
 one-reading : (h g : Header) (p q m keys w : List ℕ) → ReadAs h p m keys w → ReadAs g q m keys w → h ≡ g
-one-reading h g p q m keys w r t = let a = r .reads in let b = t .reads in cc
+one-reading h g p q m keys w r t =
+    let a = r .reads in
+    let b = t .reads in
+    let e : r .found ≡ t .found = cc in
+    sym (r .header) ∙ ap (λ (f : FoundMessage). f .header) e ∙ t .header
 
 module _ (F : ℕ) (keys report : List ℕ) (sized : badSize F ≡ false) (of-keys : AreBytes keys) (whole : length keys ≡ 64) where
   abbrev callWith : Header → (chain bytes : List ℕ) → Call

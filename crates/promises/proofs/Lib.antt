@@ -8,6 +8,7 @@ pub mod StepTable
 pub mod Working
 pub mod ReadBack
 pub mod ReadAgain
+pub mod Handed
 pub mod ReportsJoined
 pub mod Writes
 pub mod StateKept

@@ -1,6 +1,6 @@
 -- SPDX-License-Identifier: MPL-2.0
 -- A message that was read is read alike with another working buffer that is long enough: only 12 looks at it.
-use Rattle.laws.proofs.Kit.{ℕ, _≤_, _≡_, sym, _∙_, ap, Bool, true, cond, List, [], length, le-ltb}
+use Rattle.laws.proofs.Kit.{ℕ, _≤_, _≡_, sym, _∙_, ap, true, cond, List, length, le-ltb}
 use Rattle.laws.proofs.Cases.{on}
 use Rattle.laws.proofs.Firsts.{neither}
 use Rattle.wire.specs.Chain.{leaves}
@@ -12,24 +12,20 @@ use Rattle.seal.specs.Opening.{sealedPart, partRefusal, openRefusal}
 use Rattle.seal.proofs.Accepted.{accepted}
 use Rattle.message.specs.Reading.{opened, readMessage, workingAfter}
 use Rattle.message.specs.Handed.{partOf, payload}
-use Rattle.message.specs.declared.reading.MessageRead.{MessageRead}
-use Rattle.message.specs.declared.reading.MessageRead.the-variants.{Refused, Read}
+use Rattle.message.specs.declared.reading.FoundMessage.{FoundMessage}
+use Rattle.message.specs.declared.reading.MessageRead.the-variants.{Read}
 use Rattle.message.proofs.HandedBack.{handed-opened}
+use Rattle.message.proofs.Told.{read-lies}
 use Rattle.promises.specs.Refusals.{sealed, start}
 use Rattle.promises.specs.Written.{ReadAs}
 use Rattle.promises.proofs.Apart.{apart, unrefused}
 use Rattle.promises.proofs.ReaderNumber.{whatIsRead, early, readerNumber, read-by-number}
 
--- What the choosing function hands out by what the reader answered.
-abbrev handedBy : List ℕ → List ℕ → MessageRead → List ℕ
-handedBy m w (Refused n) = []
-handedBy m w (Read h s from size) = payload m w s from size
-
 module _ (m keys : List ℕ) where
   -- Where a message was read, nothing was refused.
-  read-none : (room : ℕ) (h : Header) (s : Bool) (from size : ℕ) → readMessage m keys room ≡ Read h s from size
-      → (readerNumber m keys room ≡ 0) × (whatIsRead m keys ≡ Read h s from size)
-  read-none room h s from size r = unrefused (readerNumber m keys room) _ _ (sym (read-by-number m keys room) ∙ r) (λ e. apart (cc))
+  read-none : (room : ℕ) (f : FoundMessage) → readMessage m keys room ≡ Read f
+      → (readerNumber m keys room ≡ 0) × (whatIsRead m keys ≡ Read f)
+  read-none room f r = unrefused (readerNumber m keys room) _ _ (sym (read-by-number m keys room) ∙ r) (λ e. apart (cc))
 
   -- Nor is anything with another working buffer that is long enough.
   other-none : (room other : ℕ) → readerNumber m keys room ≡ 0 → (sealed m ≡ true → length (sealedPart m (start m)) ≤ other)
@@ -44,26 +40,25 @@ module _ (m keys : List ℕ) where
       (λ s. rw s (rw s at e))
 
   -- The payload is that of the plain text or a part of the message, whatever the working buffer held.
-  handed-alike : (w : List ℕ) → readerNumber m keys (length w) ≡ 0 → handedBy m (workingAfter m keys w) (whatIsRead m keys)
+  handed-alike : (w : List ℕ) → readerNumber m keys (length w) ≡ 0 → payload m (workingAfter m keys w) (whatIsRead m keys)
       ≡ cond (sealed m) (payloadOf (opened m keys (start m))) (partOf m (start m) (leaves (chainOf m)))
   unfolding payload workingAfter
   handed-alike w e =
       let z = neither (refusalOf m) _ (neither (early m keys (length w)) _ e .0) in
-      on (sealed m) (λ s. rw (read-good m (z .0), s) (handed-opened keys m (start m) w (rw s at (z .1)))) (λ s. rw s)
+      on (sealed m) (λ s. rw (read-good m (z .0), s) (handed-opened keys m (start m) w (rw s at (z .1)) (headerOf m))) (λ s. rw s)
 
-pub read-header : (m keys w : List ℕ) (h : Header) (s : Bool) (from size : ℕ) → readMessage m keys (length w) ≡ Read h s from size → headerOf m ≡ h
-read-header m keys w h s from size r = let a = read-none m keys (length w) h s from size r .1 in cc
+pub read-header : (m keys w : List ℕ) (f : FoundMessage) → readMessage m keys (length w) ≡ Read f → headerOf m ≡ f .header
+read-header m keys w f r = sym (read-lies m keys (length w) f r .is)
 
 pub read-again : (h : Header) (bytes m keys w v : List ℕ) → ReadAs h bytes m keys w
     → (sealed m ≡ true → length (sealedPart m (start m)) ≤ length v) → ReadAs h bytes m keys v
 read-again h bytes m keys w v r room =
-    let a = read-none m keys (length w) h (r .sealed) (r .from) (r .size) (r .reads) in
+    let a = read-none m keys (length w) (r .found) (r .reads) in
     let z = other-none m keys (length w) (length v) (a .0) room in
     record {
-      sealed = r .sealed;
-      from = r .from;
-      size = r .size;
+      found = r .found;
       reads = read-by-number m keys (length v) ∙ rw z (a .1);
-      handed = ap (handedBy m (workingAfter m keys v)) (sym (a .1)) ∙ handed-alike m keys v z ∙ sym (handed-alike m keys w (a .0))
-          ∙ ap (handedBy m (workingAfter m keys w)) (a .1) ∙ r .handed;
+      header = r .header;
+      handed = ap (payload m (workingAfter m keys v)) (sym (a .1)) ∙ handed-alike m keys v z ∙ sym (handed-alike m keys w (a .0))
+          ∙ ap (payload m (workingAfter m keys w)) (a .1) ∙ r .handed;
     }

@@ -4,9 +4,10 @@ use Rattle.laws.proofs.Kit.{ℕ, _+_, _≤_, _≡_, refl, _∙_, true, false, L
 use Rattle.laws.proofs.Cases.{on}
 use Rattle.wire.specs.Fields.{isSealed}
 use Rattle.wire.specs.declared.header.Header.{Header}
+use Rattle.message.specs.Reading.{inMessage, inWorking}
 use Rattle.message.specs.Writing.{lengthOf, writeRefusal, messageBytes, writeAnswer, writtenInto}
 use Rattle.message.proofs.WrittenLengths.{length-messageBytes}
-use Rattle.message.proofs.WrittenBack.{read-plain, read-sealed}
+use Rattle.message.proofs.WrittenBack.{foundAt, read-plain, read-sealed}
 use Rattle.message.proofs.HandedBack.{handed-plain, handed-sealed}
 use Rattle.joining.specs.Cut.{badSize}
 use Rattle.hub.specs.declared.Connection.{Connection}
@@ -38,20 +39,18 @@ reads-back h chain bytes keys message w working room =
     (on (isSealed (h .flags))
     (λ s.
     record {
-      sealed = true;
-      from = 4;
-      size = length bytes;
+      found = inWorking h (length bytes);
       reads = read-sealed h chain bytes keys (length working) (length (w .output)) good s (w .of-keys) (w .of-chain) (w .of-payload)
           (w .widths) (room s);
+      header = refl;
       handed = handed-sealed h chain bytes keys working (length (w .output)) good s (w .of-keys) (w .of-chain) (w .of-payload)
           (w .widths) (room s);
     })
     (λ s.
     record {
-      sealed = false;
-      from = 40 + length chain;
-      size = length bytes;
+      found = inMessage (foundAt h (40 + length chain) (length bytes));
       reads = read-plain h chain bytes keys (length working) (length (w .output)) good s;
+      header = refl;
       handed = handed-plain h chain bytes keys working (length (w .output)) good s;
     }))
 
@@ -60,7 +59,7 @@ pub step-hears : (c : Connection) (h : Header) (bytes m keys working report : Li
     → ReadAs h bytes m keys working
     → (step c m keys working report v ≡ hear c h bytes report v) × (reportStepped c m keys working report v ≡ reportHeard c h bytes report)
 unfolding step reportStepped
-step-hears c h bytes m keys working report v z l r = rw (le-ltb 1 v l, z, r .reads, r .handed) (refl, refl)
+step-hears c h bytes m keys working report v z l r = rw (le-ltb 1 v l, z, r .reads, r .handed, r .header) (refl, refl)
 
 pub steps-by-state : StepsByState
 steps-by-state c h chain payload keys message w working report v room l z =

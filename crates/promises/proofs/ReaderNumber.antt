@@ -16,8 +16,12 @@ use Rattle.promises.specs.Refusals.{sealed, start, payloadIn}
 module _ (m keys : List ℕ) where
   -- What is read where nothing is refused.
   abbrev pub whatIsRead : MessageRead
-  whatIsRead =
-      Read (headerOf m) (sealed m) (cond (sealed m) 4 (start m)) (cond (sealed m) (be32 (opened m keys (start m)) 0) (leaves (chainOf m)))
+  whatIsRead = Read (record {
+    header = headerOf m;
+    sealed = sealed m;
+    from = cond (sealed m) 4 (start m);
+    size = cond (sealed m) (be32 (opened m keys (start m)) 0) (leaves (chainOf m));
+  })
 
   module _ (room : ℕ) where
     -- 1 to 13.

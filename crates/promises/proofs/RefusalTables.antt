@@ -7,13 +7,14 @@ use Rattle.laws.specs.Rows.{first, orElse}
 use Rattle.laws.proofs.Cases.{on}
 use Rattle.laws.proofs.Firsts.{first-append}
 use Rattle.wire.specs.Chain.{leaves}
-use Rattle.wire.specs.Reader.{headerOf, chainOf, headerRows, rowsOf, refusalWith, refusalOf}
+use Rattle.wire.specs.Reader.{chainOf, headerRows, rowsOf, refusalWith, refusalOf, headerFound}
 use Rattle.wire.proofs.Reading.{read-good}
 use Rattle.wire.proofs.Sound as wire
 use Rattle.seal.specs.Opening.{sealedPart, noPart, keyRows, tagRows, partRows, partRefusal, openRefusal}
 use Rattle.message.specs.Reading.{unless, payloadRows, readMessage}
 use Rattle.message.specs.Writing.{lengthOf, writeRefusal, writeAnswer}
 use Rattle.message.specs.declared.reading.MessageRead.the-variants.{Refused as notRead}
+use Rattle.message.proofs.Told.{message-refused, refused-message}
 use Rattle.writer.specs.declared.Written.the-variants.{Refused as notWritten, Bytes}
 use Rattle.joining.specs.Cut.{badSize, pieceCount, cutRefusal, cutCount}
 use Rattle.joining.specs.declared.cut.Cutting.{Cutting}
@@ -73,7 +74,7 @@ module _ (m keys : List ℕ) (room : ℕ) (bytes : AreBytes m) where
   part-there : refusalOf m ≡ 0 → sealed m ≡ true → noPart (length m) (start m) ≡ 0
   unfolding noPart
   part-there z s =
-      let w = wire.read-sound m (headerOf m) (start m) (leaves (chainOf m)) (read-good m z) in
+      let w = wire.read-sound m (headerFound m) (read-good m z) in
       let b = w .blocks s in
       let t = wire.sealed-tag (be16 m 6) s in
       let short : length m ≤ 65535 = omega (arith, w .good .size, bytes .at 2, bytes .at 3) in
@@ -106,4 +107,4 @@ reader-exact m keys room n b =
     let e : readMessage m keys room ≡ unless (first rows) (whatIsRead m keys) =
     read-by-number m keys room ∙ ap (λ (n : ℕ). unless n (whatIsRead m keys)) (sym (reader-first m keys room b)) in
     let k = answered-exactly n (whatIsRead m keys) notRead (λ e. apart (cc)) (λ m e. cc) rows refl in
-    (λ r. k .0 (sym e ∙ r), λ l. e ∙ k .1 l)
+    (λ r. k .0 (sym e ∙ message-refused m keys room n r), λ l. refused-message m keys room n (e ∙ k .1 l))

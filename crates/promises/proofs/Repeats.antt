@@ -4,6 +4,7 @@ use Rattle.laws.proofs.Kit.{ℕ, _≡_, refl, _∙_, ap, List, [], _∷_}
 use Rattle.wire.specs.declared.header.Header.{Header}
 use Rattle.message.specs.Reading.{workingAfter}
 use Rattle.message.specs.Handed.{payload}
+use Rattle.message.specs.declared.reading.MessageRead.the-variants.{Read}
 use Rattle.hub.specs.declared.Stepped.{Stepped}
 use Rattle.hub.specs.declared.Answer.{Answer}
 use Rattle.hub.specs.declared.Answer.the-variants.{Reply, Again}
@@ -24,11 +25,11 @@ content : (p : Standing) (x : Call) (t : ℕ) → answer p x ≡ Reply t → Con
 content p x t =
     step-cases (p .connection) (x .message) (x .keys) (x .working) (p .report) (x .verdict) (λ s b. s .answer ≡ Reply t → Content x)
     (λ n e. apart (cc))
-    (λ z h s from size r e.
+    (λ z f r e.
     record {
-      header = h;
-      payload = payload (x .message) (workingAfter (x .message) (x .keys) (x .working)) s from size;
-      reads = record { sealed = s; from = from; size = size; reads = r; handed = refl };
+      header = f .header;
+      payload = payload (x .message) (workingAfter (x .message) (x .keys) (x .working)) (Read f);
+      reads = record { found = f; reads = r; header = refl; handed = refl };
     })
 
 -- and what was read is known since.
@@ -37,7 +38,8 @@ replied p x t k =
     step-tests (p .connection) (x .message) (x .keys) (x .working) (p .report) (x .verdict)
     (λ s b. s .answer ≡ Reply t → Known (s .connection) (k .header) (k .payload) t) (λ o e. apart (cc)) (λ o z e. apart (cc))
     (λ o z.
-    rw (k .reads .reads, k .reads .handed) (hear-replied (p .connection) z (k .header) (k .payload) (p .report) (x .verdict) t))
+    rw (k .reads .reads, k .reads .handed, k .reads .header)
+    (hear-replied (p .connection) z (k .header) (k .payload) (p .report) (x .verdict) t))
 
 known-since : (h : Header) (bytes : List ℕ) (t : ℕ) (p : Standing) → Known (p .connection) h bytes t → (xs : List Call) → NoFailure p xs
     → Known (afterAll p xs .connection) h bytes t

@@ -13,6 +13,7 @@ use Rattle.wire.specs.declared.header.Header.{Header}
 use Rattle.wire.proofs.Sound as wire
 use Rattle.sha256.specs.Digests.{digest}
 use Rattle.message.specs.Reading.{readMessage, workingAfter}
+use Rattle.message.specs.Handed.{payload}
 use Rattle.joining.specs.declared.answer.Said.{Said}
 use Rattle.joining.specs.Answers.{refused}
 use Rattle.joining.specs.Heard.{most}
@@ -31,7 +32,7 @@ use Rattle.hub.proofs.HostWays.{connect-cases}
 use Rattle.hub.proofs.StepCases.{connect-apart, hear-cases, step-tests}
 use Rattle.hub.proofs.QuietKeeps.{step-still}
 use Rattle.promises.specs.Refusals.{readerTable, anyOf, hostTable, handed, stepTable, StepExact, LeavesAlone}
-use Rattle.promises.proofs.ReaderNumber.{early, readerNumber, read-by-number}
+use Rattle.promises.proofs.ReaderNumber.{whatIsRead, early, readerNumber, read-by-number}
 use Rattle.promises.proofs.RefusalTables.{reader-first}
 use Rattle.promises.proofs.Exactly.{exactly}
 
@@ -113,7 +114,7 @@ module _ (c : Connection) (m keys working report : List ℕ) (v : ℕ) where
       (on (eqb n 0)
       (λ e.
       let z = neither (refusalOf m) _ (neither (early m keys (length working)) _ (eqb-true n 0 e) .0) .0 in
-      rw e (hear-number c (headerOf m) (handed c m keys working report v) report v sized (indexed m z)))
+      rw e (hear-number c (headerOf m) (payload m (workingAfter m keys working) (whatIsRead m keys)) report v sized (indexed m z)))
       (λ e. rw e))
 
   step-number : AreBytes m → number (step c m keys working report v) ≡ first (stepTable c m keys working report v)
@@ -130,7 +131,8 @@ module _ (c : Connection) (m keys working report : List ℕ) (v : ℕ) where
       step-tests c m keys working report v (λ s b. Firm s) (λ t k z. omega arith) (λ t s k z. omega arith)
       (λ t s.
       rw (read-by-number m keys (length working))
-      (on (eqb n 0) (λ e. rw e (hear-firm c (headerOf m) (handed c m keys working report v) report v)) (λ e. rw e (λ k z. eqb-false n 0 e z))))
+      (on (eqb n 0) (λ e. rw e (hear-firm c (headerOf m) (payload m (workingAfter m keys working) (whatIsRead m keys)) report v))
+      (λ e. rw e (λ k z. eqb-false n 0 e z))))
 
   pub step-exact : StepExact c m keys working report v
   step-exact n bytes =

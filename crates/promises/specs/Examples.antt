@@ -15,7 +15,7 @@ use Rattle.joining.specs.Cut.{cutCount, cutPiece}
 -- The number of the reader's refusal; 0 where the message is accepted.
 abbrev pub numberOf : MessageRead → ℕ
 numberOf (Refused n) = n
-numberOf (Read h sealed from size) = 0
+numberOf (Read f) = 0
 
 -- What a message gets without keys and without a working buffer.
 abbrev pub gets : List ℕ → List ℕ

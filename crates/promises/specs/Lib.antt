@@ -2,6 +2,7 @@
 pub mod Examples
 pub mod Refusals
 pub mod Written
+pub mod Handed
 pub mod Reports
 pub mod Enrolment
 pub mod Counted

@@ -7,7 +7,7 @@ use mathlib.Core.List.{List, [], _∷_, _++_}
 use mathlib.Core.Bool.{Bool, true, false, cond, not, _&&_, _||_}
 use lib.ListN.{length, take, drop}
 use lib.Dec.{ltb, leb, eqb}
-use Rattle.laws.specs.Bytes.{AreBytes, be8, be16, be32}
+use Rattle.laws.specs.Bytes.{AreBytes, be8, be16}
 use Rattle.laws.specs.Rows.{leads, quiet}
 use Rattle.laws.specs.Same.{same}
 use Rattle.wire.specs.Fields.{badType, badFlags, badPiece, isSealed, tagSize}
@@ -22,7 +22,8 @@ use Rattle.seal.specs.Padding.{badPlain, payloadOf}
 use Rattle.seal.specs.Opening.{bodyOf, tagIn, sealedPart}
 use Rattle.message.specs.Reading.{opened, readMessage, workingAfter}
 use Rattle.message.specs.Handed.{payload}
-use Rattle.message.specs.declared.reading.MessageRead.the-variants.{Refused as notRead}
+use Rattle.message.specs.Answers.{foundMessage}
+use Rattle.wire.specs.Answers.{nothing}
 use Rattle.message.specs.Writing.{lengthOf, writeAnswer}
 use Rattle.writer.specs.declared.Written.the-variants.{Refused as notWritten}
 use Rattle.joining.specs.Heard.{most}
@@ -106,7 +107,8 @@ A ⇔ B = (A → B) × (B → A)
 
 -- The reader: "Given exactly when".
 abbrev pub ReaderExact : Type 0
-ReaderExact = (m keys : List ℕ) (room n : ℕ) → AreBytes m → (readMessage m keys room ≡ notRead n) ⇔ leads n (readerTable m keys room)
+ReaderExact =
+    (m keys : List ℕ) (room n : ℕ) → AreBytes m → (foundMessage (readMessage m keys room) ≡ nothing n) ⇔ leads n (readerTable m keys room)
 
 -- One of the sentences of "Host states" applies to a Connect message.
 abbrev pub anyOf : List (Bool × Stepped) → Bool
@@ -142,11 +144,9 @@ module _ (c : Connection) (h : Header) (payload report : List ℕ) (verdict : �
       ∷ []
 
 module _ (c : Connection) (m keys working report : List ℕ) (verdict : ℕ) where
-  -- The payload that the reader hands out: of the working buffer if it was sealed, else of the message.
+  -- The payload that is handed out by what the reader answered.
   abbrev pub handed : List ℕ
-  handed =
-      payload m (workingAfter m keys working) (sealed m) (cond (sealed m) 4 (start m))
-      (cond (sealed m) (be32 (opened m keys (start m)) 0) (leaves (chainOf m)))
+  handed = payload m (workingAfter m keys working) (readMessage m keys (length working))
 
   -- Rows 25 and 24, which come before the message is looked at.
   abbrev pub readyTable : List (ℕ × Bool)

@@ -4,7 +4,7 @@
 use Prim.Native.Nat.{ℕ, _≤_}
 use mathlib.Core.Path.{_≡_}
 use mathlib.Core.List.{List}
-use mathlib.Core.Bool.{Bool, true, false}
+use mathlib.Core.Bool.{true, false}
 use lib.ListN.{length, take}
 use Rattle.laws.specs.Bytes.{AreBytes}
 use Rattle.wire.specs.Fields.{isSealed}
@@ -14,6 +14,7 @@ use Rattle.seal.specs.Padding.{sealedSize}
 use Rattle.message.specs.Reading.{readMessage, workingAfter}
 use Rattle.message.specs.Handed.{payload}
 use Rattle.message.specs.Writing.{writeAnswer, writtenInto}
+use Rattle.message.specs.declared.reading.FoundMessage.{FoundMessage}
 use Rattle.message.specs.declared.reading.MessageRead.the-variants.{Read}
 use Rattle.joining.specs.Cut.{badSize}
 use Rattle.hub.specs.declared.Connection.{Connection}
@@ -36,11 +37,10 @@ pub record Wrote (h : Header) (chain payload keys message : List ℕ) : Type 0 w
 -- The reader, called with this message, these keys and this working buffer, answered these fields and where the payload lies, and there the
 -- choosing function finds these bytes.
 pub record ReadAs (h : Header) (bytes message keys working : List ℕ) : Type 0 where
-  pub sealed : Bool
-  pub from : ℕ
-  pub size : ℕ
-  pub reads : readMessage message keys (length working) ≡ Read h sealed from size
-  pub handed : payload message (workingAfter message keys working) sealed from size ≡ bytes
+  pub found : FoundMessage
+  pub reads : readMessage message keys (length working) ≡ Read found
+  pub header : found .header ≡ h
+  pub handed : payload message (workingAfter message keys working) (Read found) ≡ bytes
 
 -- A working buffer that is long enough: a sealed payload's sealed part fits it; a plain one needs none.
 abbrev pub LongEnough : Header → (payload working : List ℕ) → Type 0

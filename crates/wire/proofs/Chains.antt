@@ -11,7 +11,7 @@ use Rattle.wire.specs.Chain.{entryOf, follow, chain, readChain, mostEntr
 use Rattle.wire.specs.Reader.{roomOf}
 use Rattle.wire.specs.declared.chain.Chain.{Chain}
 use Rattle.wire.specs.declared.chain.Entry.{Entry}
-use Rattle.wire.specs.declared.chain.Chain.the-variants.{Leaves, Broken}
+use Rattle.wire.specs.declared.chain.Chain.the-variants.{Whole, Broken}
 use Rattle.wire.specs.declared.chain.Entry.the-variants.{End, Spans, Wrong}
 
 -- What follows an entry: a chain with one entry less before its end, or none where that is no more.
@@ -55,7 +55,7 @@ module _ (left : ℕ) (m : List ℕ) (e : Entry) (read : e ≡ entryOf m) where
   pub walk-wrong : e ≡ Wrong → Broken ≡ chain left m
   walk-wrong p = rw (chain-at left m (sym read ∙ p))
 
-  pub walk-end : e ≡ End → Leaves (length m - 2) ≡ chain left m
+  pub walk-end : e ≡ End → Whole (record { leaves = length m - 2 }) ≡ chain left m
   walk-end p = rw (chain-at left m (sym read ∙ p))
 
   pub walk-full : (n : ℕ) → e ≡ Spans n → left ≡ 0 → Broken ≡ chain left m

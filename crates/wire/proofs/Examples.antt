@@ -14,6 +14,10 @@ unfolding refusalOf refusalWith rowsOf headerRows chainOf roomOf readChain mostE
 header-examples = refl
 
 -- P1 is read: a Discovery, one piece, one byte of payload at place 42.
-pub p1-read : readHeader p1 ≡ Read (record { kind = 1; flags = 0; sequence = 0; request = 0; index = 0; count = 1; session = 0; channel = 0 }) 42 1
+pub p1-read : readHeader p1 ≡ Read (record {
+  header = record { kind = 1; flags = 0; sequence = 0; request = 0; index = 0; count = 1; session = 0; channel = 0 };
+  start = 42;
+  size = 1;
+})
 unfolding readHeader refusalOf refusalWith rowsOf headerRows chainOf roomOf readChain mostEntries chain entryOf badType badFlags badPiece mostPieces isSealed tagSize
 p1-read = refl

@@ -2,4 +2,5 @@
 pub mod Chains
 pub mod Reading
 pub mod Sound
+pub mod Told
 pub mod Examples

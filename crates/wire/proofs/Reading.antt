@@ -1,10 +1,7 @@
 -- SPDX-License-Identifier: MPL-2.0
 -- Laws of `readHeader`, by the number of the first refusal, and of headers.
-use Rattle.laws.proofs.Kit.{ℕ, _-_, _≡_, List, length, eq-eqb, ne-eqb}
-use Rattle.laws.specs.Bytes.{be16}
-use Rattle.wire.specs.Fields.{tagSize}
-use Rattle.wire.specs.Chain.{leaves}
-use Rattle.wire.specs.Reader.{headerOf, chainOf, refusalOf, readHeader}
+use Rattle.laws.proofs.Kit.{ℕ, _≡_, List, eq-eqb, ne-eqb}
+use Rattle.wire.specs.Reader.{headerFound, refusalOf, readHeader}
 use Rattle.wire.specs.declared.header.Header.{Header}
 use Rattle.wire.specs.declared.header.HeaderRead.the-variants.{Refused, Read}
 
@@ -12,8 +9,7 @@ pub read-refused : (m : List ℕ) (n : ℕ) → n ≡ refusalOf m → (n ≡ 0 �
 unfolding readHeader
 read-refused m n e h = rw (← e, ne-eqb n 0 h)
 
-pub read-good : (m : List ℕ) → refusalOf m ≡ 0
-    → readHeader m ≡ Read (headerOf m) (length m - tagSize (be16 m 6) - leaves (chainOf m)) (leaves (chainOf m))
+pub read-good : (m : List ℕ) → refusalOf m ≡ 0 → readHeader m ≡ Read (headerFound m)
 unfolding readHeader
 read-good m h = rw (eq-eqb (refusalOf m) 0 h)
 

@@ -12,9 +12,10 @@ use Rattle.wire.specs.Refusals.{tooShort, wrongSignature, wrongLength, w
 use Rattle.wire.specs.Refusals.{wrongType, wrongFlags, wrongPiece, wrongChain, wrongSealedSize}
 use Rattle.wire.specs.Chain.{readChain, leaves, isBroken}
 use Rattle.wire.specs.Fields.{badType, badFlags, badPiece, mostPieces, isSealed, hmacFlag, encryptedFlag, tagSize}
-use Rattle.wire.specs.Reader.{headerOf, roomOf, chainOf, headerRows, rowsOf, refusalWith, refusalOf, readHeader}
+use Rattle.wire.specs.Reader.{headerOf, roomOf, chainOf, headerRows, rowsOf, refusalWith, refusalOf, headerFound, readHeader}
 use Rattle.wire.specs.declared.chain.Chain.{Chain}
 use Rattle.wire.specs.declared.header.Header.{Header}
+use Rattle.wire.specs.declared.header.FoundHeader.{FoundHeader}
 use Rattle.wire.specs.declared.header.HeaderRead.{HeaderRead}
 use Rattle.wire.specs.declared.header.HeaderRead.the-variants.{Refused, Read}
 use Rattle.wire.proofs.Chains.{room-left}
@@ -94,18 +95,18 @@ good m e =
     }
 
 -- What holds of what `read_header` answers for a message that it accepts.
-pub record Sound (m : List ℕ) (h : Header) (start size : ℕ) : Type 0 where
-  pub is : h ≡ headerOf m
+pub record Sound (m : List ℕ) (f : FoundHeader) : Type 0 where
+  pub is : f .header ≡ headerOf m
   pub good : Good m
-  pub spans : start + size + tagSize (h .flags) ≡ length m
-  pub behind : 42 ≤ start
-  pub blocks : isSealed (h .flags) ≡ true → (size % 16 ≡ 0) × (16 ≤ size)
+  pub spans : f .start + f .size + tagSize (f .header .flags) ≡ length m
+  pub behind : 42 ≤ f .start
+  pub blocks : isSealed (f .header .flags) ≡ true → (f .size % 16 ≡ 0) × (16 ≤ f .size)
 
 pub small-tag : (m : List ℕ) → tagSize (be16 m 6) ≤ 32
 unfolding tagSize
 small-tag m = omega (arith, mod-lt (be16 m 6 / 2) (zero-lt-suc 1))
 
-sound-good : (m : List ℕ) → Good m → Sound m (headerOf m) (length m - tagSize (be16 m 6) - leaves (chainOf m)) (leaves (chainOf m))
+sound-good : (m : List ℕ) → Good m → Sound m (headerFound m)
 unfolding chainOf
 sound-good m g =
     let r = room-left (tagSize (be16 m 6)) m (g .chained) in
@@ -115,15 +116,15 @@ sound-good m g =
 -- What that says of an answer, which is nothing of a refusal.
 abbrev soundOf : List ℕ → HeaderRead → Type 0
 soundOf m (Refused n) = Unit
-soundOf m (Read h start size) = Sound m h start size
+soundOf m (Read f) = Sound m f
 
 sound-all : (m : List ℕ) → soundOf m (readHeader m)
 sound-all m =
     on (eqb (refusalOf m) 0) (λ z. let e = eqb-true (refusalOf m) 0 z in rw (read-good m e) (sound-good m (good m e)))
     (λ z. rw (read-refused m (refusalOf m) refl (eqb-false (refusalOf m) 0 z)) tt)
 
-pub read-sound : (m : List ℕ) (h : Header) (start size : ℕ) → readHeader m ≡ Read h start size → Sound m h start size
-read-sound m h start size r = rw r at (sound-all m)
+pub read-sound : (m : List ℕ) (f : FoundHeader) → readHeader m ≡ Read f → Sound m f
+read-sound m f r = rw r at (sound-all m)
 
 pub tag-small : (m : List ℕ) (h : Header) (tag : ℕ) → h ≡ headerOf m → tag ≡ tagSize (h .flags) → tag ≤ 32
 tag-small m h tag e t = rw (t, e) (small-tag m)
@@ -148,6 +149,6 @@ module _ (m : List ℕ) (h : Header) (tag : ℕ) (k : Chain) (n : ℕ)
   pub rest-fits : n ≡ 0 → leaves k ≤ length m - tag
   rest-fits z = omega (arith, fits z)
 
-  pub accepted : n ≡ 0 → Read h (length m - tag - leaves k) (leaves k) ≡ readHeader m
+  pub accepted : n ≡ 0 → Read (record { header = h; start = length m - tag - leaves k; size = leaves k }) ≡ readHeader m
   unfolding chainOf
   accepted z = rw (chains, tags, fields) (sym (read-good m (sym told ∙ z)))

@@ -8,7 +8,7 @@ use lib.ListN.{length, drop}
 use lib.Dec.{ltb, eqb}
 use Rattle.laws.specs.Bytes.{be8}
 use Rattle.wire.specs.declared.chain.Chain.{Chain}
-use Rattle.wire.specs.declared.chain.Chain.the-variants.{Leaves, Broken}
+use Rattle.wire.specs.declared.chain.Chain.the-variants.{Whole, Broken}
 use Rattle.wire.specs.declared.chain.Entry.{Entry}
 use Rattle.wire.specs.declared.chain.Entry.the-variants.{End, Spans, Wrong}
 
@@ -25,7 +25,7 @@ entryOf m =
 -- to `next`.
 abbrev pub follow : Entry → List ℕ → (List ℕ → Chain) → Chain
 follow Wrong m next = Broken
-follow End m next = Leaves (length m - 2)
+follow End m next = Whole (record { leaves = length m - 2 })
 follow (Spans n) m next = next (drop n m)
 
 -- A chain with at most `left` entries before its end. "The chain is read entry by entry, the remainder being again a chain and shorter."
@@ -43,12 +43,12 @@ readChain room = chain mostEntries room
 
 -- How many bytes stand after the chain; 0 where there is none.
 abbrev pub leaves : Chain → ℕ
-leaves (Leaves k) = k
+leaves (Whole found) = found .leaves
 leaves Broken = 0
 
 -- There is no chain.
 abbrev pub isBroken : Chain → Bool
-isBroken (Leaves k) = false
+isBroken (Whole found) = false
 isBroken Broken = true
 
 -- Refusal 8 in the writer: "(a chain given with bytes after its end too)".

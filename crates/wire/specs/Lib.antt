@@ -3,4 +3,5 @@ pub mod Refusals
 pub mod Chain
 pub mod Fields
 pub mod Reader
+pub mod Answers
 pub mod Examples

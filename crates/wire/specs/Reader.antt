@@ -13,6 +13,7 @@ use Rattle.wire.specs.Fields.{badType, badFlags, badPiece, isSealed, tag
 use Rattle.wire.specs.Chain.{readChain, leaves, isBroken}
 use Rattle.wire.specs.declared.chain.Chain.{Chain}
 use Rattle.wire.specs.declared.header.Header.{Header}
+use Rattle.wire.specs.declared.header.FoundHeader.{FoundHeader}
 use Rattle.wire.specs.declared.header.HeaderRead.{HeaderRead}
 use Rattle.wire.specs.declared.header.HeaderRead.the-variants.{Refused, Read}
 
@@ -67,11 +68,17 @@ refusalWith m h chain = first (rowsOf m h chain)
 unfoldable pub refusalOf : List ℕ → ℕ
 refusalOf m = refusalWith m (headerOf m) (chainOf m)
 
--- What the reader answers: the refusal, or the header and the place and length of what stands between chain and tag.
+-- What is found in a message: the header, and the place and size of what stands between chain and tag.
+abbrev pub headerFound : List ℕ → FoundHeader
+headerFound m = record {
+  header = headerOf m;
+  start = length m - tagSize (be16 m 6) - leaves (chainOf m);
+  size = leaves (chainOf m);
+}
+
+-- What the reader answers: the refusal, or what it found.
 unfoldable pub readHeader : List ℕ → HeaderRead
-readHeader m = cond (eqb (refusalOf m) 0)
-    (Read (headerOf m) (length m - tagSize (be16 m 6) - leaves (chainOf m)) (leaves (chainOf m)))
-    (Refused (refusalOf m))
+readHeader m = cond (eqb (refusalOf m) 0) (Read (headerFound m)) (Refused (refusalOf m))
 
 -- "MessageLength bytes at a time, at least 42". Where MessageLength is not there it counts as 0.
 unfoldable pub wanted : List ℕ → ℕ

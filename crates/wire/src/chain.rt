@@ -10,9 +10,14 @@ ghost use Rattle.wire.specs.Chain.{entryOf, chain, readChain, leaves, is
 // The most entries that may stand before the end.
 pub const MOST_ENTRIES: u8 = 8;
 
-// What a chain is: one that leaves n bytes after it, or none.
+// What is found of a chain: how many bytes it leaves after it.
+pub struct FoundChain {
+    pub leaves: usize,
+}
+
+// What a chain is: a whole one, or none.
 pub enum Chain {
-    Leaves(usize),
+    Whole(FoundChain),
     Broken,
 }
 
@@ -52,7 +57,9 @@ fn walk(room: &[u8], left: u8) -> Chain
 {
     match read_entry(room) {
         Entry::Wrong => Chain::Broken,
-        Entry::End => Chain::Leaves(room.len() - 2),
+        Entry::End => Chain::Whole(FoundChain {
+            leaves: room.len() - 2,
+        }),
         Entry::Spans(n) => {
             if left == 0 {
                 return Chain::Broken;
@@ -74,7 +81,7 @@ pub fn is_broken(chain: Chain) -> bool
     ensures { λ r. ⌜ r ≡ isBroken chain ⌝ }
 {
     match chain {
-        Chain::Leaves(_) => false,
+        Chain::Whole(_) => false,
         Chain::Broken => true,
     }
 }
@@ -84,7 +91,7 @@ pub fn leaves(chain: Chain) -> usize
     ensures { λ r. ⌜ r ≡ leaves chain ⌝ }
 {
     match chain {
-        Chain::Leaves(k) => k,
+        Chain::Whole(found) => found.leaves,
         Chain::Broken => 0,
     }
 }

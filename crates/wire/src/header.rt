@@ -214,15 +214,17 @@ fn refusal(message: &[u8], header: Header, chain: Chain) -> u8
     )
 }
 
-// What the reader of headers answers: the number of a refusal, or the header, and where the payload or the sealed part lies:
-// after the chain and before the tag.
+// What is found in a message without keys: the header, and where the payload or the sealed part lies: after the chain and before the tag.
+pub struct FoundHeader {
+    pub header: Header,
+    pub start: usize,
+    pub size: usize,
+}
+
+// What the reader of headers answers: the number of a refusal, or what it found.
 pub enum HeaderRead {
     Refused(u8),
-    Read {
-        header: Header,
-        start: usize,
-        size: usize,
-    },
+    Read(FoundHeader),
 }
 
 // Reads a message as far as it goes without keys: refusals 1 to 9, else the header.
@@ -237,11 +239,11 @@ pub fn read_header(message: &[u8]) -> HeaderRead
         return HeaderRead::Refused(n);
     }
     let size = leaves(chain);
-    HeaderRead::Read {
+    HeaderRead::Read(FoundHeader {
         header,
         start: message.len() - tag - size,
         size,
-    }
+    })
 }
 
 // How many bytes of a stream its first message takes: what MessageLength says, and at least 42.

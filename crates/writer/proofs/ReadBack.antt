@@ -10,12 +10,11 @@ use Rattle.wire.specs.Fields.{badType, badFlags, badPiece, isSealed, tagSize}
 use Rattle.wire.specs.Chain.{badChain}
 use Rattle.wire.specs.Reader.{headerOf, roomOf, chainOf, headerRows, rowsOf, refusalWith, refusalOf, readHeader}
 use Rattle.writer.specs.Header.{headerBytes}
-use Rattle.wire.specs.declared.chain.Chain.the-variants.{Leaves}
 use Rattle.wire.specs.declared.header.Header.{Header}
 use Rattle.wire.specs.declared.header.HeaderRead.the-variants.{Read}
 use Rattle.wire.proofs.Chains.{chain-long}
 use Rattle.wire.proofs.Reading.{read-good}
-use Rattle.writer.proofs.ChainBack.{chain-back}
+use Rattle.writer.proofs.ChainBack.{leaving, chain-back}
 
 fields-back : (h : Header) (size : ℕ) (rest : List ℕ) → headerOf (headerBytes h size ++ rest) ≡ h
 unfolding headerBytes
@@ -49,7 +48,7 @@ module _ (h : Header) (chain body tag : List ℕ) where
     tags : tagSize (be16 message 6) ≡ length tag
     tags = ap (λ (g : Header). tagSize (g .flags)) fields ∙ sym (a .tagged)
 
-    chained : chainOf message ≡ Leaves (length body)
+    chained : chainOf message ≡ leaving (length body)
     unfolding chainOf roomOf headerBytes
     chained =
         let n : length message - length tag - 40 ≡ length (chain ++ body) = omega (arith, length-message, length-append chain body) in
@@ -73,7 +72,7 @@ module _ (h : Header) (chain body tag : List ℕ) where
         rw (said, chained, fields) (none (length message) (omega (arith, length-message, chain-long chain (a .chained))))
 
     -- What is written reads back.
-    pub read-back : readHeader message ≡ Read h (40 + length chain) (length body)
+    pub read-back : readHeader message ≡ Read (record { header = h; start = 40 + length chain; size = length body })
     read-back =
         let start : length message - length tag - length body ≡ 40 + length chain = omega (arith, length-message) in
         rw (read-good message accepted, chained, tags, start, fields)

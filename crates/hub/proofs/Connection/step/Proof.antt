@@ -18,21 +18,21 @@ returns-2 c =
 returns-3 : tie.Need-returns-3
 unfolding step reportStepped workingStepped
 returns-3 c =
-    let n = c .before .before in
-    let r = n .before .before .before .before in
-    let q = r .before .before in
-    rw (le-ltb _ _ (q .before .before .if1 .left), ← (q .before .bad-size .ensures), q .if2 .left, ← (r .read .ensures .0), n .n .given .1)
+    let n : tie.After-read2 = search in
+    let r : tie.After-read = search in
+    let q : tie.Else2 = search in
+    rw (le-ltb _ _ (q .before .before .if1 .left), ← (q .before .bad-size .ensures), q .if2 .left, ← (r .read .ensures .0), n .read2 .given .1)
     (c .refuse3 .ensures, (refl, r .read .ensures .1))
 
 returns-4 : tie.Need-returns-4
 unfolding step reportStepped workingStepped
 returns-4 c =
-    let a = c .before .before in
-    let p = a .before .before in
-    let n = p .before .before .before in
-    let r = n .before .before .before .before in
-    let q = r .before .before in
-    rw (le-ltb _ _ (q .before .before .if1 .left), ← (q .before .bad-size .ensures), q .if2 .left, ← (r .read .ensures .0), n .header .given .1)
+    let a : tie.After-hear = search in
+    let p : tie.After-payload = search in
+    let n : tie.After-read3 = search in
+    let r : tie.After-read = search in
+    let q : tie.Else2 = search in
+    rw (le-ltb _ _ (q .before .before .if1 .left), ← (q .before .bad-size .ensures), q .if2 .left, ← (r .read .ensures .0), n .read3 .given .1)
     (rw (← (r .read .ensures .1), ← (p .payload .ensures)) (a .hear .ensures .0, (a .hear .ensures .1, refl)))
 
 pub step-spec : {M : Type 1} → statement M

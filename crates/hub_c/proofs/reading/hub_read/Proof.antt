@@ -8,8 +8,8 @@ returns-2 : tie.Need-returns-2
 returns-2 c =
     let sized : tie.Else1 = search in
     let read : tie.After-read = search in
-    let found : tie.After-of-message = search in
-    let handed = rw (found .of-message .ensures, read .read .ensures .0) at (c .before .before .hand .ensures) in
+    let found : tie.After-found = search in
+    let handed = rw (found .found .ensures, read .read .ensures .0) at (c .before .before .hand .ensures) in
     rw (eq-eqb _ _ (sized .if1 .left)) (handed .0, (read .read .ensures .1, handed .1))
 
 pub hub-read-spec : {M : Type 1} → statement M

@@ -8,8 +8,8 @@ returns-2 : tie.Need-returns-2
 returns-2 c =
     let sized : tie.Else1 = search in
     let read : tie.After-read-header = search in
-    let found : tie.After-of-header = search in
-    rw (eq-eqb _ _ (sized .if1 .left)) (rw (found .of-header .ensures, read .read-header .ensures) at (c .before .before .hand .ensures))
+    let found : tie.After-found = search in
+    rw (eq-eqb _ _ (sized .if1 .left)) (rw (found .found .ensures, read .read-header .ensures) at (c .before .before .hand .ensures))
 
 pub hub-read-header-spec : {M : Type 1} → statement M
 hub-read-header-spec =

@@ -8,10 +8,10 @@ use Rattle.message.specs.Reading.{readMessage, workingAfter}
 use Rattle.message.proofs.reading.read.Statement.{statement}
 use Rattle.message.proofs.reading.read.Tie as tie
 
--- Header, start and size, as the match binds them, are what the header's reader answered.
-bound : (c : tie.After-header) → let b = c .header .given .0 in
-    readHeader (c .before .before .before .before .before .before .args .message .now) ≡ Read (b .0) (b .1 .0) (b .1 .1 .0)
-bound c = sym (c .before .before .read-header .ensures) ∙ c .header .given .1
+-- What the match binds is what the header's reader answered.
+bound : (c : tie.After-found) → let b = c .found .given .0 in
+    readHeader (c .before .before .before .before .before .before .args .message .now) ≡ Read (b .0)
+bound c = sym (c .before .before .read-header .ensures) ∙ c .found .given .1
 
 returns : tie.Need-returns
 unfolding readMessage workingAfter
@@ -22,7 +22,7 @@ returns c =
     rw (bound (at-is-sealed .before .before), sym (at-is-sealed .is-sealed .ensures) ∙ at-if1 .if1 .taken) (at-read-sealed .read-sealed .ensures)
 
 read-plain-requires : tie.Need-read-plain-requires
-read-plain-requires c κs = let sound = read-sound _ _ _ _ (bound (c .before .before .before)) in omega (arith, sound .spans)
+read-plain-requires c κs = let sound = read-sound _ _ (bound (c .before .before .before)) in omega (arith, sound .spans)
 
 returns-2 : tie.Need-returns-2
 unfolding readMessage workingAfter
