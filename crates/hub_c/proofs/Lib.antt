@@ -1,4 +1,3 @@
 -- SPDX-License-Identifier: MPL-2.0
 pub mod Sizing
-pub mod Narrowing
 pub mod Placing

@@ -1,7 +1,7 @@
 -- SPDX-License-Identifier: MPL-2.0
 -- Buffers that have their sizes, and what the calls over them come to, as laws over numbers and lists.
-use Rattle.laws.proofs.Kit.{ℕ, _*_, _≡_, refl, sym, _∙_, ap, Bool, false, not, _||_, List, [], _∷_, length, sets, eqb, eq-eqb, ne-eqb, eqb-true}
-use Rattle.laws.proofs.Kit.{not-false}
+use Rattle.laws.proofs.Kit.{ℕ, _*_, _≤_, _≡_, refl, sym, _∙_, ap, Bool, false, not, _||_, List, [], _∷_, length, sets, eqb, eq-eqb, ne-eqb, eqb-true}
+use Rattle.laws.proofs.Kit.{getD, ltb, ltb-false, not-false}
 use Rattle.laws.specs.Bytes.{be16}
 use Rattle.laws.proofs.Bools.{or-false}
 use Rattle.wire.specs.Reader.{readHeader}
@@ -13,6 +13,7 @@ use Rattle.joining.specs.declared.cut.Cutting.{Cutting}
 use Rattle.joining.specs.Cut.{cutRefusal, cutting, cutPiece}
 use Rattle.state.proofs.Listed.{sets-whole}
 use Rattle.hub_c.specs.Pieces.{cutWords}
+use Rattle.hub_c.specs.Written.{tooWide}
 use Rattle.hub_c.specs.Line.{lineText}
 
 -- Of two buffers that have their sizes each has; the writer's words have a test beside them.
@@ -28,6 +29,21 @@ module _ (a m b n : ℕ) where
 
   pub second-of-three : (t : Bool) → (not (eqb a m) || not (eqb b n) || t) ≡ false → b ≡ n
   second-of-three t e = second-sized (or-false (not (eqb a m) || not (eqb b n)) t e .0)
+
+-- Words that have room in their fields.
+pub fits : (w : List ℕ) → tooWide w ≡ false
+    → (getD w 0 0 ≤ 255) × (getD w 1 0 ≤ 65535) × (getD w 2 0 ≤ 4294967295) × (getD w 4 0 ≤ 65535) × (getD w 5 0 ≤ 65535)
+unfolding tooWide
+fits w e =
+    let kind = ltb 255 (getD w 0 0) in
+    let flags = ltb 65535 (getD w 1 0) in
+    let sequence = ltb 4294967295 (getD w 2 0) in
+    let index = ltb 65535 (getD w 4 0) in
+    let all = or-false (kind || flags || sequence || index) (ltb 65535 (getD w 5 0)) e in
+    let four = or-false (kind || flags || sequence) index (all .0) in
+    let three = or-false (kind || flags) sequence (four .0) in
+    let two = or-false kind flags (three .0) in
+    (ltb-false _ _ (two .0), ltb-false _ _ (two .1), ltb-false _ _ (three .1), ltb-false _ _ (four .1), ltb-false _ _ (all .1))
 
 pub ruleset sizes = (first-sized, second-sized, second-of-three)
 

@@ -8,9 +8,9 @@ use Rattle.laws.proofs.Cases.{on}
 use Rattle.wire.specs.Refusals.{unlikeFirstPiece}
 use Rattle.joining.specs.declared.Progress.{Progress}
 use Rattle.joining.specs.declared.Piece.{Piece}
-use Rattle.joining.specs.Heard.{most, tally, come, has, mark, none}
-use Rattle.joining.specs.Join.{unlike, joinRows, joinRefusal, Fitting, extended, completes}
-use Rattle.joining.proofs.HeardLaws.{has-none, mark-known, tally-some, tally-come}
+use Rattle.joining.specs.Heard.{most, tally, has, mark, none}
+use Rattle.joining.specs.Join.{unlike, joinRows, joinRefusal, Fitting, extended, told}
+use Rattle.joining.proofs.HeardLaws.{has-none, tally-some, tally-come}
 use Rattle.joining.proofs.Refusals.{fitting}
 use Rattle.joining.proofs.EventSet.{mark-came, tally-came}
 use Rattle.joining.specs.Events.{Event, piece, came, howMany}
@@ -57,15 +57,9 @@ module _ (F : ℕ) (h : Progress) (p : Piece) (bytes report : List ℕ) (es : Li
   none-after : (j : ℕ) → p .count ≤ j → has S j ≡ false
   none-after j l = on (came j now) (λ c. absurd (omega (arith, below-now j c))) (λ c. alike-now j ∙ c)
 
-  -- With this piece: how many are heard, the same where it is known, and where it completes its message; and what is then held.
-  pub tally-now : tally S ≡ howMany most now
-  tally-now = tally-came S now alike-now most (λ j l. none-after j (omega (arith, fit)))
-
-  pub tally-known : has (h .heard) (p .index) ≡ true → tally (h .heard) ≡ howMany most now
-  tally-known q = rw (mark-known (h .heard) (p .index) q) at tally-now
-
-  pub tally-complete : completes h p ≡ true → p .count ≡ howMany most now
-  tally-complete c = sym (eqb-true (come (p .count) S) (p .count) c) ∙ sym (tally-come (p .count) S none-after) ∙ tally-now
+  -- With this piece: how many are told, whatever the answer; and what is held where it is Taken.
+  pub told-now : told h p ≡ howMany most now
+  told-now = sym (tally-come (p .count) S none-after) ∙ tally-came S now alike-now most (λ j l. none-after j (omega (arith, fit)))
 
   pub extended-holds : Holds (extended h p (length bytes)) now
   extended-holds = record { long = length-set (h .heard) (p .index) true ∙ w .long; alike = alike-now; below = below-now }

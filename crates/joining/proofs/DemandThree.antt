@@ -13,7 +13,7 @@ use Rattle.joining.specs.declared.Progress.{Progress}
 use Rattle.joining.specs.declared.Piece.{Piece}
 use Rattle.joining.specs.declared.Arrival.{Arrival}
 use Rattle.joining.specs.declared.Arrival.the-variants.{Refused, Taken, Repeat, Complete}
-use Rattle.joining.specs.Heard.{most, tally, has, mark, none}
+use Rattle.joining.specs.Heard.{most, come, has, mark, none}
 use Rattle.joining.specs.Join.{expecting, join, reportAfter}
 use Rattle.joining.proofs.HeardLaws.{full, not-full, full-has, has-full, has-none, mark-has}
 use Rattle.joining.proofs.Snapshot.{Start, Startable, pieceOf, pieceBytes, heldAt, bufferAt}
@@ -154,7 +154,8 @@ module _ (s : Start) (f : Startable s) (m : Machine (s .size)) where
       -- "at no other"
       pub at-no-other : m .done (m .says (final (m .next) began xs) x) ≡ true → LastMissing (s .count) i es
       at-no-other d =
-          let e = complete (full (s .count) S) (has S i) (full (s .count) (mark S i)) (tally (mark S i)) (ap (m .done) (sym (here .1)) ∙ d) in (
+          let T = mark S i in
+          let e = complete (full (s .count) S) (has S i) (full (s .count) T) (come (s .count) T) (ap (m .done) (sym (here .1)) ∙ d) in (
             sym (has-came r i) ∙ e .0,
             λ j k n. rw (with-came j, ne-eqb j i n) at (full-has (s .count) (mark S i) (e .1) j k),
           )

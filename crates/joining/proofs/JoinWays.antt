@@ -6,19 +6,19 @@ use Rattle.joining.specs.declared.Progress.{Progress}
 use Rattle.joining.specs.declared.Piece.{Piece}
 use Rattle.joining.specs.declared.Joined.{Joined}
 use Rattle.joining.specs.declared.Arrival.the-variants.{Refused, Taken, Repeat, Complete}
-use Rattle.joining.specs.Heard.{tally, has, mark}
+use Rattle.joining.specs.Heard.{has}
 use Rattle.joining.specs.Report.{put}
-use Rattle.joining.specs.Join.{lastOf, expecting, extended, completes, joinRefusal, join, reportAfter}
+use Rattle.joining.specs.Join.{lastOf, expecting, extended, told, completes, joinRefusal, join, reportAfter}
 
 -- A property of what joining answers and leaves is one of each of its four answers.
 module _ (F : ℕ) (h : Progress) (p : Piece) (bytes b : List ℕ) (G : Joined → List ℕ → Type 0) where
   pub join-cases : (eqb (joinRefusal F h p bytes b) 0 ≡ false → G (record { progress = h; answer = Refused (joinRefusal F h p bytes b) }) b)
-      → (joinRefusal F h p bytes b ≡ 0 → has (h .heard) (p .index) ≡ true → G (record { progress = h; answer = Repeat (tally (h .heard)) }) b)
+      → (joinRefusal F h p bytes b ≡ 0 → has (h .heard) (p .index) ≡ true → G (record { progress = h; answer = Repeat (told h p) }) b)
       → (joinRefusal F h p bytes b ≡ 0 → has (h .heard) (p .index) ≡ false → completes h p ≡ true
-      → G (record { progress = expecting (h .expected + 1); answer = Complete (F * (p .count - 1) + lastOf h p (length bytes)) (p .count) })
+      → G (record { progress = expecting (h .expected + 1); answer = Complete (F * (p .count - 1) + lastOf h p (length bytes)) (told h p) })
       (put b (F * p .index) bytes))
       → (joinRefusal F h p bytes b ≡ 0 → has (h .heard) (p .index) ≡ false → completes h p ≡ false
-      → G (record { progress = extended h p (length bytes); answer = Taken (tally (mark (h .heard) (p .index))) }) (put b (F * p .index) bytes))
+      → G (record { progress = extended h p (length bytes); answer = Taken (told h p) }) (put b (F * p .index) bytes))
       → G (join F h p bytes b) (reportAfter F h p bytes b)
   unfolding join reportAfter
   join-cases refused repeated complete new =

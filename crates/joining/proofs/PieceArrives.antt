@@ -1,11 +1,11 @@
 -- SPDX-License-Identifier: MPL-2.0
 -- Piece i comes when S has come: then all is as when S with i has come.
-use Rattle.laws.proofs.Kit.{ℕ, _+_, _-_, _*_, _<_, _≡_, refl, Bool, true, false, cond, List, length, getD-set-same, getD-set-other, eqb, ne-eqb}
-use Rattle.laws.proofs.Kit.{eqb-false, arith}
+use Rattle.laws.proofs.Kit.{ℕ, _+_, _-_, _*_, _<_, _≡_, refl, ap, Bool, true, false, cond, List, length, getD-set-same, getD-set-other, eqb, ne-eqb}
+use Rattle.laws.proofs.Kit.{eqb-true, eqb-false, arith}
 use Rattle.laws.proofs.Cases.{on}
 use Rattle.joining.specs.declared.Arrival.{Arrival}
 use Rattle.joining.specs.declared.Arrival.the-variants.{Refused, Taken, Repeat, Complete}
-use Rattle.joining.specs.Heard.{most, tally, has, mark}
+use Rattle.joining.specs.Heard.{most, tally, come, has, mark}
 use Rattle.joining.specs.Join.{lastOf, join, reportAfter}
 use Rattle.joining.proofs.HeardLaws.{full, mark-known, tally-some, full-has}
 use Rattle.joining.proofs.Cuts.{begins, remainder}
@@ -17,8 +17,8 @@ use Rattle.joining.proofs.PieceAllowed.{due, unrefused, late}
 abbrev pub answerAt : Start → List Bool → ℕ → Arrival
 answerAt s S i =
     cond (full (s .count) S) (Refused 17)
-    (cond (has S i) (Repeat (tally (mark S i)))
-    (cond (full (s .count) (mark S i)) (Complete (length (s .report)) (s .count)) (Taken (tally (mark S i)))))
+    (cond (has S i) (Repeat (come (s .count) (mark S i)))
+    (cond (full (s .count) (mark S i)) (Complete (length (s .report)) (s .count)) (Taken (come (s .count) (mark S i)))))
 
 module _ (s : Start) (f : Startable s) (S : List Bool) (w : length S ≡ most) (i : ℕ) (l : i < s .count) where
   in-mark : has (mark S i) i ≡ true
@@ -48,9 +48,12 @@ module _ (s : Start) (f : Startable s) (S : List Bool) (w : length S ≡ most) (
       on (full (s .count) S)
       (λ a. rw (mark-known S i (full-has (s .count) S a i l), a, late s f S w i l) (refl, refl))
       (λ a.
-      on (has S i) (λ h. rw (mark-known S i h, a, u, h) (refl, refl))
+      on (has S i)
       (λ h.
-      on (full (s .count) (mark S i)) (λ e. rw (a, u, h, e, whole-length e) (refl, put-buffer s f S w i l))
+      let k = mark-known S i h in
+      rw (k, a, u, h) (ap (λ (T : List Bool). record { progress = partHeld s S; answer = Repeat (come (s .count) T) }) k, refl))
+      (λ h.
+      on (full (s .count) (mark S i)) (λ e. rw (a, u, h, e, eqb-true _ (s .count) e, whole-length e) (refl, put-buffer s f S w i l))
       (λ e.
       let t = ne-eqb (tally (mark S i)) 0 (λ z. omega (arith, tally-some (mark S i) i in-mark)) in
       rw (a, u, h, e, t, last-more) (refl, put-buffer s f S w i l))))

@@ -15,7 +15,7 @@ abbrev pub bit : Bool → ℕ
 bit true = 1
 bit false = 0
 
--- "how many different pieces of this message have come": how many indexes are heard.
+-- How many indexes are heard.
 abbrev pub tally : List Bool → ℕ
 tally [] = 0
 tally (b ∷ bs) = bit b + tally bs

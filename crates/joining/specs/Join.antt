@@ -101,24 +101,29 @@ extended held piece size =
       last = lastOf held piece size;
     }
 
+-- "each also tells how many different pieces of this message have come": how many of the indexes under the piece's count are heard, this one
+-- with them.
+abbrev pub told : Progress → Piece → ℕ
+told held piece = come (piece .count) (mark (held .heard) (piece .index))
+
 -- With this piece every index under the count is heard: it was the last missing one, not the one with the last index.
 abbrev pub completes : Progress → Piece → Bool
-completes held piece = eqb (come (piece .count) (mark (held .heard) (piece .index))) (piece .count)
+completes held piece = eqb (told held piece) (piece .count)
 
 -- A new piece: "At Complete the expected number rises by one and the heard set is empty again, the remembered count, channel and last length
--- zero"; "Taken, … Complete with the report's length; each also tells how many different pieces of this message have come".
+-- zero"; "Taken, … Complete with the report's length".
 abbrev pub taken : ℕ → Progress → Piece → ℕ → Joined
 taken F held piece size =
     cond (completes held piece)
-    (record { progress = expecting (held .expected + 1); answer = Complete (F * (piece .count - 1) + lastOf held piece size) (piece .count) })
-    (record { progress = extended held piece size; answer = Taken (tally (mark (held .heard) (piece .index))) })
+    (record { progress = expecting (held .expected + 1); answer = Complete (F * (piece .count - 1) + lastOf held piece size) (told held piece) })
+    (record { progress = extended held piece size; answer = Taken (told held piece) })
 
 -- What is answered and remembered: a refusal or a Repeat changes nothing.
 unfoldable pub join : ℕ → Progress → Piece → List ℕ → List ℕ → Joined
 join F held piece bytes report =
     cond (eqb (joinRefusal F held piece bytes report) 0)
     (cond (has (held .heard) (piece .index))
-    (record { progress = held; answer = Repeat (tally (held .heard)) })
+    (record { progress = held; answer = Repeat (told held piece) })
     (taken F held piece (length bytes)))
     (record { progress = held; answer = Refused (joinRefusal F held piece bytes report) })
 

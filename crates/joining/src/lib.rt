@@ -6,11 +6,10 @@ mod heard;
 
 ghost use mathlib.Core.Path.{_≡_};
 ghost use mathlib.Core.Bool.{cond};
-ghost use lib.Dec.{eqb};
 ghost use Prim.Native.Nat.{_<_, _≤_, _+_, _*_, _^_};
 ghost use lib.ListN.{length};
 ghost use Rattle.laws.specs.Rows.{first};
-ghost use Rattle.joining.specs.Heard.{come, mark, most, tally};
+ghost use Rattle.joining.specs.Heard.{come, mark, most};
 ghost use Rattle.joining.specs.Join.{badIndex, unlike, misfit, conflict, sequenceRows, placeRows, joinRefusal, Fitting};
 ghost use Rattle.joining.specs.Join.{join, reportAfter, expecting, taken, isLast};
 ghost use Rattle.joining.specs.Report.{put};
@@ -51,7 +50,7 @@ pub struct Piece {
     pub index: usize,
 }
 
-// What the arrival of a piece is answered. `heard` is how many different pieces of its message have come.
+// What the arrival of a piece is answered. Taken, Repeat and `heard` tell how many different pieces of its message have come.
 pub enum Arrival {
     // The refusal's number in document 01.
     Refused(u8),
@@ -206,38 +205,28 @@ fn last_of(last: u16, piece: Piece, given: usize) -> u16
     last
 }
 
-// Every index under the count is in this set of `all` indexes. Where these are fewer, the set need not be looked at.
-fn completes(heard: [bool; PIECES], all: usize, count: usize) -> bool
-    requires { ⌜ (all ≡ tally heard) × (count ≤ most) ⌝ }
-    ensures { λ r. ⌜ r ≡ eqb (come count heard) count ⌝ }
-{
-    if all < count {
-        return false;
-    }
-    heard::count_heard(&heard, count) == count
-}
-
-// A new piece of `given` bytes is counted; `heard` is the set with it, of `all` indexes: with it its message is complete or not.
+// A new piece of `given` bytes is counted; `heard` is the set with it, `told` how many indexes under its count are in that: its message is
+// complete or not.
 fn advance(
     size: usize,
     held: Progress,
     piece: Piece,
     given: usize,
     heard: [bool; PIECES],
-    all: usize,
+    told: usize,
 ) -> Joined
-    requires { ⌜ (heard ≡ mark (held .heard) (piece .index)) × (all ≡ tally heard) × Fitting size held piece given ⌝ }
+    requires { ⌜ (heard ≡ mark (held .heard) (piece .index)) × (told ≡ come (piece .count) heard) × Fitting size held piece given ⌝ }
     ensures { λ r. ⌜ r ≡ taken size held piece given ⌝ }
 {
     let count = piece.count;
     let last = last_of(held.last, piece, given);
-    if completes(heard, all, count) {
+    if told == count {
         let length = size * (count - 1) + last as usize;
         return Joined {
             progress: Progress::expecting(held.expected + 1),
             answer: Arrival::Complete {
                 length,
-                heard: count,
+                heard: told,
             },
         };
     }
@@ -249,7 +238,7 @@ fn advance(
             channel: piece.channel,
             last,
         },
-        answer: Arrival::Taken(all),
+        answer: Arrival::Taken(told),
     }
 }
 
@@ -282,16 +271,16 @@ impl Progress {
         }
         // A piece that has come is in the set already: with it there are as many.
         let index = piece.index;
-        let marked = heard::mark(heard, index);
+        let marked = heard::mark(heard, index, piece.count);
         let next = marked.heard;
-        let all = marked.all as usize;
+        let told = marked.told as usize;
         if heard[index] {
             return Joined {
                 progress: self,
-                answer: Arrival::Repeat(all),
+                answer: Arrival::Repeat(told),
             };
         }
         store(report, size * index, payload);
-        advance(size, self, piece, payload.len(), next, all)
+        advance(size, self, piece, payload.len(), next, told)
     }
 }

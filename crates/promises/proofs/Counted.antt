@@ -11,7 +11,7 @@ use Rattle.joining.specs.declared.Piece.{Piece}
 use Rattle.joining.specs.Answers.{isTaken, isRepeat, isComplete}
 use Rattle.joining.specs.Join.{join}
 use Rattle.joining.proofs.JoinWays.{join-cases}
-use Rattle.joining.proofs.AcceptedCount.{Holds, nothing-holds, tally-now, tally-known, tally-complete, extended-holds}
+use Rattle.joining.proofs.AcceptedCount.{Holds, nothing-holds, told-now, extended-holds}
 use Rattle.hub.specs.declared.Connection.{Connection}
 use Rattle.hub.specs.declared.Stepped.{Stepped}
 use Rattle.hub.specs.Answers.{said}
@@ -45,18 +45,13 @@ module _ (c : Connection) (es : List Event) (w : Holds (c .progress) es) where
   join-counts : (q : Piece) (p report : List ℕ) → Counted (q .index) (joined c (join (c .size) (c .progress) q p report))
   join-counts q p report =
       let same = sym (w .alike (q .index)) in
+      let told = told-now (c .size) (c .progress) q p report es w in
       join-cases (c .size) (c .progress) q p report (λ j b. Counted (q .index) (joined c j)) (λ z. (w, idle refl refl refl))
-      (λ z k. (
-        w,
-        record { count = λ e. tally-known (c .size) (c .progress) q p report es w z k; new = loud; known = λ e. same ∙ k },
-      ))
-      (λ z k d. (
-        nothing-holds _ refl,
-        record { count = λ e. tally-complete (c .size) (c .progress) q p report es w z d; new = λ e. same ∙ k; known = loud },
-      ))
+      (λ z k. (w, record { count = λ e. told z; new = loud; known = λ e. same ∙ k }))
+      (λ z k d. (nothing-holds _ refl, record { count = λ e. told z; new = λ e. same ∙ k; known = loud }))
       (λ z k d. (
         extended-holds (c .size) (c .progress) q p report es w z,
-        record { count = λ e. tally-now (c .size) (c .progress) q p report es w z; new = λ e. same ∙ k; known = loud },
+        record { count = λ e. told z; new = λ e. same ∙ k; known = loud },
       ))
 
   step-counts : (b : List ℕ) (x : Call) → Counted (indexIn x) (step c (x .message) (x .keys) (x .working) b (x .verdict))

@@ -1,7 +1,7 @@
 -- SPDX-License-Identifier: MPL-2.0
 -- The premises of `RepeatedStep` can be met: three messages, as the writer writes them, enrol a gateway, and three others ask for the same steps.
-use Rattle.laws.proofs.Kit.{ℕ, _≤_, _<_, _≡_, refl, sym, _∙_, ap, false, not, and-false, List, [], _∷_, _++_, length, replicate, eqb, eqb-false, le-ltb}
-use Rattle.laws.proofs.Kit.{arith}
+use Rattle.laws.proofs.Kit.{ℕ, _≤_, _<_, _≡_, refl, sym, _∙_, ap, false, not, and-false, List, [], _∷_, _++_, length, replicate, eqb, eqb-false}
+use Rattle.laws.proofs.Kit.{le-ltb, arith}
 use Rattle.laws.specs.Bytes.{AreBytes, bytesAt}
 use Rattle.wire.specs.Fields.{badType, badFlags, badPiece, mostPieces, isSealed}
 use Rattle.wire.specs.Chain.{entryOf, chain, mostEntries, readChain, badChain}

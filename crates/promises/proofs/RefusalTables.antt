@@ -8,20 +8,24 @@ use Rattle.laws.proofs.Cases.{on}
 use Rattle.laws.proofs.Firsts.{first-append}
 use Rattle.wire.specs.Chain.{leaves}
 use Rattle.wire.specs.Reader.{chainOf, headerRows, rowsOf, refusalWith, refusalOf, headerFound}
+use Rattle.wire.specs.declared.header.Header.{Header}
 use Rattle.wire.proofs.Reading.{read-good}
 use Rattle.wire.proofs.Sound as wire
 use Rattle.seal.specs.Opening.{sealedPart, noPart, keyRows, tagRows, partRows, partRefusal, openRefusal}
 use Rattle.message.specs.Reading.{unless, payloadRows, readMessage}
-use Rattle.message.specs.Writing.{lengthOf, writeRefusal, writeAnswer}
+use Rattle.message.specs.Writing.{finishedLength, lengthOf, writeRefusal, writeAnswer}
 use Rattle.message.specs.declared.reading.MessageRead.the-variants.{Refused as notRead}
 use Rattle.message.proofs.Told.{message-refused, refused-message}
-use Rattle.writer.specs.declared.Written.the-variants.{Refused as notWritten, Bytes}
+use Rattle.writer.specs.declared.Written.the-variants.{Refused, Bytes}
+use Rattle.writer.specs.declared.Wrote.{Wrote}
+use Rattle.writer.specs.Answers.{wrote}
 use Rattle.joining.specs.Cut.{badSize, pieceCount, cutRefusal, cutCount}
 use Rattle.joining.specs.declared.cut.Cutting.{Cutting}
 use Rattle.hub.specs.declared.Opened.{Opened}
 use Rattle.hub.specs.Opening.{opened}
 use Rattle.promises.specs.Refusals.{sealed, start, headerTable, payloadIn, sealedTable, readerTable, ReaderExact}
-use Rattle.promises.specs.Refusals.{cutTable, CutRefused, CutterExact, openTable, notOpened, OpenerExact, Opens, writerTable, WriterExact}
+use Rattle.promises.specs.Refusals.{cutTable, CutRefused, CutterExact, openTable, notOpened, OpenerExact, Opens, writerTable}
+use Rattle.promises.specs.Refusals.{notWritten, WriterExact}
 use Rattle.promises.proofs.Apart.{apart}
 use Rattle.promises.proofs.Exactly.{exactly, answered-exactly}
 use Rattle.promises.proofs.ReaderNumber.{whatIsRead, early, readerNumber, read-by-number}
@@ -60,10 +64,24 @@ pub opens : Opens
 unfolding opened
 opens F q = rw (q .0)
 
+-- A message has forty bytes or more.
+some-length : (h : Header) (chain payload : List ℕ) → lengthOf h chain payload ≡ 0 → ⊥
+unfolding finishedLength
+some-length h chain payload e = omega arith
+
+wrote-unless : (k l : ℕ) → wrote (cond (eqb k 0) (Bytes l) (Refused k)) ≡ cond (eqb k 0) (wrote (Bytes l)) (notWritten k)
+wrote-unless k l = on (eqb k 0) (λ e. rw e) (λ e. rw e)
+
 pub writer-exact : WriterExact
 unfolding writeRefusal writeAnswer
 writer-exact h chain payload keys room n =
-    answered-exactly n (Bytes (lengthOf h chain payload)) notWritten (λ e. apart (cc)) (λ m e. cc) (writerTable h chain payload keys room) refl
+    let l = lengthOf h chain payload in
+    let rows = writerTable h chain payload keys room in
+    let e = wrote-unless (first rows) l in
+    let k =
+    answered-exactly n (wrote (Bytes l)) notWritten (λ q. some-length h chain payload (ap (λ (w : Wrote). w .size) q))
+    (λ m q. ap (λ (w : Wrote). w .refusal) q) rows refl in
+    (λ r. k .0 (sym e ∙ r), λ w. e ∙ k .1 w)
 
 header-first : (m : List ℕ) → first (headerTable m) ≡ refusalOf m
 unfolding refusalOf refusalWith rowsOf headerRows

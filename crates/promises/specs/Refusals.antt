@@ -25,7 +25,8 @@ use Rattle.message.specs.Handed.{payload}
 use Rattle.message.specs.Answers.{foundMessage}
 use Rattle.wire.specs.Answers.{nothing}
 use Rattle.message.specs.Writing.{lengthOf, writeAnswer}
-use Rattle.writer.specs.declared.Written.the-variants.{Refused as notWritten}
+use Rattle.writer.specs.declared.Wrote.{Wrote}
+use Rattle.writer.specs.Answers.{wrote}
 use Rattle.joining.specs.Heard.{most}
 use Rattle.joining.specs.Answers.{refused}
 use Rattle.joining.specs.Cut.{badSize, pieceCount, cutting, cutPiece}
@@ -234,8 +235,12 @@ writerTable h chain payload keys room =
     ∷ (22, ltb room (lengthOf h chain payload))
     ∷ []
 
+-- What the writer answers where it refuses with n: no length.
+abbrev pub notWritten : ℕ → Wrote
+notWritten n = record { refusal = n; size = 0 }
+
 -- The writer: "Given exactly when".
 abbrev pub WriterExact : Type 0
 WriterExact =
     (h : Header) (chain payload : List ℕ) (keys room n : ℕ)
-    → (writeAnswer h chain payload keys room ≡ notWritten n) ⇔ leads n (writerTable h chain payload keys room)
+    → (wrote (writeAnswer h chain payload keys room) ≡ notWritten n) ⇔ leads n (writerTable h chain payload keys room)

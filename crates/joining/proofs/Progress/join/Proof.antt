@@ -1,10 +1,9 @@
 -- SPDX-License-Identifier: MPL-2.0
 -- A refusal, a Repeat or a new piece: each is one way of the definitions.
 use Rattle.laws.proofs.Kit.{_+_, _*_, _≤_, refl, sym, _∙_, ap, length, eq-eqb, ne-eqb, arith, needs}
-use Rattle.joining.specs.Heard.{tally}
+use Rattle.joining.specs.Heard.{come}
 use Rattle.joining.specs.Join.{Fitting, join, reportAfter}
 use Rattle.wire.specs.Fields.{mostPieces}
-use Rattle.joining.proofs.HeardLaws.{mark-known}
 use Rattle.joining.proofs.Refusals.{fitting}
 use Rattle.joining.proofs.Progress.join.Statement.{statement}
 use Rattle.joining.proofs.Progress.join.Tie as tie
@@ -30,15 +29,14 @@ returns-2 : tie.Need-returns-2
 unfolding join reportAfter
 returns-2 c =
     let r = unrefused (c .before) in
-    let a = entry (r .before) .args in
-    let same = mark-known (a .self .heard) (a .piece .index) (c .if2 .taken) in
-    rw (← (r .before .refusal .ensures), eq-eqb _ _ (r .if1 .left), c .if2 .taken, c .before .before .before .mark .ensures .1, same) (refl, refl)
+    rw (← (r .before .refusal .ensures), eq-eqb _ _ (r .if1 .left), c .if2 .taken, c .before .before .before .mark .ensures .1) (refl, refl)
 
 advance-requires : tie.Need-advance-requires
 advance-requires c κs =
     let n = c .before .before .before .before .before in
     let e = n .before .before .mark .ensures in
-    (e .0, e .1 ∙ ap tally (sym (e .0)), known (unrefused n) .0)
+    let count = entry (unrefused n .before) .args .piece .count in
+    (e .0, e .1 ∙ ap (come count) (sym (e .0)), known (unrefused n) .0)
 
 returns-3 : tie.Need-returns-3
 unfolding join reportAfter
@@ -52,7 +50,7 @@ pub join-spec : {M : Type 1} → statement M
 unfolding mostPieces
 join-spec =
     tie.close (tie.spec
-    (λ c κs. (refl, search needs)) (λ c. search needs) returns (λ c κs. omega (arith, known c .0)) (λ c. search needs)
+    (λ c κs. (refl, search needs)) (λ c. search needs) returns (λ c κs. (omega (arith, known c .0), known c .0 .few)) (λ c. search needs)
     (λ c. omega (arith, known (unrefused c) .0)) (λ c. search needs) returns-2
     (λ c. omega (arith, known (unrefused (c .before .before)) .1)) (λ c κs. known (unrefused (c .before .before)) .1)
     advance-requires (λ c. search needs) returns-3)
