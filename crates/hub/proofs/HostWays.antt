@@ -32,7 +32,7 @@ typed type own t e = let a = and-true (eqb type own) t e in (eqb-true type own (
 
 -- The ways of a Connect message: 15, Again, the three steps of an enrolment with a verdict of 0 between them, each with what its row says.
 module _ (c : Connection) (session : ℕ) (p : List ℕ) (v : ℕ) (G : Stepped → Type 0) where
-  pub connect-cases : ((n : ℕ) → G (refuse c n)) → ((t : ℕ) → G (stepped c (Again t)))
+  pub connect-cases : G (refuse c 15) → ((t : ℕ) → G (stepped c (Again t)))
       → (connectType p ≡ 0 → c .state ≡ 0 → G (stepped (requested c session (readRequest p)) (Reply 1)))
       → (connectType p ≡ 2 → c .state ≡ 1 → G (stepped (withDigestAndState c (digest (certificate p)) 2) (Reply 3)))
       → (v ≡ 0 → G (stepped (withDigestAndState c (digest (certificate p)) 4) Failure))
@@ -50,4 +50,4 @@ module _ (c : Connection) (session : ℕ) (p : List ℕ) (v : ℕ) (G : Stepped 
       also (λ e. let a = typed type 6 _ e in finishes (a .0) (eqb-true (c .state) 2 (a .1)))
       also (λ e. again 7)
       also tt)
-      (refused 15)
+      refused

@@ -10,7 +10,7 @@ use Rattle.joining.specs.Join.{join, reportAfter}
 use Rattle.joining.proofs.JoinWays.{join-cases}
 use Rattle.hub.specs.declared.Connection.{Connection}
 use Rattle.hub.specs.declared.Stepped.{Stepped}
-use Rattle.hub.specs.Answers.{isQuiet}
+use Rattle.hub.specs.Answers.{said, isQuiet}
 use Rattle.hub.specs.Hear.{connect, pieceIn, joined}
 use Rattle.hub.specs.Step.{step, reportStepped}
 use Rattle.hub.proofs.HostWays.{connect-cases}
@@ -18,7 +18,7 @@ use Rattle.hub.proofs.StepCases.{hear-cases, step-cases}
 
 -- Where the answer is quiet, the connection is the one given and the report buffer the one lent.
 abbrev pub Still : Connection → List ℕ → Stepped → List ℕ → Type 0
-Still c b s b′ = isQuiet (s .answer) ≡ true → (s .connection ≡ c) × (b′ ≡ b)
+Still c b s b′ = isQuiet (said (s .answer)) ≡ true → (s .connection ≡ c) × (b′ ≡ b)
 
 -- No other answer is quiet.
 loud : {A : Type 0} → false ≡ true → A
@@ -27,7 +27,7 @@ loud e = absurd (false≢true e)
 module _ (c : Connection) (b : List ℕ) where
   connect-still : (session : ℕ) (p : List ℕ) (v : ℕ) → Still c b (connect c session p v) b
   connect-still session p v =
-      connect-cases c session p v (λ s. Still c b s b) (λ n e. (refl, refl)) (λ t e. (refl, refl))
+      connect-cases c session p v (λ s. Still c b s b) (λ e. (refl, refl)) (λ t e. (refl, refl))
       (λ t s. loud) (λ t s. loud) (λ z. loud) (λ t s. loud)
 
   joined-still : (q : Piece) (p : List ℕ) → Still c b (joined c (join (c .size) (c .progress) q p b)) (reportAfter (c .size) (c .progress) q p b)

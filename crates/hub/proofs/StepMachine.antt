@@ -1,20 +1,22 @@
 -- SPDX-License-Identifier: MPL-2.0
 -- The step as the machine of demand 3: a piece of the report that the reader reads is joined, and a quiet answer changes nothing.
-use Rattle.laws.proofs.Kit.{ℕ, _≡_, refl, ap, true, false, List, eq-eqb}
+use Rattle.laws.proofs.Kit.{ℕ, _≡_, refl, _∙_, ap, true, false, List, eq-eqb}
 use Rattle.wire.specs.declared.header.Header.{Header}
 use Rattle.joining.specs.declared.Progress.{Progress}
 use Rattle.joining.specs.declared.Piece.{Piece}
+use Rattle.joining.specs.declared.answer.Said.{Said}
+use Rattle.joining.specs.Answers.{arrived, isComplete}
 use Rattle.joining.specs.Cut.{badSize}
 use Rattle.joining.specs.Join.{join, reportAfter}
 use Rattle.joining.proofs.DemandThree.{Machine}
 use Rattle.hub.specs.declared.Connection.{Connection}
 use Rattle.hub.specs.declared.Stepped.{Stepped}
-use Rattle.hub.specs.declared.Answer.{Answer}
-use Rattle.hub.specs.Answers.{answerOf, isQuiet, isComplete}
+use Rattle.hub.specs.Answers.{said, isQuiet}
 use Rattle.hub.specs.Hear.{pieceIn, withProgress, joined, joins, hear, reportHeard}
 use Rattle.hub.specs.Step.{step, reportStepped}
-use Rattle.hub.specs.Calls.{Call, Standing, after, answer}
+use Rattle.hub.specs.Calls.{Call, Standing, after, says}
 use Rattle.hub.proofs.QuietKeeps.{step-still}
+use Rattle.hub.proofs.Telling.{said-of}
 
 -- The call's message is heard as a Session message of this connection's session that brings the piece.
 pub record Brings (c : Connection) (p : Piece) (bytes : List ℕ) (x : Call) : Type 0 where
@@ -27,7 +29,7 @@ pub record Brings (c : Connection) (p : Piece) (bytes : List ℕ) (x : Call) : T
       × (reportStepped d (x .message) (x .keys) (x .working) b (x .verdict) ≡ reportHeard d header bytes b)
 
 -- A quiet call changes nothing, on any connection.
-pub still : (s : Standing) (x : Call) → isQuiet (answer s x) ≡ true → after s x ≡ s
+pub still : (s : Standing) (x : Call) → isQuiet (says s x) ≡ true → after s x ≡ s
 still s x e =
     let k = step-still (s .connection) (s .report) (x .message) (x .keys) (x .working) (x .verdict) e in
     λ j. record { connection = k .0 j; report = k .1 j }
@@ -49,16 +51,17 @@ module _ (c : Connection) (ready : c .state ≡ 3) (sized : badSize (c .size) �
       record {
         C = Standing;
         X = Call;
-        A = Answer;
+        A = Said;
         next = after;
-        says = answer;
+        says = says;
         Brings = Brings c;
         Quiet = λ a. isQuiet a ≡ true;
         seat = λ h b. record { connection = withProgress c h; report = b };
-        answer = answerOf;
+        answer = arrived;
         done = isComplete;
         joins = λ h b p bytes x i j. let k = step-joins h b p bytes x i in record { connection = k .0 j .connection; report = k .1 j };
-        answers = λ h b p bytes x i. ap (λ (s : Stepped). s .answer) (step-joins h b p bytes x i .0);
+        answers = λ h b p bytes x i.
+            ap (λ (s : Stepped). said (s .answer)) (step-joins h b p bytes x i .0) ∙ said-of (join (c .size) h p bytes b .answer);
         still = still;
         done-taken = λ k. refl;
         done-repeat = λ k. refl;

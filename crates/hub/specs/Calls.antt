@@ -3,8 +3,10 @@
 use Prim.Native.Nat.{ℕ}
 use mathlib.Core.List.{List}
 use Rattle.laws.specs.Courses.{final}
+use Rattle.joining.specs.declared.answer.Said.{Said}
 use Rattle.hub.specs.declared.Connection.{Connection}
 use Rattle.hub.specs.declared.Answer.{Answer}
+use Rattle.hub.specs.Answers.{said}
 use Rattle.hub.specs.Step.{step, reportStepped}
 
 -- What one call is given beside the connection and the report buffer.
@@ -30,6 +32,10 @@ after s x =
 -- What it answers.
 abbrev pub answer : Standing → Call → Answer
 answer s x = step (s .connection) (x .message) (x .keys) (x .working) (s .report) (x .verdict) .answer
+
+-- The same in document 01's numbers and values.
+abbrev pub says : Standing → Call → Said
+says s x = said (answer s x)
 
 -- What a list of calls leaves, one after the other.
 abbrev pub afterAll : Standing → List Call → Standing

@@ -6,9 +6,10 @@ mod step;
 
 ghost use mathlib.Core.Path.{_≡_};
 ghost use Rattle.hub.specs.Opening.{blank, opened};
-ghost use Rattle.hub.specs.Answers.{answerOf};
+ghost use Rattle.hub.specs.Answers.{said, answerOf};
 use joining::Arrival;
 use joining::Progress;
+use joining::answer::Said;
 use wire::refusals;
 
 // What the hub remembers of a gateway. It goes through a step as a value and comes back as one.
@@ -61,6 +62,9 @@ pub enum Answer {
     Complete { length: usize, heard: usize },
 }
 
+// The Status of the reply of type 7; a reply of another type has none, and 0 stands there too.
+const DONE_STATUS: u64 = 0;
+
 // A connection that was opened; the refusal is 0 where there is none.
 pub struct Opened {
     pub refusal: u8,
@@ -83,6 +87,21 @@ impl Answer {
             Arrival::Taken(k) => Answer::Taken(k),
             Arrival::Repeat(k) => Answer::Repeat(k),
             Arrival::Complete { length, heard } => Answer::Complete { length, heard },
+        }
+    }
+
+    // Number and values of what a step answers: kind 1 Reply, 2 Again, 3 Failure, 4 Taken, 5 Repeat, 6 Complete.
+    pub fn said(self) -> Said
+        ensures { λ r. ⌜ r ≡ said self ⌝ }
+    {
+        match self {
+            Answer::Refused(n) => Said::refused(n),
+            Answer::Reply(connect) => Said::words(1, connect as u64, DONE_STATUS),
+            Answer::Again(connect) => Said::words(2, connect as u64, DONE_STATUS),
+            Answer::Failure => Said::words(3, 0, 0),
+            Answer::Taken(heard) => Said::words(4, heard as u64, 0),
+            Answer::Repeat(heard) => Said::words(5, heard as u64, 0),
+            Answer::Complete { length, heard } => Said::words(6, heard as u64, length as u64),
         }
     }
 }

@@ -4,7 +4,6 @@ use super::words::ANSWER;
 use super::words::WRONG_BUFFER;
 use super::words::fill;
 use super::words::put_triple;
-use hub::Answer;
 use hub::Connection;
 use hub::Stepped;
 use state::STATE;
@@ -13,55 +12,13 @@ use state::encode;
 ghost use mathlib.Core.Path.{_≡_};
 ghost use mathlib.Core.Bool.{cond};
 ghost use lib.ListN.{length};
+ghost use Rattle.hub.specs.Answers.{said};
 ghost use Rattle.hub.specs.Opening.{opened};
 ghost use Rattle.hub.specs.Step.{step, reportStepped, workingStepped};
 ghost use Rattle.state.specs.Layout.{stateSize};
 ghost use Rattle.state.specs.State.{connectionAt, stateBytes};
 ghost use Rattle.hub_c.specs.Sizes.{wrongBuffer, answerSize, sized, kept};
-ghost use Rattle.hub_c.specs.Answered.{words, said, stateAfter, answerAfter, wrongStep};
-
-// An answer in words; the refusal is 0 where there is none, and beside a refusal all is 0.
-pub struct Said {
-    pub refusal: u8,
-    // 1 Reply, 2 Again, 3 Failure, 4 Taken, 5 Repeat, 6 Complete.
-    pub kind: u64,
-    // The Connect type of the reply, or how many different pieces have come.
-    pub value: u64,
-    // The report's length.
-    pub length: u64,
-}
-
-// The words of an answer that is no refusal.
-fn words(kind: u64, value: u64, length: u64) -> Said
-    ensures { λ r. ⌜ r ≡ words kind value length ⌝ }
-{
-    Said {
-        refusal: 0,
-        kind,
-        value,
-        length,
-    }
-}
-
-// An answer in words.
-fn said_of(answer: Answer) -> Said
-    ensures { λ r. ⌜ r ≡ said answer ⌝ }
-{
-    match answer {
-        Answer::Refused(n) => Said {
-            refusal: n,
-            kind: 0,
-            value: 0,
-            length: 0,
-        },
-        Answer::Reply(connect) => words(1, connect as u64, 0),
-        Answer::Again(connect) => words(2, connect as u64, 0),
-        Answer::Failure => words(3, 0, 0),
-        Answer::Taken(heard) => words(4, heard as u64, 0),
-        Answer::Repeat(heard) => words(5, heard as u64, 0),
-        Answer::Complete { length, heard } => words(6, heard as u64, length as u64),
-    }
-}
+ghost use Rattle.hub_c.specs.Answered.{stateAfter, answerAfter, wrongStep};
 
 // The connection in a state buffer.
 fn connection_of(state: &[u8]) -> Connection
@@ -98,26 +55,26 @@ pub extern "C" fn hub_open(fragment_size: u64, state: &mut [u8]) -> u8
     opened.refusal
 }
 
-// Hands out what a step gives: the next state and the answer's words, or the refusal's number.
+// Hands out what a step gives: the answer's words, and the next state or the refusal's number.
 fn settle(stepped: Stepped, state: &mut [u8], answer: &mut [u64]) -> u8
     requires { ⌜ (length (now state) ≡ stateSize) × (length (now answer) ≡ answerSize) ⌝ }
     ensures { λ r. ⌜ r ≡ said (stepped .answer) .refusal ⌝ }
     ensures { λ _. ⌜ now (state .exit) ≡ stateAfter stepped (now (state .entry)) ⌝ }
-    ensures { λ _. ⌜ now (answer .exit) ≡ answerAfter stepped (now (answer .entry)) ⌝ }
+    ensures { λ _. ⌜ now (answer .exit) ≡ answerAfter stepped ⌝ }
 {
     let given = stepped.answer;
-    let said = said_of(given);
+    let said = given.said();
+    put_triple(answer, said.kind, said.value, said.length);
     if said.refusal != 0 {
         return said.refusal;
     }
     let connection = stepped.connection;
     put_connection(state, connection);
-    put_triple(answer, said.kind, said.value, said.length);
     0
 }
 
-// One message on the connection in a state buffer: refused, with state, report and answer as they were; or the next state, and the answer in
-// three words: kind, value, length.
+// One message on the connection in a state buffer: refused, with state and report as they were and the answer's words 0; or the next state,
+// and the answer in three words: kind, value, length.
 #[no_mangle]
 pub extern "C" fn hub_step(
     state: &mut [u8],
@@ -141,7 +98,7 @@ pub extern "C" fn hub_step(
         (now (report .entry)) verdict) ⌝ }
     ensures { λ _. ⌜ now (answer .exit) ≡ cond (wrongStep (now (state .entry)) (now (answer .entry))) (now (answer .entry))
         (answerAfter (step (connectionAt (now (state .entry))) (now (message .entry)) (now (keys .entry)) (now (working .entry))
-        (now (report .entry)) verdict) (now (answer .entry))) ⌝ }
+        (now (report .entry)) verdict)) ⌝ }
 {
     if (state.len() != STATE) | (answer.len() != ANSWER) {
         return WRONG_BUFFER;

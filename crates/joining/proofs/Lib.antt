@@ -1,4 +1,5 @@
 -- SPDX-License-Identifier: MPL-2.0
+pub mod Told
 pub mod HeardLaws
 pub mod Places
 pub mod Cuts

@@ -3,4 +3,5 @@ pub mod Heard
 pub mod Report
 pub mod Cut
 pub mod Join
+pub mod Answers
 pub mod Events

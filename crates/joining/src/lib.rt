@@ -1,5 +1,6 @@
 // SPDX-License-Identifier: MPL-2.0
 // Cutting a report into pieces and joining them again: document 01, "Cutting and joining".
+pub mod answer;
 pub mod cut;
 mod heard;
 

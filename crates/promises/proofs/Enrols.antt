@@ -1,107 +1,227 @@
 -- SPDX-License-Identifier: MPL-2.0
--- The premises of `RepeatedStep` can be met: three messages, as the writer writes them, enrol a gateway.
-use Rattle.laws.proofs.Kit.{ℕ, _≤_, _<_, _≡_, refl, _∙_, ap, false, not, and-false, List, [], _∷_, _++_, length, replicate, le-ltb, arith}
-use Rattle.laws.specs.Bytes.{AreBytes}
+-- The premises of `RepeatedStep` can be met: three messages, as the writer writes them, enrol a gateway, and three others ask for the same steps.
+use Rattle.laws.proofs.Kit.{ℕ, _≤_, _<_, _≡_, refl, sym, _∙_, ap, false, not, and-false, List, [], _∷_, _++_, length, replicate, eqb, eqb-false}
+use Rattle.laws.proofs.Kit.{le-ltb, arith}
+use Rattle.laws.specs.Bytes.{AreBytes, bytesAt}
 use Rattle.wire.specs.Fields.{badType, badFlags, badPiece, mostPieces, isSealed}
+use Rattle.wire.specs.Chain.{entryOf, chain, mostEntries, readChain, badChain}
 use Rattle.payloads.specs.Format.{acceptsFrom}
 use Rattle.payloads.specs.Shapes.{isShaped, badPayload}
-use Rattle.payloads.specs.Reading.{readRequest}
+use Rattle.payloads.specs.Reading.{readRequest, certificateOf}
 use Rattle.wire.specs.declared.header.Header.{Header}
 use Rattle.sha256.specs.Digests.{digest}
 use Rattle.seal.specs.Padding.{padding, sealedSize}
+use Rattle.message.specs.declared.reading.FoundMessage.{FoundMessage}
 use Rattle.message.specs.Writing.{lengthOf, writeRefusal, messageBytes}
 use Rattle.joining.specs.Cut.{badSize}
 use Rattle.hub.specs.declared.Connection.{Connection}
 use Rattle.hub.specs.declared.Stepped.{Stepped}
 use Rattle.hub.specs.declared.Answer.the-variants.{Reply}
+use Rattle.hub.specs.Answers.{said, reply}
 use Rattle.hub.specs.Opening.{blank}
 use Rattle.hub.specs.Host.{host, stepped, requested, withDigestAndState}
 use Rattle.hub.specs.Hear.{certificate, connect, isForeign, hear, reportHeard}
-use Rattle.promises.specs.Met.{Enrolled, CanEnrol}
-use Rattle.promises.proofs.ReadBack.{steps-by-state}
+use Rattle.promises.specs.Met.{Otherwise, Enrolled, CanEnrol}
+use Rattle.promises.specs.Enrolment.{SameStep}
+use Rattle.promises.specs.Written.{Wrote, ReadAs}
+use Rattle.promises.proofs.ReadBack.{reads-back, steps-by-state}
 use Rattle.promises.proofs.Writes.{wrote}
 use Rattle.promises.proofs.Witness.{are-bytes, end-allowed}
-use Rattle.hub.specs.Calls.{Call, Standing, after, answer}
+use Rattle.hub.specs.Calls.{Call, Standing, after, says}
 
-abbrev header : ℕ → Header
-header flags = record { kind = 2; flags = flags; sequence = 0; request = 0; index = 0; count = 1; session = 7; channel = 0 }
+-- A Connect message of session 7.
+abbrev header : (flags sequence request : ℕ) → Header
+header flags sequence request =
+    record { kind = 2; flags = flags; sequence = sequence; request = request; index = 0; count = 1; session = 7; channel = 0 }
 
--- The end of the chain.
+-- A chain without entries, and one with an entry.
 abbrev end : List ℕ
 end = 0 ∷ 0 ∷ []
 
--- A Connection Request, a Device Authentication Request with a certificate of one byte, and an Authentication Done Request.
-abbrev requestBytes : List ℕ
-requestBytes =
-    0 ∷ 0 ∷ 0 ∷ 0 ∷ 0 ∷ 32
+abbrev longer : List ℕ
+longer = 1 ∷ 1 ∷ 0 ∷ end
+
+longer-allowed : badChain longer ≡ false
+unfolding badChain readChain mostEntries chain entryOf
+longer-allowed = refl
+
+-- A Connection Request, a Device Authentication Request with a certificate of one byte, and an Authentication Done Request, in this mode; the
+-- second with this thumbprint, its size before it.
+abbrev requestBytes : ℕ → List ℕ
+requestBytes mode =
+    0 ∷ mode ∷ 0 ∷ 0 ∷ 0 ∷ 32
     ∷ (replicate 8 1 ++ (0 ∷ 0 ∷ 64 ∷ 0 ∷ 0 ∷ 32 ∷ (replicate 32 2 ++ (0 ∷ 32 ∷ replicate 32 3))))
 
-abbrev deviceBytes : List ℕ
-deviceBytes = 0 ∷ 0 ∷ 2 ∷ 0 ∷ 1 ∷ 5 ∷ 0 ∷ 0 ∷ []
+abbrev deviceBytes : ℕ → List ℕ → List ℕ
+deviceBytes mode thumbprint = 0 ∷ mode ∷ 2 ∷ 0 ∷ 1 ∷ 5 ∷ thumbprint
 
-abbrev finishBytes : List ℕ
-finishBytes = 0 ∷ 0 ∷ 6 ∷ []
+abbrev finishBytes : ℕ → List ℕ
+finishBytes mode = 0 ∷ mode ∷ 6 ∷ []
 
 -- The connection after each of them, opened at fragment size F.
 abbrev waiting : ℕ → Connection
-waiting F = requested (blank F) 7 (readRequest requestBytes)
+waiting F = requested (blank F) 7 (readRequest (requestBytes 0))
 
 abbrev passed : ℕ → Connection
-passed F = withDigestAndState (waiting F) (digest (certificate deviceBytes)) 2
+passed F = withDigestAndState (waiting F) (digest (certificate (deviceBytes 0 end))) 2
 
 abbrev ready : ℕ → Connection
 ready F = withDigestAndState (passed F) (passed F .digest) 3
 
+-- A message whose flags and payload are not refused.
+pub record Allowed (flags : ℕ) (bytes : List ℕ) : Type 0 where
+  pub low : flags < 65536
+  pub of-bytes : AreBytes bytes
+  pub flagged : badFlags 2 flags ≡ false
+  pub shaped : badPayload 2 (isSealed flags) bytes ≡ false
+  pub room : sealedSize (length bytes) ≤ 96
+
+-- Numbers that are tested to differ.
+unequal : {A : Type 0} (a b : ℕ) → eqb a b ≡ false → a ≡ b → A
+unequal a b e p = absurd (eqb-false a b e p)
+
+-- Of each step a message and another one: another mode, another thumbprint.
+request-allowed : Allowed 0 (requestBytes 0) × Allowed 0 (requestBytes 1)
+unfolding badFlags isSealed badPayload isShaped acceptsFrom padding sealedSize
+request-allowed = (
+  record { low = omega arith; of-bytes = are-bytes _ refl; flagged = refl; shaped = refl; room = omega arith },
+  record { low = omega arith; of-bytes = are-bytes _ refl; flagged = refl; shaped = refl; room = omega arith },
+)
+
+request-same : SameStep (requestBytes 0) (requestBytes 1)
+unfolding readRequest bytesAt
+request-same = record { type = refl; nonce = λ e. refl; x = λ e. refl; y = λ e. refl; digested = unequal 0 2 refl }
+
+device-allowed : Allowed 6 (deviceBytes 0 end) × Allowed 6 (deviceBytes 1 (0 ∷ 1 ∷ 7 ∷ []))
+unfolding badFlags isSealed badPayload isShaped acceptsFrom padding sealedSize
+device-allowed = (
+  record { low = omega arith; of-bytes = are-bytes _ refl; flagged = refl; shaped = refl; room = omega arith },
+  record { low = omega arith; of-bytes = are-bytes _ refl; flagged = refl; shaped = refl; room = omega arith },
+)
+
+device-same : SameStep (deviceBytes 0 end) (deviceBytes 1 (0 ∷ 1 ∷ 7 ∷ []))
+unfolding certificateOf
+device-same =
+    let c : certificate (deviceBytes 1 (0 ∷ 1 ∷ 7 ∷ [])) ≡ certificate (deviceBytes 0 end) = refl in
+    record { type = refl; nonce = unequal 2 0 refl; x = unequal 2 0 refl; y = unequal 2 0 refl; digested = λ e. ap digest c }
+
+finish-allowed : Allowed 6 (finishBytes 0) × Allowed 6 (finishBytes 1)
+unfolding badFlags isSealed badPayload isShaped acceptsFrom padding sealedSize
+finish-allowed = (
+  record { low = omega arith; of-bytes = are-bytes _ refl; flagged = refl; shaped = refl; room = omega arith },
+  record { low = omega arith; of-bytes = are-bytes _ refl; flagged = refl; shaped = refl; room = omega arith },
+)
+
+finish-same : SameStep (finishBytes 0) (finishBytes 1)
+finish-same =
+    record { type = refl; nonce = unequal 6 0 refl; x = unequal 6 0 refl; y = unequal 6 0 refl; digested = unequal 6 2 refl }
+
+-- One message is read in one way.
+one-reading : (h g : Header) (p q m keys w : List ℕ) → ReadAs h p m keys w → ReadAs g q m keys w → h ≡ g
+one-reading h g p q m keys w r t =
+    let a = r .reads in
+    let b = t .reads in
+    let e : r .found ≡ t .found = cc in
+    sym (r .header) ∙ ap (λ (f : FoundMessage). f .header) e ∙ t .header
+
 module _ (F : ℕ) (keys report : List ℕ) (sized : badSize F ≡ false) (of-keys : AreBytes keys) (whole : length keys ≡ 64) where
-  abbrev callWith : ℕ → List ℕ → Call
-  callWith flags bytes = record { message = messageBytes (header flags) end bytes keys; keys = keys; working = replicate 96 0; verdict = 1 }
+  abbrev callWith : Header → (chain bytes : List ℕ) → Call
+  callWith h chain bytes = record { message = messageBytes h chain bytes keys; keys = keys; working = replicate 96 0; verdict = 1 }
+
+  -- The first message of a step, and another one of the same step: another SequenceNumber, RequestID and chain.
+  abbrev once : ℕ → List ℕ → Call
+  once flags bytes = callWith (header flags 0 0) end bytes
+
+  abbrev other : ℕ → List ℕ → Call
+  other flags bytes = callWith (header flags 5 9) longer bytes
 
   abbrev at : Connection → Standing
   at c = record { connection = c; report = report }
 
+  -- It is written, and read back.
+  written : (flags sequence request : ℕ) (chain bytes : List ℕ) → sequence < 4294967296 → request < 18446744073709551616 → AreBytes chain
+      → badChain chain ≡ false → Allowed flags bytes
+      → Wrote (header flags sequence request) chain bytes keys (messageBytes (header flags sequence request) chain bytes keys)
+  unfolding writeRefusal badType badPiece mostPieces
+  written flags sequence request chain bytes s r b c a =
+      let h = header flags sequence request in
+      let k = lengthOf h chain bytes in
+      wrote h chain bytes keys (omega (arith, a .low)) b (a .of-bytes) of-keys
+      (rw (a .flagged, c, whole, and-false (isSealed flags), a .shaped, le-ltb k k (omega arith)))
+
+  once-written : (flags : ℕ) (bytes : List ℕ) → Allowed flags bytes → Wrote (header flags 0 0) end bytes keys (once flags bytes .message)
+  once-written flags bytes a = written flags 0 0 end bytes (omega arith) (omega arith) (are-bytes end refl) end-allowed a
+
+  other-written : (flags : ℕ) (bytes : List ℕ) → Allowed flags bytes → Wrote (header flags 5 9) longer bytes keys (other flags bytes .message)
+  other-written flags bytes a = written flags 5 9 longer bytes (omega arith) (omega arith) (are-bytes longer refl) longer-allowed a
+
   -- The message gets this reply and takes one connection to the other.
   abbrev Steps : Connection → Connection → ℕ → List ℕ → ℕ → Type 0
-  Steps c d flags bytes t = (answer (at c) (callWith flags bytes) ≡ Reply t) × (after (at c) (callWith flags bytes) ≡ at d)
+  Steps c d flags bytes t = (says (at c) (once flags bytes) ≡ reply t) × (after (at c) (once flags bytes) ≡ at d)
 
-  -- A message whose flags and payload are not refused is written, and what is heard is what the step does; the report buffer is left alone.
-  steps : (c d : Connection) (flags : ℕ) (bytes : List ℕ) (t : ℕ) → badSize (c .size) ≡ false → flags < 65536 → AreBytes bytes
-      → badFlags 2 flags ≡ false → badPayload 2 (isSealed flags) bytes ≡ false → sealedSize (length bytes) ≤ 96
-      → hear c (header flags) bytes report 1 ≡ stepped d (Reply t) → Steps c d flags bytes t
-  unfolding writeRefusal badType badPiece mostPieces reportHeard
-  steps c d flags bytes t z l b f p n e =
-      let h = header flags in
-      let k = lengthOf h end bytes in
-      let w =
-      wrote h end bytes keys (omega arith) (are-bytes end refl) b of-keys
-      (rw (f, end-allowed, whole, and-false (isSealed flags), p, le-ltb k k (omega arith))) in
-      let s = steps-by-state c h end bytes keys (messageBytes h end bytes keys) w (replicate 96 0) report 1 (λ o. n) (omega arith) z in
+  -- What is heard is what the step does; the report buffer is left alone.
+  steps : (c d : Connection) (flags : ℕ) (bytes : List ℕ) (t : ℕ) → badSize (c .size) ≡ false → Allowed flags bytes
+      → hear c (header flags 0 0) bytes report 1 ≡ stepped d (Reply t) → Steps c d flags bytes t
+  unfolding reportHeard
+  steps c d flags bytes t z a e =
+      let h = header flags 0 0 in
+      let s =
+      steps-by-state c h end bytes keys (once flags bytes .message) (once-written flags bytes a) (replicate 96 0) report 1 (λ o. a .room)
+      (omega arith) z in
       let q = s .0 ∙ e in
       let r : reportHeard c h bytes report ≡ report = rw (and-false (not (isForeign c h))) in
-      (ap (λ (s : Stepped). s .answer) q, λ i. record { connection = q i .connection; report = (s .1 ∙ r) i })
+      (ap (λ (s : Stepped). said (s .answer)) q, λ i. record { connection = q i .connection; report = (s .1 ∙ r) i })
 
-  requests : Steps (blank F) (waiting F) 0 requestBytes 1
-  unfolding hear connect host badFlags isSealed badPayload isShaped acceptsFrom padding sealedSize
-  requests = steps (blank F) (waiting F) 0 requestBytes 1 sized (omega arith) (are-bytes requestBytes refl) refl refl (omega arith) refl
+  -- Another message of the same step.
+  otherwise : (flags : ℕ) (p q : List ℕ) → Allowed flags p → Allowed flags q → SameStep p q → Otherwise (once flags p)
+  otherwise flags p q a b s =
+      let w = replicate {A = ℕ} 96 0 in
+      let m = once flags p .message in
+      let n = other flags q .message in
+      let r = reads-back (header flags 0 0) end p keys m (once-written flags p a) w (λ o. a .room) in
+      let t = reads-back (header flags 5 9) longer q keys n (other-written flags q b) w (λ o. b .room) in
+      record {
+        call = other flags q;
+        asked = record {
+          first = record { header = header flags 0 0; payload = p; reads = r };
+          second = record { header = header flags 5 9; payload = q; reads = t };
+          kind = refl;
+          session = refl;
+          same = s;
+          verdict = omega arith;
+        };
+        other = λ e.
+            unequal 0 9 refl (ap (λ (h : Header). h .request) (one-reading (header flags 0 0) (header flags 5 9) p q m keys w r (rw e at t)));
+      }
 
-  authenticates : Steps (waiting F) (passed F) 6 deviceBytes 3
-  unfolding hear connect host badFlags isSealed badPayload isShaped acceptsFrom padding sealedSize
-  authenticates = steps (waiting F) (passed F) 6 deviceBytes 3 sized (omega arith) (are-bytes deviceBytes refl) refl refl (omega arith) refl
+  requests : Steps (blank F) (waiting F) 0 (requestBytes 0) 1
+  unfolding hear connect host
+  requests = steps (blank F) (waiting F) 0 (requestBytes 0) 1 sized (request-allowed .0) refl
 
-  finishes : Steps (passed F) (ready F) 6 finishBytes 7
-  unfolding hear connect host badFlags isSealed badPayload isShaped acceptsFrom padding sealedSize
-  finishes = steps (passed F) (ready F) 6 finishBytes 7 sized (omega arith) (are-bytes finishBytes refl) refl refl (omega arith) refl
+  authenticates : Steps (waiting F) (passed F) 6 (deviceBytes 0 end) 3
+  unfolding hear connect host
+  authenticates = steps (waiting F) (passed F) 6 (deviceBytes 0 end) 3 sized (device-allowed .0) refl
+
+  finishes : Steps (passed F) (ready F) 6 (finishBytes 0) 7
+  unfolding hear connect host
+  finishes = steps (passed F) (ready F) 6 (finishBytes 0) 7 sized (finish-allowed .0) refl
 
   enrolled : Enrolled F keys report
   enrolled =
-      let y = callWith 6 deviceBytes in
-      let z = callWith 6 finishBytes in
+      let y = once 6 (deviceBytes 0 end) in
+      let z = once 6 (finishBytes 0) in
       record {
-        request = callWith 0 requestBytes;
+        request = once 0 (requestBytes 0);
         device = y;
         finish = z;
         first = requests .0;
-        second = ap (λ (s : Standing). answer s y) (requests .1) ∙ authenticates .0;
-        third = ap (λ (s : Standing). answer (after s y) z) (requests .1) ∙ ap (λ (s : Standing). answer s z) (authenticates .1) ∙ finishes .0;
+        second = ap (λ (s : Standing). says s y) (requests .1) ∙ authenticates .0;
+        third = ap (λ (s : Standing). says (after s y) z) (requests .1) ∙ ap (λ (s : Standing). says s z) (authenticates .1) ∙ finishes .0;
+        again = (
+          otherwise 0 _ _ (request-allowed .0) (request-allowed .1) request-same,
+          otherwise 6 _ _ (device-allowed .0) (device-allowed .1) device-same,
+          otherwise 6 _ _ (finish-allowed .0) (finish-allowed .1) finish-same,
+        );
       }
 
 pub can-enrol : CanEnrol

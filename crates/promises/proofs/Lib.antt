@@ -1,6 +1,7 @@
 -- SPDX-License-Identifier: MPL-2.0
 pub mod NumberedExamples
 pub mod Apart
+pub mod Exactly
 pub mod ReaderNumber
 pub mod RefusalTables
 pub mod StepTable

@@ -1,33 +1,87 @@
 -- SPDX-License-Identifier: MPL-2.0
--- Demand 1 for reader, cutter and writer: each call's refusal is the first number of its table, and laws' both directions do the rest.
-use Rattle.laws.proofs.Kit.{ℕ, _+_, _-_, _≤_, _≡_, refl, sym, _∙_, ap, true, cond, List, _++_, length, eqb, ne-eqb, eqb-true, le-ltb, lt-leb}
-use Rattle.laws.proofs.Kit.{arith}
+-- Demand 1 for reader, cutter, opener and writer: each call's refusal is the first number of its table, and laws' both directions do the rest.
+use Rattle.laws.proofs.Kit.{ℕ, _+_, _-_, _≤_, _≡_, refl, sym, _∙_, ap, true, true≢false, cond, List, _++_, length, eqb, ne-eqb, eqb-true, le-ltb}
+use Rattle.laws.proofs.Kit.{lt-leb, arith}
 use Rattle.laws.specs.Bytes.{AreBytes, be8, be16}
 use Rattle.laws.specs.Rows.{first, orElse}
 use Rattle.laws.proofs.Cases.{on}
-use Rattle.laws.proofs.Firsts.{first-append, first-leads, leads-first}
+use Rattle.laws.proofs.Firsts.{first-append}
 use Rattle.wire.specs.Chain.{leaves}
 use Rattle.wire.specs.Reader.{chainOf, headerRows, rowsOf, refusalWith, refusalOf, headerFound}
+use Rattle.wire.specs.declared.header.Header.{Header}
 use Rattle.wire.proofs.Reading.{read-good}
 use Rattle.wire.proofs.Sound as wire
 use Rattle.seal.specs.Opening.{sealedPart, noPart, keyRows, tagRows, partRows, partRefusal, openRefusal}
 use Rattle.message.specs.Reading.{unless, payloadRows, readMessage}
-use Rattle.message.specs.Writing.{writeRefusal}
-use Rattle.message.specs.declared.reading.FoundMessage.{FoundMessage}
-use Rattle.message.specs.declared.reading.MessageRead.the-variants.{Read}
-use Rattle.joining.specs.Cut.{cutRefusal}
-use Rattle.promises.specs.Examples.{numberOf}
+use Rattle.message.specs.Writing.{finishedLength, lengthOf, writeRefusal, writeAnswer}
+use Rattle.message.specs.declared.reading.MessageRead.the-variants.{Refused as notRead}
+use Rattle.message.proofs.Told.{message-refused, refused-message}
+use Rattle.writer.specs.declared.Written.the-variants.{Refused, Bytes}
+use Rattle.writer.specs.declared.Wrote.{Wrote}
+use Rattle.writer.specs.Answers.{wrote}
+use Rattle.joining.specs.Cut.{badSize, pieceCount, cutRefusal, cutCount}
+use Rattle.joining.specs.declared.cut.Cutting.{Cutting}
+use Rattle.hub.specs.declared.Opened.{Opened}
+use Rattle.hub.specs.Opening.{opened}
 use Rattle.promises.specs.Refusals.{sealed, start, headerTable, payloadIn, sealedTable, readerTable, ReaderExact}
-use Rattle.promises.specs.Refusals.{cutTable, CutterExact, writerTable, WriterExact}
+use Rattle.promises.specs.Refusals.{cutTable, CutRefused, CutterExact, openTable, notOpened, OpenerExact, Opens, writerTable}
+use Rattle.promises.specs.Refusals.{notWritten, WriterExact}
+use Rattle.promises.proofs.Apart.{apart}
+use Rattle.promises.proofs.Exactly.{exactly, answered-exactly}
 use Rattle.promises.proofs.ReaderNumber.{whatIsRead, early, readerNumber, read-by-number}
+
+-- A report makes one piece or more.
+some : (F bytes : ℕ) → pieceCount F bytes ≡ 0 → ⊥
+some F bytes e = on (eqb bytes 0) (λ z. let w : _≡_ {A = ℕ} 1 0 = rw z at e in omega (arith, w)) (λ z. omega (arith, rw z at e))
+
+cut-some : (F bytes i : ℕ) → cutRefusal F bytes i ≡ 0 → cutCount F bytes i ≡ 0 → ⊥
+cut-some F bytes i z e = some F bytes (rw z at e)
+
+cut-refused : (F : ℕ) (report : List ℕ) (i n : ℕ) → (n ≡ 0 → ⊥) → cutRefusal F (length report) i ≡ n → CutRefused F report i n
+cut-refused F report i n z e = (rw (e, ne-eqb n 0 z), rw (e, ne-eqb n 0 z))
 
 pub cutter-exact : CutterExact
 unfolding cutRefusal
-cutter-exact F bytes i n z = let rows = cutTable F bytes i in (first-leads n z rows, leads-first n rows)
+cutter-exact F report i n =
+    exactly (CutRefused F report i n) n (cutTable F (length report) i) refl
+    (λ p.
+    let e = ap (λ (a : Cutting). a .refusal) (p .0) in
+    (λ z. cut-some F (length report) i (e ∙ z) (ap (λ (a : Cutting). a .count) (p .0)), e))
+    (cut-refused F report i n)
+
+pub opener-exact : OpenerExact
+unfolding opened
+opener-exact F n =
+    exactly (opened F ≡ notOpened n) n (openTable F) refl
+    (λ p.
+    on (badSize F)
+    (λ b. let q : 24 ≡ n = ap (λ (o : Opened). o .refusal) (rw b at p) in (λ z. omega arith, rw b q))
+    (λ b. let q : F ≡ 0 = ap (λ (o : Opened). o .connection .size) (rw b at p) in absurd (true≢false (rw q at b))))
+    (λ z p.
+    on (badSize F) (λ b. let q : 24 ≡ n = rw b at p in rw b (ap notOpened q)) (λ b. absurd (z (sym (rw b at p)))))
+
+pub opens : Opens
+unfolding opened
+opens F q = rw (q .0)
+
+-- A message has forty bytes or more.
+some-length : (h : Header) (chain payload : List ℕ) → lengthOf h chain payload ≡ 0 → ⊥
+unfolding finishedLength
+some-length h chain payload e = omega arith
+
+wrote-unless : (k l : ℕ) → wrote (cond (eqb k 0) (Bytes l) (Refused k)) ≡ cond (eqb k 0) (wrote (Bytes l)) (notWritten k)
+wrote-unless k l = on (eqb k 0) (λ e. rw e) (λ e. rw e)
 
 pub writer-exact : WriterExact
-unfolding writeRefusal
-writer-exact h chain payload keys room n z = let rows = writerTable h chain payload keys room in (first-leads n z rows, leads-first n rows)
+unfolding writeRefusal writeAnswer
+writer-exact h chain payload keys room n =
+    let l = lengthOf h chain payload in
+    let rows = writerTable h chain payload keys room in
+    let e = wrote-unless (first rows) l in
+    let k =
+    answered-exactly n (wrote (Bytes l)) notWritten (λ q. some-length h chain payload (ap (λ (w : Wrote). w .size) q))
+    (λ m q. ap (λ (w : Wrote). w .refusal) q) rows refl in
+    (λ r. k .0 (sym e ∙ r), λ w. e ∙ k .1 w)
 
 header-first : (m : List ℕ) → first (headerTable m) ≡ refusalOf m
 unfolding refusalOf refusalWith rowsOf headerRows
@@ -65,14 +119,10 @@ module _ (m keys : List ℕ) (room : ℕ) (bytes : AreBytes m) where
       let row = payloadRows (be8 m 5) (sealed m) (payloadIn m keys) in
       first-append (headerTable m ++ sealedTable m keys room) row refl ∙ ap (λ (n : ℕ). orElse n (first row)) early-first
 
-number-unless : (n : ℕ) (f : FoundMessage) → numberOf (unless n (Read f)) ≡ n
-number-unless n f = on (eqb n 0) (λ e. rw e (sym (eqb-true n 0 e))) (λ e. rw e)
-
 pub reader-exact : ReaderExact
-reader-exact m keys room n b z =
+reader-exact m keys room n b =
     let rows = readerTable m keys room in
     let e : readMessage m keys room ≡ unless (first rows) (whatIsRead m keys) =
-    read-by-number m keys room ∙ ap (λ (n : ℕ). unless n (whatIsRead m keys)) (sym (reader-first m keys room b)) in (
-      λ r. first-leads n z rows (sym (number-unless (first rows) _) ∙ ap numberOf (sym e ∙ r)),
-      λ l. e ∙ ap (λ (n : ℕ). unless n (whatIsRead m keys)) (leads-first n rows l) ∙ rw (ne-eqb n 0 z),
-    )
+    read-by-number m keys room ∙ ap (λ (n : ℕ). unless n (whatIsRead m keys)) (sym (reader-first m keys room b)) in
+    let k = answered-exactly n (whatIsRead m keys) notRead (λ e. apart (cc)) (λ m e. cc) rows refl in
+    (λ r. k .0 (sym e ∙ message-refused m keys room n r), λ l. refused-message m keys room n (e ∙ k .1 l))

@@ -15,6 +15,7 @@ use Rattle.hub.specs.Host.{host, stepped, requested, withDigestAndState, knows}
 use Rattle.hub.specs.Hear.{certificate, connect, pieceIn, isForeign, hear}
 use Rattle.hub.proofs.HostWays.{connect-cases}
 use Rattle.hub.proofs.StepCases.{hear-cases}
+use Rattle.promises.specs.Enrolment.{SameStep}
 use Rattle.promises.proofs.Apart.{apart, arrival-apart}
 use Rattle.promises.proofs.StateKept.{Keeps}
 
@@ -46,6 +47,24 @@ still-known c d h p t k w =
       low = omega (arith, k .up, w .low);
       high = k .top;
       compared = still-compared c d p t k (w .compared);
+    }
+
+-- Who asks for the same step is compared with the same.
+same-compared : (c : Connection) (p q : List ℕ) (t : ℕ) → SameStep p q → Compared c p t → Compared c q t
+same-compared c p q _ s (request e w) = request (s .type ∙ e) (rw (s .nonce e, s .x e, s .y e) w)
+same-compared c p q _ s (device e l w) = device (s .type ∙ e) l (rw (s .digested e) w)
+same-compared c p q _ s (finish e l) = finish (s .type ∙ e) l
+
+pub same-known : (c : Connection) (h g : Header) (p q : List ℕ) (t : ℕ) → g .kind ≡ 2 → g .session ≡ h .session → SameStep p q → Known c h p t
+    → Known c g q t
+same-known c h g p q t k s a w =
+    record {
+      sized = w .sized;
+      kind = k;
+      session = s ∙ w .session;
+      low = w .low;
+      high = w .high;
+      compared = same-compared c p q t a (w .compared);
     }
 
 -- A known message gets Again.
@@ -84,7 +103,7 @@ module _ (c : Connection) (sized : badSize (c .size) ≡ false) (h : Header) (p 
     connect-replied =
         let r = readRequest p in
         let d = digest (certificate p) in
-        connect-cases c (h .session) p v Replied (λ n t e. apart (cc)) (λ k t e. apart (cc))
+        connect-cases c (h .session) p v Replied (λ t e. apart (cc)) (λ k t e. apart (cc))
         (λ k s.
         told (requested c (h .session) r) 1 refl refl (omega arith) (omega arith)
         (request k (rw (same-refl (r .nonce), same-refl (r .x), same-refl (r .y)))))

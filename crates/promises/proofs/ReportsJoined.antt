@@ -1,6 +1,8 @@
 -- SPDX-License-Identifier: MPL-2.0
 -- Demand 3: the step is the machine over which joining proved it for any number of pieces.
-use Rattle.laws.proofs.Kit.{ℕ, _*_, _<_, _≡_, refl, sym, _∙_, ap, false, List, length, take, lt-leb}
+use Rattle.laws.proofs.Kit.{ℕ, _*_, _<_, _≡_, refl, _∙_, ap, false, List, length, take, eqb-true, lt-leb}
+use mathlib.Core.Bool.{false≢true}
+use Rattle.laws.proofs.Cases.{on}
 use Rattle.laws.proofs.Courses.{end, goes}
 use Rattle.laws.specs.Parts.{part}
 use Rattle.joining.specs.Cut.{badSize, cutRefusal, cutCount}
@@ -9,7 +11,7 @@ use Rattle.joining.proofs.Snapshot as snapshot
 use Rattle.joining.proofs.DemandThree as joining
 use Rattle.joining.proofs.HeardCount.{all-told, told-again, told-taken}
 use Rattle.joining.proofs.DemandThree.{Machine, only-the-set, handed-out, as-sent, at-no-other, late-copy}
-use Rattle.hub.specs.declared.Answer.the-variants.{Refused, Reply, Again, Failure, Taken, Repeat, Complete}
+use Rattle.joining.specs.Answers.{isComplete}
 use Rattle.hub.proofs.StepMachine.{Brings, hub}
 use Rattle.promises.specs.Reports.{Sending, began, fragments, Fair, fragment, headerFor, Sent, Course, done, brings, rests}
 use Rattle.promises.specs.Reports.{Brought, DemandThree, NotBetween}
@@ -98,10 +100,5 @@ demand-three s f =
     }
 
 pub not-between : NotBetween
-not-between (Refused n) e = refl
-not-between (Reply t) e = refl
-not-between (Again t) e = refl
-not-between Failure e = refl
-not-between (Taken k) e = refl
-not-between (Repeat k) e = refl
-not-between (Complete l k) e = sym e
+not-between s e =
+    on (isComplete s) (λ c. let k = eqb-true (s .kind) 6 c in absurd (false≢true (rw k at e))) (λ c. c)

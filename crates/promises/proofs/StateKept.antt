@@ -9,7 +9,8 @@ use Rattle.hub.specs.declared.Answer.the-variants.{Failure}
 use Rattle.hub.specs.Host.{withDigestAndState}
 use Rattle.hub.specs.Hear.{certificate, withProgress}
 use Rattle.hub.specs.Step.{step}
-use Rattle.hub.specs.Calls.{Call}
+use Rattle.hub.specs.Calls.{Call, Standing, answer}
+use Rattle.hub.proofs.Telling.{said-apart}
 use Rattle.hub.proofs.HostWays.{connect-cases}
 use Rattle.hub.proofs.StepCases.{step-has}
 use Rattle.promises.specs.Enrolment.{OnlyByZero}
@@ -42,20 +43,23 @@ module _ (c : Connection) (low : 1 ≤ c .state) (high : c .state ≤ 3) where
   step-kept b x =
       step-has c (x .message) (x .keys) (x .working) b (x .verdict) Kept (λ n f. kept (c .progress))
       (λ session p.
-      connect-cases c session p (x .verdict) Kept (λ n f. kept (c .progress)) (λ t f. kept (c .progress)) (λ t z f. absurd (omega arith))
+      connect-cases c session p (x .verdict) Kept (λ f. kept (c .progress)) (λ t f. kept (c .progress)) (λ t z f. absurd (omega arith))
       (λ t z f. moved (digest (certificate p)) 2 (c .progress) (omega arith) (omega arith) (λ l. absurd (omega arith)))
       (λ z f. absurd (f refl))
       (λ t z f. moved (c .digest) 3 (c .progress) (omega arith) (omega arith) (λ l. refl)))
       (λ j f. kept (j .progress))
 
 -- Failure is named by one row, whose verdict is 0.
-pub only-by-zero : OnlyByZero
-only-by-zero p x =
+failure-by-zero : (p : Standing) (x : Call) → answer p x ≡ Failure → x .verdict ≡ 0
+failure-by-zero p x =
     let c = p .connection in
     let v = x .verdict in
     let Judged : Stepped → Type 0 = λ s. s .answer ≡ Failure → v ≡ 0 in
     step-has c (x .message) (x .keys) (x .working) (p .report) v Judged (λ n e. apart (cc))
     (λ session q.
-    connect-cases c session q v Judged (λ n e. apart (cc)) (λ t e. apart (cc)) (λ t s e. apart (cc)) (λ t s e. apart (cc)) (λ z e. z)
+    connect-cases c session q v Judged (λ e. apart (cc)) (λ t e. apart (cc)) (λ t s e. apart (cc)) (λ t s e. apart (cc)) (λ z e. z)
     (λ t s e. apart (cc)))
     (λ j e. absurd (arrival-apart (j .answer) .1 e))
+
+pub only-by-zero : OnlyByZero
+only-by-zero p x e = failure-by-zero p x (said-apart (answer p x) Failure e)

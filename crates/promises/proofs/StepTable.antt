@@ -1,11 +1,12 @@
 -- SPDX-License-Identifier: MPL-2.0
 -- Demand 1 for the step: its table is that of 25 and 24, the reader's, and the host's.
 use Rattle.laws.proofs.Kit.{ℕ, _≡_, refl, sym, _∙_, ap, Bool, true, false, not, _&&_, cond, List, [], _∷_, length, eqb, eqb-true, le-ltb, lt-leb}
+use Rattle.laws.proofs.Kit.{eqb-false, arith}
 use Rattle.laws.specs.Bytes.{AreBytes}
 use Rattle.laws.specs.Rows.{first, orElse}
 use Rattle.laws.proofs.Bools.{and-true}
 use Rattle.laws.proofs.Cases.{on}
-use Rattle.laws.proofs.Firsts.{first-append, first-leads, leads-first, neither}
+use Rattle.laws.proofs.Firsts.{first-append, neither}
 use Rattle.payloads.specs.Reading.{connectType, readRequest}
 use Rattle.wire.specs.Reader.{headerOf, refusalOf}
 use Rattle.wire.specs.declared.header.Header.{Header}
@@ -13,6 +14,8 @@ use Rattle.wire.proofs.Sound as wire
 use Rattle.sha256.specs.Digests.{digest}
 use Rattle.message.specs.Reading.{readMessage, workingAfter}
 use Rattle.message.specs.Handed.{payload}
+use Rattle.joining.specs.declared.answer.Said.{Said}
+use Rattle.joining.specs.Answers.{refused}
 use Rattle.joining.specs.Heard.{most}
 use Rattle.joining.specs.Cut.{badSize}
 use Rattle.joining.specs.Join.{badIndex, joinRefusal, join}
@@ -21,19 +24,21 @@ use Rattle.hub.specs.declared.Connection.{Connection}
 use Rattle.hub.specs.declared.Stepped.{Stepped}
 use Rattle.hub.specs.declared.Answer.{Answer}
 use Rattle.hub.specs.declared.Answer.the-variants.{Refused, Reply, Again, Failure, Taken, Repeat, Complete}
-use Rattle.hub.specs.Answers.{valuesOf, isQuiet}
+use Rattle.hub.specs.Answers.{said, isQuiet}
 use Rattle.hub.specs.Host.{hostRows, firstRow, host, refuse}
 use Rattle.hub.specs.Hear.{certificate, connect, pieceIn, joined, hear}
 use Rattle.hub.specs.Step.{afterRead, step}
+use Rattle.hub.proofs.HostWays.{connect-cases}
 use Rattle.hub.proofs.StepCases.{connect-apart, hear-cases, step-tests}
 use Rattle.hub.proofs.QuietKeeps.{step-still}
 use Rattle.promises.specs.Refusals.{readerTable, anyOf, hostTable, handed, stepTable, StepExact, LeavesAlone}
 use Rattle.promises.proofs.ReaderNumber.{whatIsRead, early, readerNumber, read-by-number}
 use Rattle.promises.proofs.RefusalTables.{reader-first}
+use Rattle.promises.proofs.Exactly.{exactly}
 
 -- The number of a step's refusal, 0 where it does not refuse.
 abbrev number : Stepped → ℕ
-number s = valuesOf (s .answer) .refusal
+number s = said (s .answer) .refusal
 
 -- Rows that refuse nothing.
 abbrev loud : List (Bool × Stepped) → Bool
@@ -71,14 +76,30 @@ indexed m z =
     let p = wire.piece _ (headerOf m .index) (headerOf m .count) (wire.good m z .piece) in
     rw (le-ltb most (headerOf m .count) (p .few), lt-leb (headerOf m .count) (headerOf m .index) (p .under))
 
-refused-is : (a : Answer) (n : ℕ) → (n ≡ 0 → ⊥) → valuesOf a .refusal ≡ n → a ≡ Refused n
-refused-is (Refused k) n z e = ap Refused e
+refused-is : (a : Answer) (n : ℕ) → (n ≡ 0 → ⊥) → said a .refusal ≡ n → said a ≡ refused n
+refused-is (Refused k) n z e = ap refused e
 refused-is (Reply t) n z e = absurd (z (sym e))
 refused-is (Again t) n z e = absurd (z (sym e))
 refused-is Failure n z e = absurd (z (sym e))
 refused-is (Taken k) n z e = absurd (z (sym e))
 refused-is (Repeat k) n z e = absurd (z (sym e))
 refused-is (Complete l k) n z e = absurd (z (sym e))
+
+-- No refusal has the number 0.
+abbrev Firm : Stepped → Type 0
+Firm s = said (s .answer) .kind ≡ 0 → number s ≡ 0 → ⊥
+
+module _ (c : Connection) (h : Header) (p b : List ℕ) (v : ℕ) where
+  hear-firm : Firm (hear c h p b v)
+  hear-firm =
+      hear-cases c h p b v (λ s b′. Firm s) (λ f k n. omega arith)
+      (λ f t.
+      connect-cases c (h .session) p v Firm (λ k n. omega arith) (λ t k n. omega arith) (λ t s k n. omega arith) (λ t s k n. omega arith)
+      (λ z k n. omega arith) (λ t s k n. omega arith))
+      (λ f j.
+      join-cases (c .size) (c .progress) (pieceIn h) p b (λ j b′. Firm (joined c j)) (λ z k n. eqb-false _ 0 z n) (λ z i k n. omega arith)
+      (λ z i d k n. omega arith) (λ z i d k n. omega arith))
+      (λ f k j e n. omega arith)
 
 module _ (c : Connection) (m keys working report : List ℕ) (v : ℕ) where
   -- The rows after 14.
@@ -104,13 +125,24 @@ module _ (c : Connection) (m keys working report : List ℕ) (v : ℕ) where
       (read-number z ∙ ap (λ (n : ℕ). orElse n (first later)) (sym (reader-first m keys (length working) bytes))
       ∙ sym (first-append (readerTable m keys (length working)) later refl)))
 
+  step-firm : Firm (step c m keys working report v)
+  step-firm =
+      let n = readerNumber m keys (length working) in
+      step-tests c m keys working report v (λ s b. Firm s) (λ t k z. omega arith) (λ t s k z. omega arith)
+      (λ t s.
+      rw (read-by-number m keys (length working))
+      (on (eqb n 0) (λ e. rw e (hear-firm c (headerOf m) (payload m (workingAfter m keys working) (whatIsRead m keys)) report v))
+      (λ e. rw e (λ k z. eqb-false n 0 e z))))
+
   pub step-exact : StepExact c m keys working report v
-  step-exact n bytes z =
-      let rows = stepTable c m keys working report v in
-      let e = step-number bytes in (
-        λ r. first-leads n z rows (sym e ∙ ap (λ (a : Answer). valuesOf a .refusal) r),
-        λ l. refused-is (step c m keys working report v .answer) n z (e ∙ leads-first n rows l),
-      )
+  step-exact n bytes =
+      let a = step c m keys working report v .answer in
+      let e = step-number bytes in
+      exactly (said a ≡ refused n) n (stepTable c m keys working report v) refl
+      (λ r.
+      let told = ap (λ (s : Said). s .refusal) r in
+      (λ z. step-firm (ap (λ (s : Said). s .kind) r) (told ∙ z), sym e ∙ told))
+      (λ z q. refused-is a n z (e ∙ q))
 
   pub leaves-alone : LeavesAlone c m keys working report v
   leaves-alone n e = step-still c report m keys working v (ap isQuiet e)

@@ -19,14 +19,14 @@ use Rattle.hub.specs.declared.Connection.{Connection}
 use Rattle.hub.specs.Opening.{blank}
 use Rattle.hub.specs.Host.{requested, withDigestAndState}
 use Rattle.hub.specs.Hear.{withProgress}
-use Rattle.hub.specs.Answers.{isQuiet}
+use Rattle.hub.specs.Answers.{said, isQuiet}
 use Rattle.hub.proofs.StepCases.{step-tests}
 use Rattle.promises.specs.Reports.{Sending, began, fragments, fragment, Fair, Sent, Course, done, brings, rests, HandedOut}
 use Rattle.promises.specs.Met.{Typed, Choice, Good, callFor}
 use Rattle.promises.proofs.ReportsJoined.{demand-three}
 use Rattle.promises.proofs.Writes.{not-longer, can-be-sent}
 use Rattle.joining.specs.Events.{Event, piece, between, LastMissing}
-use Rattle.hub.specs.Calls.{Call, Standing, answer}
+use Rattle.hub.specs.Calls.{Call, Standing, says}
 
 -- A list whose elements are tested to be bytes.
 abbrev below : List ℕ → Bool
@@ -84,10 +84,10 @@ choice-good =
 abbrev pub emptyCall : Call
 emptyCall = record { message = []; keys = []; working = []; verdict = 0 }
 
-nothing-refused : (p : Standing) → isQuiet (answer p emptyCall) ≡ true
+nothing-refused : (p : Standing) → isQuiet (says p emptyCall) ≡ true
 unfolding readMessage readHeader refusalOf refusalWith rowsOf headerRows
 nothing-refused p =
-    step-tests (p .connection) [] [] [] (p .report) 0 (λ s b. isQuiet (s .answer) ≡ true)
+    step-tests (p .connection) [] [] [] (p .report) 0 (λ s b. isQuiet (said (s .answer)) ≡ true)
     (λ t. refl) (λ t z. refl) (λ t z. refl)
 
 -- Fragment 2, something between, then 0 and 2 again.

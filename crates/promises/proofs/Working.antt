@@ -1,6 +1,6 @@
 -- SPDX-License-Identifier: MPL-2.0
 -- The working buffer's rule: it changes exactly where a sealed message got past 13.
-use Rattle.laws.proofs.Kit.{ℕ, _≡_, sym, _∙_, ap, Bool, cond, List, _++_, length, ltb, ne-eqb}
+use Rattle.laws.proofs.Kit.{ℕ, _≡_, refl, sym, _∙_, ap, Bool, cond, List, _++_, length, ltb, ne-eqb}
 use Rattle.laws.specs.Bytes.{AreBytes}
 use Rattle.laws.specs.Rows.{first}
 use Rattle.laws.proofs.Bools.{or-false}
@@ -13,6 +13,7 @@ use Rattle.hub.specs.declared.Connection.{Connection}
 use Rattle.hub.specs.Step.{unready, workingStepped}
 use Rattle.promises.specs.Refusals.{sealed, start, headerTable, sealedTable, untouchedTable, WorkingBuffer}
 use Rattle.promises.proofs.ReaderNumber.{working-by-number}
+use Rattle.promises.proofs.Exactly.{leads-numbered}
 use Rattle.promises.proofs.RefusalTables.{early-first}
 
 module _ (c : Connection) (m keys working report : List ℕ) (v : ℕ) where
@@ -30,9 +31,10 @@ module _ (c : Connection) (m keys working report : List ℕ) (v : ℕ) where
   unfolding workingStepped intoUnless
   working-buffer bytes =
       record {
-        refused = λ n z l.
+        refused = λ n l.
             on (unready c v) (λ u. rw u)
             (λ u.
+            let z = leads-numbered n (untouchedTable c m keys working report v) refl l in
             let k = or-false (ltb 1 v) (badSize (c .size)) u in
             let e : first rows ≡ n = rw (k .0, k .1) at (leads-first n (untouchedTable c m keys working report v) l) in
             rw (u, after-first bytes, e, ne-eqb n 0 z) (on (sealed m) (λ s. rw s) (λ s. rw s)));

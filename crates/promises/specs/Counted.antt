@@ -4,13 +4,13 @@
 use Prim.Native.Nat.{ℕ}
 use mathlib.Core.Path.{_≡_}
 use mathlib.Core.List.{List, [], _∷_}
-use mathlib.Core.Bool.{true, false}
+use mathlib.Core.Bool.{true, false, cond, _||_}
 use Rattle.laws.specs.Bytes.{be16}
 use Rattle.joining.specs.Heard.{most, none}
-use Rattle.hub.specs.declared.Answer.{Answer}
-use Rattle.hub.specs.declared.Answer.the-variants.{Refused, Reply, Again, Failure, Taken, Repeat, Complete}
+use Rattle.joining.specs.declared.answer.Said.{Said}
+use Rattle.joining.specs.Answers.{isTaken, isRepeat, isComplete}
 use Rattle.joining.specs.Events.{Event, piece, came, howMany}
-use Rattle.hub.specs.Calls.{Call, Standing, after, answer, afterAll}
+use Rattle.hub.specs.Calls.{Call, Standing, after, says, afterAll}
 
 -- FragmentIndex, in its place on the wire.
 abbrev pub indexIn : Call → ℕ
@@ -18,33 +18,25 @@ indexIn x = be16 (x .message) 20
 
 -- The indexes accepted of the message that is expected, once a message with index i got this answer: where it is Taken its index is one more;
 -- after Complete another message is expected; no other answer accepts anything.
-abbrev pub accepted : Answer → ℕ → List Event → List Event
-accepted (Refused n) i es = es
-accepted (Reply t) i es = es
-accepted (Again t) i es = es
-accepted Failure i es = es
-accepted (Taken k) i es = piece i ∷ es
-accepted (Repeat k) i es = es
-accepted (Complete l k) i es = []
+abbrev pub accepted : Said → ℕ → List Event → List Event
+accepted s i es = cond (isTaken s) (piece i ∷ es) (cond (isComplete s) [] es)
 
 -- Those accepted over a course of calls, after `es`.
 abbrev pub acceptedAll : Standing → List Call → List Event → List Event
 acceptedAll p [] es = es
-acceptedAll p (x ∷ xs) es = acceptedAll (after p x) xs (accepted (answer p x) (indexIn x) es)
+acceptedAll p (x ∷ xs) es = acceptedAll (after p x) xs (accepted (says p x) (indexIn x) es)
 
--- The count reported is that of the different indexes accepted, this one with them; the index is a new one where it is Taken or Complete, one of
--- those accepted where it is Repeat.
-abbrev pub Counts : Answer → ℕ → List Event → Type 0
-Counts (Refused n) i es = Unit {0}
-Counts (Reply t) i es = Unit {0}
-Counts (Again t) i es = Unit {0}
-Counts Failure i es = Unit {0}
-Counts (Taken k) i es = (came i es ≡ false) × (k ≡ howMany most (piece i ∷ es))
-Counts (Repeat k) i es = (came i es ≡ true) × (k ≡ howMany most (piece i ∷ es))
-Counts (Complete l k) i es = (came i es ≡ false) × (k ≡ howMany most (piece i ∷ es))
+-- What Taken, Repeat and Complete say of a piece with index i, after these were accepted.
+pub record Counts (s : Said) (i : ℕ) (es : List Event) : Type 0 where
+  -- The count is that of the different indexes accepted, this one with them.
+  pub count : (isTaken s || isRepeat s || isComplete s) ≡ true → s .value ≡ howMany most (piece i ∷ es)
+  -- The index is a new one where it is Taken or Complete,
+  pub new : (isTaken s || isComplete s) ≡ true → came i es ≡ false
+  -- one of those accepted where it is Repeat.
+  pub known : isRepeat s ≡ true → came i es ≡ true
 
 -- From a connection that has heard nothing of the message it expects, as every opened one, after any course of calls.
 abbrev pub HeardCount : Type 0
 HeardCount =
     (p : Standing) → p .connection .progress .heard ≡ none most → (xs : List Call) (x : Call)
-    → Counts (answer (afterAll p xs) x) (indexIn x) (acceptedAll p xs [])
+    → Counts (says (afterAll p xs) x) (indexIn x) (acceptedAll p xs [])

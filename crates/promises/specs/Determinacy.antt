@@ -3,6 +3,8 @@
 -- agree": every clause of every public contract has the form `r ≡ f(inputs)` or `now (x .exit) ≡ g(inputs)`. tests/contracts tests that;
 -- docs/PROMISES.md, "One result", lists the exceptions.
 use mathlib.Core.Path.{_≡_}
+use Rattle.hub.specs.declared.Answer.{Answer}
+use Rattle.hub.specs.Answers.{said}
 
 -- Any two results that a clause allows agree.
 abbrev pub Determined : (A : Type 0) → (A → Type 0) → Type 0
@@ -15,3 +17,7 @@ OneResult = (A : Type 0) (value : A) → Determined A (λ r. r ≡ value)
 -- And for all of them together: a result and what a lent buffer holds.
 abbrev pub OneOutcome : Type 1
 OneOutcome = (A B : Type 0) (value : A) (held : B) → Determined (A × B) (λ r. (r .0 ≡ value) × (r .1 ≡ held))
+
+-- "a definition specifies this paper's number and values for each of its cases": by them a step's answer is known, no two say the same.
+abbrev pub ToldApart : Type 0
+ToldApart = (a b : Answer) → said a ≡ said b → a ≡ b

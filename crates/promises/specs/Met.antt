@@ -12,11 +12,12 @@ use Rattle.seal.specs.Padding.{sealedSize}
 use Rattle.message.specs.Writing.{messageBytes}
 use Rattle.joining.specs.Heard.{bit}
 use Rattle.joining.specs.Cut.{badSize}
-use Rattle.hub.specs.declared.Answer.the-variants.{Reply}
+use Rattle.hub.specs.Answers.{reply}
 use Rattle.hub.specs.Opening.{blank}
+use Rattle.promises.specs.Enrolment.{AskedAgain}
 use Rattle.promises.specs.Reports.{Sending, fragments, fragment, headerFor, Fair, Sent, Course}
 use Rattle.joining.specs.Events.{Event, piece}
-use Rattle.hub.specs.Calls.{Call, Standing, after, answer}
+use Rattle.hub.specs.Calls.{Call, Standing, after, says}
 
 -- What the types of the calls say of a report that is sent, and 64 key bytes.
 pub record Typed (s : Sending) : Type 0 where
@@ -84,14 +85,21 @@ AnyOrder s = Fair s → Typed s → (ds : List (ℕ × Choice)) → AllGood s ds
 abbrev pub opening : ℕ → List ℕ → Standing
 opening F report = record { connection = blank F; report = report }
 
--- Three messages that enrol a gateway: each gets its reply.
+-- Another message that asks for the step of x again.
+pub record Otherwise (x : Call) : Type 0 where
+  pub call : Call
+  pub asked : AskedAgain x call
+  pub other : call .message ≡ x .message → ⊥
+
+-- Three messages that enrol a gateway: each gets its reply, and each step can be asked for again in another message.
 pub record Enrolled (F : ℕ) (keys report : List ℕ) : Type 0 where
   pub request : Call
   pub device : Call
   pub finish : Call
-  pub first : answer (opening F report) request ≡ Reply 1
-  pub second : answer (after (opening F report) request) device ≡ Reply 3
-  pub third : answer (after (after (opening F report) request) device) finish ≡ Reply 7
+  pub first : says (opening F report) request ≡ reply 1
+  pub second : says (after (opening F report) request) device ≡ reply 3
+  pub third : says (after (after (opening F report) request) device) finish ≡ reply 7
+  pub again : Otherwise request × Otherwise device × Otherwise finish
 
 -- So the premises of `RepeatedStep` can be met for each reply, with any keys.
 abbrev pub CanEnrol : Type 0

@@ -22,14 +22,21 @@ use Rattle.seal.specs.Padding.{badPlain, payloadOf}
 use Rattle.seal.specs.Opening.{bodyOf, tagIn, sealedPart}
 use Rattle.message.specs.Reading.{opened, readMessage, workingAfter}
 use Rattle.message.specs.Handed.{payload}
-use Rattle.message.specs.declared.reading.MessageRead.the-variants.{Refused as notRead}
-use Rattle.message.specs.Writing.{lengthOf, writeRefusal}
+use Rattle.message.specs.Answers.{foundMessage}
+use Rattle.wire.specs.Answers.{nothing}
+use Rattle.message.specs.Writing.{lengthOf, writeAnswer}
+use Rattle.writer.specs.declared.Wrote.{Wrote}
+use Rattle.writer.specs.Answers.{wrote}
 use Rattle.joining.specs.Heard.{most}
-use Rattle.joining.specs.Cut.{badSize, pieceCount, cutRefusal}
+use Rattle.joining.specs.Answers.{refused}
+use Rattle.joining.specs.Cut.{badSize, pieceCount, cutting, cutPiece}
+use Rattle.joining.specs.declared.cut.Cutting.{Cutting}
 use Rattle.joining.specs.Join.{unlike, misfit, conflict}
 use Rattle.hub.specs.declared.Connection.{Connection}
+use Rattle.hub.specs.declared.Opened.{Opened}
 use Rattle.hub.specs.declared.Stepped.{Stepped}
-use Rattle.hub.specs.declared.Answer.the-variants.{Refused}
+use Rattle.hub.specs.Answers.{said}
+use Rattle.hub.specs.Opening.{blank, opened as openedAt}
 use Rattle.hub.specs.Host.{hostRows}
 use Rattle.hub.specs.Hear.{certificate, pieceIn, isForeign, joins}
 use Rattle.hub.specs.Step.{step, reportStepped, workingStepped}
@@ -102,7 +109,7 @@ A ⇔ B = (A → B) × (B → A)
 -- The reader: "Given exactly when".
 abbrev pub ReaderExact : Type 0
 ReaderExact =
-    (m keys : List ℕ) (room n : ℕ) → AreBytes m → (n ≡ 0 → ⊥) → (readMessage m keys room ≡ notRead n) ⇔ leads n (readerTable m keys room)
+    (m keys : List ℕ) (room n : ℕ) → AreBytes m → (foundMessage (readMessage m keys room) ≡ nothing n) ⇔ leads n (readerTable m keys room)
 
 -- One of the sentences of "Host states" applies to a Connect message.
 abbrev pub anyOf : List (Bool × Stepped) → Bool
@@ -142,38 +149,38 @@ module _ (c : Connection) (m keys working report : List ℕ) (verdict : ℕ) whe
   abbrev pub handed : List ℕ
   handed = payload m (workingAfter m keys working) (readMessage m keys (length working))
 
-  -- "A step checks in this order, the first that applies being the answer: 25; 24; 1 to 9; for sealed messages 10 to 13; 14; 16; 15; then
-  -- 19, 17, 18, 21, 20, 22, 23."
-  abbrev pub stepTable : List (ℕ × Bool)
-  stepTable =
+  -- Rows 25 and 24, which come before the message is looked at.
+  abbrev pub readyTable : List (ℕ × Bool)
+  readyTable =
       -- verdict not 0 or 1
       (25, ltb 1 verdict)
       -- F outside 1 to 16,384 … in the connection given to a step
       ∷ (24, badSize (c .size))
-      ∷ (readerTable m keys (length working) ++ hostTable c (headerOf m) handed report verdict)
+      ∷ []
+
+  -- "A step checks in this order, the first that applies being the answer: 25; 24; 1 to 9; for sealed messages 10 to 13; 14; 16; 15; then
+  -- 19, 17, 18, 21, 20, 22, 23."
+  abbrev pub stepTable : List (ℕ × Bool)
+  stepTable = readyTable ++ (readerTable m keys (length working) ++ hostTable c (headerOf m) handed report verdict)
 
   -- The step: "Given exactly when".
   abbrev pub StepExact : Type 0
-  StepExact =
-      (n : ℕ) → AreBytes m → (n ≡ 0 → ⊥) → (step c m keys working report verdict .answer ≡ Refused n) ⇔ leads n stepTable
+  StepExact = (n : ℕ) → AreBytes m → (said (step c m keys working report verdict .answer) ≡ refused n) ⇔ leads n stepTable
 
   -- "Every refusal leaves connection and report buffer alone."
   abbrev pub LeavesAlone : Type 0
   LeavesAlone =
-      (n : ℕ) → step c m keys working report verdict .answer ≡ Refused n
+      (n : ℕ) → said (step c m keys working report verdict .answer) ≡ refused n
       → (step c m keys working report verdict .connection ≡ c) × (reportStepped c m keys working report verdict ≡ report)
 
   -- The rows that leave the working buffer untouched: 25, 24, 1 to 13.
   abbrev pub untouchedTable : List (ℕ × Bool)
-  untouchedTable =
-      (25, ltb 1 verdict)
-      ∷ (24, badSize (c .size))
-      ∷ (headerTable m ++ sealedTable m keys (length working))
+  untouchedTable = readyTable ++ (headerTable m ++ sealedTable m keys (length working))
 
   -- "The working buffer is untouched by refusals 1 to 13, 24 and 25, and by plain messages. After a sealed message got past 13 its first bytes
   -- hold the opened sealed part, the rest is unchanged."
   pub record WorkingRule : Type 0 where
-    pub refused : (n : ℕ) → (n ≡ 0 → ⊥) → leads n untouchedTable → workingStepped c m keys working verdict ≡ working
+    pub refused : (n : ℕ) → leads n untouchedTable → workingStepped c m keys working verdict ≡ working
     pub plain : sealed m ≡ false → workingStepped c m keys working verdict ≡ working
     pub past : quiet untouchedTable → sealed m ≡ true
         → workingStepped c m keys working verdict
@@ -187,9 +194,32 @@ module _ (c : Connection) (m keys working report : List ℕ) (verdict : ℕ) whe
 abbrev pub cutTable : ℕ → ℕ → ℕ → List (ℕ × Bool)
 cutTable F bytes i = (24, badSize F) ∷ (7, ltb (F * most) bytes || leb (pieceCount F bytes) i) ∷ []
 
+-- What the cutter answers where it refuses with n: "A refusal gives count 0 and the empty part".
+abbrev pub notCut : ℕ → Cutting
+notCut n = record { refusal = n; count = 0 }
+
+abbrev pub CutRefused : ℕ → List ℕ → (i n : ℕ) → Type 0
+CutRefused F report i n = (cutting F (length report) i ≡ notCut n) × (cutPiece F report i ≡ [])
+
 -- The cutter: "Given exactly when".
 abbrev pub CutterExact : Type 0
-CutterExact = (F bytes i n : ℕ) → (n ≡ 0 → ⊥) → (cutRefusal F bytes i ≡ n) ⇔ leads n (cutTable F bytes i)
+CutterExact = (F : ℕ) (report : List ℕ) (i n : ℕ) → CutRefused F report i n ⇔ leads n (cutTable F (length report) i)
+
+-- The opener's row: 24, "F outside 1 to 16,384 at opening".
+abbrev pub openTable : ℕ → List (ℕ × Bool)
+openTable F = (24, badSize F) ∷ []
+
+-- What the opener answers where it refuses with n: "the connection answered is then all zero, F too".
+abbrev pub notOpened : ℕ → Opened
+notOpened n = record { refusal = n; connection = blank 0 }
+
+-- The opener: "Given exactly when".
+abbrev pub OpenerExact : Type 0
+OpenerExact = (F n : ℕ) → (openedAt F ≡ notOpened n) ⇔ leads n (openTable F)
+
+-- "Opening takes a fragment size F from 1 to 16,384, and gives state 0 expecting Session number 0, all else that it remembers being zero".
+abbrev pub Opens : Type 0
+Opens = (F : ℕ) → quiet (openTable F) → openedAt F ≡ record { refusal = 0; connection = blank F }
 
 -- The writer's rows: "5, 6, 7, 8 (a chain given with bytes after its end too), 10 if sealed, 14, 20 (Session payload over 16,384), 22, in
 -- that order".
@@ -205,8 +235,12 @@ writerTable h chain payload keys room =
     ∷ (22, ltb room (lengthOf h chain payload))
     ∷ []
 
+-- What the writer answers where it refuses with n: no length.
+abbrev pub notWritten : ℕ → Wrote
+notWritten n = record { refusal = n; size = 0 }
+
 -- The writer: "Given exactly when".
 abbrev pub WriterExact : Type 0
 WriterExact =
-    (h : Header) (chain payload : List ℕ) (keys room n : ℕ) → (n ≡ 0 → ⊥)
-    → (writeRefusal h chain payload keys room ≡ n) ⇔ leads n (writerTable h chain payload keys room)
+    (h : Header) (chain payload : List ℕ) (keys room n : ℕ)
+    → (wrote (writeAnswer h chain payload keys room) ≡ notWritten n) ⇔ leads n (writerTable h chain payload keys room)

@@ -11,14 +11,14 @@ use Rattle.seal.specs.Padding.{sealedSize}
 use Rattle.joining.specs.Heard.{most, none}
 use Rattle.joining.specs.Cut.{pieceCount, cutRefusal, cutCount, cutPiece}
 use Rattle.joining.specs.Join.{expecting}
+use Rattle.joining.specs.declared.answer.Said.{Said}
+use Rattle.joining.specs.Answers.{refused, taken, repeated, complete, isComplete}
 use Rattle.hub.specs.declared.Connection.{Connection}
-use Rattle.hub.specs.declared.Answer.{Answer}
-use Rattle.hub.specs.declared.Answer.the-variants.{Refused, Taken, Repeat, Complete}
-use Rattle.hub.specs.Answers.{isQuiet, isComplete}
+use Rattle.hub.specs.Answers.{isQuiet}
 use Rattle.hub.specs.Hear.{withProgress}
 use Rattle.promises.specs.Written.{Wrote}
 use Rattle.joining.specs.Events.{Event, piece, between, came, LastMissing, howMany}
-use Rattle.hub.specs.Calls.{Call, Standing, after, answer, afterAll}
+use Rattle.hub.specs.Calls.{Call, Standing, after, says, afterAll}
 
 -- A report that is sent to a connection, in these keys and on this channel; and the report buffer as it began.
 pub record Sending : Type 0 where
@@ -81,7 +81,7 @@ pub data Course (s : Sending) : Standing → List Call → List Event → Type 0
   done : {p : Standing} → Course s p [] []
   brings : {p : Standing} {x : Call} {xs : List Call} {i : ℕ} {es : List Event} → i < fragments s → Sent s i x → Course s (after p x) xs es
       → Course s p (x ∷ xs) (piece i ∷ es)
-  rests : {p : Standing} {x : Call} {xs : List Call} {es : List Event} → isQuiet (answer p x) ≡ true → Course s (after p x) xs es
+  rests : {p : Standing} {x : Call} {xs : List Call} {es : List Event} → isQuiet (says p x) ≡ true → Course s (after p x) xs es
       → Course s p (x ∷ xs) (between ∷ es)
 
 -- "Then connection and report buffer depend only on how they began and which fragments have come": after two courses that brought the same
@@ -97,7 +97,7 @@ module _ (s : Sending) (xs : List Call) (es : List Event) (i : ℕ) (x : Call) w
   -- buffer begins with the report and is as long as it was, and the connection expects the next number, nothing of it heard, all else as it
   -- began.
   pub record HandedOut : Type 0 where
-    pub answered : answer (afterAll (began s) xs) x ≡ Complete (length (s .report)) (fragments s)
+    pub answered : says (afterAll (began s) xs) x ≡ complete (length (s .report)) (fragments s)
     pub whole : take (length (s .report)) (after (afterAll (began s) xs) x .report) ≡ s .report
     pub long : length (after (afterAll (began s) xs) x .report) ≡ length (s .buffer)
     pub next : after (afterAll (began s) xs) x .connection ≡ withProgress (s .connection) (expecting (s .connection .progress .expected + 1))
@@ -107,17 +107,17 @@ module _ (s : Sending) (xs : List Call) (es : List Event) (i : ℕ) (x : Call) w
     -- "at the call that brings the last missing fragment",
     pub last : LastMissing (fragments s) i es → HandedOut
     -- "at no other": what is answered Complete was the last missing one.
-    pub no-other : isComplete (answer (afterAll (began s) xs) x) ≡ true → LastMissing (fragments s) i es
+    pub no-other : isComplete (says (afterAll (began s) xs) x) ≡ true → LastMissing (fragments s) i es
     -- Taken where it is new and another is missing, Repeat where it has come: "each also tells how many different pieces of this message have
     -- come", this one with them;
     pub taken : came i es ≡ false → (j : ℕ) → j < fragments s → (j ≡ i → ⊥) → came j es ≡ false
-        → answer (afterAll (began s) xs) x ≡ Taken (howMany (fragments s) (piece i ∷ es))
+        → says (afterAll (began s) xs) x ≡ taken (howMany (fragments s) (piece i ∷ es))
     pub repeated : came i es ≡ true → (j : ℕ) → j < fragments s → came j es ≡ false
-        → answer (afterAll (began s) xs) x ≡ Repeat (howMany (fragments s) (piece i ∷ es))
+        → says (afterAll (began s) xs) x ≡ repeated (howMany (fragments s) (piece i ∷ es))
     -- and Complete's number of fragments is that too.
     pub counted : LastMissing (fragments s) i es → fragments s ≡ howMany (fragments s) (piece i ∷ es)
     -- "later copies get 17".
-    pub late : ((j : ℕ) → j < fragments s → came j es ≡ true) → answer (afterAll (began s) xs) x ≡ Refused 17
+    pub late : ((j : ℕ) → j < fragments s → came j es ≡ true) → says (afterAll (began s) xs) x ≡ refused 17
 
 -- A report, the keys, a connection with its fragment size, SessionID and expected number; any course of calls; and the call after it.
 pub record Delivered (s : Sending) : Type 0 where
@@ -131,4 +131,4 @@ DemandThree = (s : Sending) → Fair s → Delivered s
 
 -- What is Refused or Again hands nothing out.
 abbrev pub NotBetween : Type 0
-NotBetween = (a : Answer) → isQuiet a ≡ true → isComplete a ≡ false
+NotBetween = (s : Said) → isQuiet s ≡ true → isComplete s ≡ false

@@ -1,15 +1,27 @@
 -- SPDX-License-Identifier: MPL-2.0
--- A refusal leaves state and answer alone.
+-- The answer's words are what it says; a refusal leaves the state alone.
 use Rattle.laws.proofs.Kit.{refl, sym, eq-eqb, ne-eqb, needs}
-use Rattle.hub_c.specs.Answered.{stateAfter, answerAfter}
+use Rattle.hub_c.specs.Answered.{stateAfter}
 use Rattle.hub_c.proofs.connection.settle.Statement.{statement}
 use Rattle.hub_c.proofs.connection.settle.Tie as tie
 
+returns : tie.Need-returns
+unfolding stateAfter
+returns c =
+    let at-said : tie.After-said = search in
+    let at-put : tie.After-put-triple = search in
+    let refused : tie.Then1 = search in
+    rw (← at-said .said .ensures, ne-eqb _ _ (refused .if1 .taken)) (refl, (refl, at-put .put-triple .ensures))
+
+returns-2 : tie.Need-returns-2
+unfolding stateAfter
+returns-2 c =
+    let at-said : tie.After-said = search in
+    let at-put : tie.After-put-triple = search in
+    let good : tie.Else1 = search in
+    rw (← at-said .said .ensures, eq-eqb _ _ (good .if1 .left)) (sym (good .if1 .left), (search, at-put .put-triple .ensures))
+
 pub settle-spec : {M : Type 1} → statement M
-unfolding stateAfter answerAfter
 settle-spec =
     tie.close (tie.spec
-    _ (λ c. rw (← c .before .before .said-of .ensures, ne-eqb _ _ (c .if1 .taken)) (refl, (refl, refl)))
-    (λ c κs. search needs) (λ c κs. search needs) (λ c. search needs) (λ c. search needs)
-    (λ c. let good : tie.Else1 = search in rw (← good .before .before .said-of .ensures, eq-eqb _ _ (good .if1 .left))
-    (sym (good .if1 .left), (search, search))))
+    _ (λ c κs. search needs) (λ c. search needs) returns (λ c κs. search needs) (λ c. search needs) (λ c. search needs) returns-2)

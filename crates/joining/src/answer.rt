@@ -1,0 +1,57 @@
+// SPDX-License-Identifier: MPL-2.0
+// An answer in document 01's numbers: of a piece that arrives here, of a step in the crate above.
+ghost use mathlib.Core.Path.{_≡_};
+ghost use Rattle.joining.specs.Answers.{words, refused, arrived};
+use super::Arrival;
+
+// An answer's number and values. A value that its case does not have is 0, and beside a refusal all is 0.
+pub struct Said {
+    // The refusal's number, 0 where there is none.
+    pub refusal: u8,
+    // 0 Refused, 4 Taken, 5 Repeat, 6 Complete; a step has 1 to 3 besides.
+    pub kind: u64,
+    // How many different pieces have come; of a reply its Connect type.
+    pub value: u64,
+    // The report's length; of a reply its Status.
+    pub length: u64,
+}
+
+impl Said {
+    // An answer that is no refusal.
+    pub fn words(kind: u64, value: u64, length: u64) -> Said
+        ensures { λ r. ⌜ r ≡ words kind value length ⌝ }
+    {
+        Said {
+            refusal: 0,
+            kind,
+            value,
+            length,
+        }
+    }
+
+    // A refusal.
+    pub fn refused(number: u8) -> Said
+        ensures { λ r. ⌜ r ≡ refused number ⌝ }
+    {
+        Said {
+            refusal: number,
+            kind: 0,
+            value: 0,
+            length: 0,
+        }
+    }
+}
+
+impl Arrival {
+    // Number and values of what a piece is answered.
+    pub fn arrived(self) -> Said
+        ensures { λ r. ⌜ r ≡ arrived self ⌝ }
+    {
+        match self {
+            Arrival::Refused(n) => Said::refused(n),
+            Arrival::Taken(heard) => Said::words(4, heard as u64, 0),
+            Arrival::Repeat(heard) => Said::words(5, heard as u64, 0),
+            Arrival::Complete { length, heard } => Said::words(6, heard as u64, length as u64),
+        }
+    }
+}
