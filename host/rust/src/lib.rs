@@ -3,9 +3,10 @@
 //! Devices Platform protocol (MS-CDP), as the project's document 01 describes it.
 //!
 //! The calls are those of include/hub.h, with types for what C can only ask for: keys are 64 bytes
-//! or none, a connection is a value, a payload is a part of the buffer in which it lies and a sealed
-//! part is none, fields have their width, and a refusal is an error with document 01's number. All memory is the caller's; nothing is allocated but the
-//! [`list`]ing's line. Every input is defined behaviour: no call here panics.
+//! or none, a connection is a value, fields have their width, a payload is a part of the buffer in
+//! which it lies and a sealed part is no payload, and a refusal is an error with document 01's number.
+//! All memory is the caller's; nothing is allocated but the [`list`]ing's line. Every input is defined
+//! behaviour: no call here panics.
 //!
 //! ```
 //! use hlidunsk::{cut, write, Answer, Connection, Header, Refusal, MOST_PIECES, NO_ENTRIES};
