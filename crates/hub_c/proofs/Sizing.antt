@@ -51,10 +51,6 @@ pub ruleset sizes = (first-sized, second-sized, second-of-three)
 pub stored-whole : (a l m : List ℕ) → length l ≡ length a → m ≡ sets l 0 a → m ≡ a
 stored-whole a l m e p = p ∙ sets-whole a l e
 
--- What is made of a value, where the value is known.
-pub told : {A B : Type 0} (f : A → B) (a b : A) (s : B) → a ≡ b → s ≡ f b → s ≡ f a
-told f a b s p q = rw p q
-
 -- What the cutter answers is put into words.
 module _ (F : ℕ) (R : List ℕ) (i : ℕ) (k : Cutting) (answered : k ≡ cutting F (length R) i) where
   pub cut-judged : k .refusal ≡ cutRefusal F (length R) i

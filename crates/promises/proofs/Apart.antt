@@ -1,7 +1,6 @@
 -- SPDX-License-Identifier: MPL-2.0
 -- Two answers of different kinds are not the same: `cc` makes 0 ≡ 1 of an equation between them, and from that anything follows.
-use Rattle.laws.proofs.Kit.{ℕ, _≡_, cond, eqb, eqb-true, arith}
-use Rattle.laws.proofs.Cases.{on}
+use Rattle.laws.proofs.Kit.{ℕ, _≡_, arith}
 use Rattle.joining.specs.declared.Arrival.{Arrival}
 use Rattle.joining.specs.declared.Arrival.the-variants.{Refused, Taken, Repeat, Complete}
 use Rattle.hub.specs.declared.Answer.the-variants.{Reply, Failure}
@@ -9,11 +8,6 @@ use Rattle.hub.specs.Answers.{answerOf}
 
 pub apart : {A : Type 0} → _≡_ {A = ℕ} 0 1 → A
 apart z = absurd (omega arith)
-
--- What was answered is no refusal, so nothing was refused.
-pub unrefused : {A : Type 0} (n : ℕ) (done refused : A) {answer : A} → cond (eqb n 0) done refused ≡ answer → (refused ≡ answer → ⊥)
-    → (n ≡ 0) × (done ≡ answer)
-unrefused n done refused e f = on (eqb n 0) (λ z. (eqb-true n 0 z, rw z at e)) (λ z. absurd (f (rw z at e)))
 
 -- What a piece is answered is no reply and no Failure.
 pub arrival-apart : (a : Arrival) → ((t : ℕ) → answerOf a ≡ Reply t → ⊥) × (answerOf a ≡ Failure → ⊥)

@@ -11,7 +11,6 @@ use Rattle.payloads.specs.Reading.{readRequest, certificateOf}
 use Rattle.wire.specs.declared.header.Header.{Header}
 use Rattle.sha256.specs.Digests.{digest}
 use Rattle.seal.specs.Padding.{padding, sealedSize}
-use Rattle.message.specs.declared.reading.FoundMessage.{FoundMessage}
 use Rattle.message.specs.Writing.{lengthOf, writeRefusal, messageBytes}
 use Rattle.joining.specs.Cut.{badSize}
 use Rattle.hub.specs.declared.Connection.{Connection}
@@ -118,11 +117,7 @@ finish-same =
 
 -- One message is read in one way.
 one-reading : (h g : Header) (p q m keys w : List ℕ) → ReadAs h p m keys w → ReadAs g q m keys w → h ≡ g
-one-reading h g p q m keys w r t =
-    let a = r .reads in
-    let b = t .reads in
-    let e : r .found ≡ t .found = cc in
-    sym (r .header) ∙ ap (λ (f : FoundMessage). f .header) e ∙ t .header
+one-reading h g p q m keys w r t = sym (r .header) ∙ t .header
 
 module _ (F : ℕ) (keys report : List ℕ) (sized : badSize F ≡ false) (of-keys : AreBytes keys) (whole : length keys ≡ 64) where
   abbrev callWith : Header → (chain bytes : List ℕ) → Call

@@ -2,30 +2,43 @@
 -- What a payload writer wrote is the bytes of its format, accepted, and it says the values that were given (`payload-back`, over any format). A
 -- reader of a field that is free gives one of these values; of one that is fixed, a byte of the bytes.
 use Rattle.laws.proofs.Kit.{ℕ, _+_, _≤_, _≡_, refl, sym, _∙_, ap, subst, Bool, true, false, true≢false, _&&_, List, length, take-append-seam, eqb}
-use Rattle.laws.proofs.Kit.{leb, eqb-true, eq-eqb, le-ltb, lit<, arith}
+use Rattle.laws.proofs.Kit.{leb, eqb-true, eqb-false, eq-eqb, not, le-ltb, lit<, arith}
+use Rattle.laws.proofs.Cases.{on}
 use Rattle.laws.specs.Bytes.{be8, be16, bytesAt}
 use Rattle.laws.proofs.Bools.{and-true}
 use Rattle.laws.proofs.Parts.{bytesAt-part}
-use Rattle.payloads.specs.Format.{Format, Values, _and_, write, acceptsFrom, readFrom, accepts, read}
+use Rattle.payloads.specs.Format.{Format, Values, _and_, fits, write, acceptsFrom, readFrom, accepts, read}
 use Rattle.payloads.specs.Shapes.{either, presenceRequest, connectionRequest, deviceAuthentication, doneRequest, doneResponse, badPayload}
 use Rattle.payloads.specs.Reading.{connectionMode, connectType, codeOf, readRequest, sizedAt, certificateOf, thumbprintOf}
 use Rattle.payloads.specs.declared.reading.Request.{Request}
 use Rattle.payloads.proofs.Formats.{write-back}
 use Rattle.payloads.proofs.Shaped.{shape-good}
+use Rattle.writer.specs.Answers.{wrote}
 use Rattle.writer.specs.Written.{putRefusal, written, output}
-use Rattle.writer.specs.Payload.{exchangeValues, responseFormat, responseValues}
+use Rattle.writer.specs.Payload.{payloadWritten, exchangeValues, responseFormat, responseValues}
+use Rattle.writer.specs.declared.Written.the-variants.{Bytes}
 use Rattle.writer.proofs.PayloadBack.{payload-back}
 use Rattle.promises.specs.Fields.{WrotePayload, partOf, FieldsBack, CanBeWritten, OnlyWritten}
 
 module _ (f : Format) (v : Values f) (p : List ℕ) (w : WrotePayload f v p) where
+  -- Nothing was refused.
+  answered : payloadWritten f v (w .output) ≡ Bytes (wrote (payloadWritten f v (w .output)) .size)
+  unfolding written
+  answered =
+      let n = putRefusal (not (fits f v)) (length (write f v)) (length (w .output)) in
+      on (eqb n 0) (λ e. rw e) (λ e. absurd (eqb-false n 0 e (rw e at (w .accepted))))
+
+  back : (p ≡ write f v) × (accepts f (write f v) ≡ true) × (read f (write f v) ≡ v)
+  back = let k = payload-back f v (w .output) _ answered in (w .bytes ∙ k .0, k .1, k .2)
+
   is : p ≡ write f v
-  is = w .bytes ∙ payload-back f v (w .output) (w .size) (w .answered) .0
+  is = back .0
 
   accepted : accepts f p ≡ true
-  accepted = rw is (payload-back f v (w .output) (w .size) (w .answered) .1)
+  accepted = rw is (back .1)
 
   says : read f p ≡ v
-  says = rw is (payload-back f v (w .output) (w .size) (w .answered) .2)
+  says = rw is (back .2)
 
 presence : (p : List ℕ) → WrotePayload presenceRequest tt p → badPayload 1 false p ≡ false
 presence p w = shape-good p 0 (lit< tt) (accepted _ _ p w)
@@ -120,8 +133,7 @@ can-be-written f v h =
     let roomy = le-ltb n n (omega arith) in
     record {
       output = write f v;
-      size = n;
-      answered = rw (h, roomy);
+      accepted = rw (h, roomy);
       bytes = rw (h, roomy) (sym (take-append-seam (write f v) _));
     }
 

@@ -7,6 +7,7 @@ use Rattle.message.specs.Handed.{partOf, placeOf, payload}
 use Rattle.message.specs.declared.reading.FoundMessage.{FoundMessage}
 use Rattle.message.specs.declared.reading.MessageRead.the-variants.{Read}
 use Rattle.message.proofs.Told.{handed-refused, message-refused, read-lies, length-workingAfter}
+use Rattle.promises.proofs.ReaderNumber.{foundIn, read-found}
 use Rattle.promises.specs.Refusals.{sealed}
 use Rattle.promises.specs.Handed.{LiesIn, left, PayloadHanded}
 
@@ -22,7 +23,9 @@ payload-handed m keys working = (
   λ n e.
       let r = message-refused m keys (length working) n e in
       (ap placeOf r, ap (payload m (left m keys working)) r ∙ handed-refused m (left m keys working) n),
-  λ f r.
+  λ a.
+      let f = foundIn m keys in
+      let r = read-found m keys (length working) a in
       let l = read-lies m keys (length working) f r in
       let s : f .sealed ≡ sealed m = l .sealed ∙ ap (λ (h : Header). isSealed (h .flags)) (l .is) in
       let fits : f .from + f .size ≤ cond (sealed m) (length (left m keys working)) (length m) =

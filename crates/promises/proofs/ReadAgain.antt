@@ -1,6 +1,6 @@
 -- SPDX-License-Identifier: MPL-2.0
 -- A message that was read is read alike with another working buffer that is long enough: only 12 looks at it.
-use Rattle.laws.proofs.Kit.{ℕ, _≤_, _≡_, sym, _∙_, ap, true, cond, List, length, le-ltb}
+use Rattle.laws.proofs.Kit.{ℕ, _≤_, _≡_, sym, _∙_, true, cond, List, length, le-ltb}
 use Rattle.laws.proofs.Cases.{on}
 use Rattle.laws.proofs.Firsts.{neither}
 use Rattle.wire.specs.Chain.{leaves}
@@ -18,16 +18,11 @@ use Rattle.message.proofs.HandedBack.{handed-opened}
 use Rattle.message.proofs.Told.{read-lies}
 use Rattle.promises.specs.Refusals.{sealed, start}
 use Rattle.promises.specs.Written.{ReadAs}
-use Rattle.promises.proofs.Apart.{apart, unrefused}
-use Rattle.promises.proofs.ReaderNumber.{whatIsRead, early, readerNumber, read-by-number}
+use Rattle.promises.proofs.ReadBack.{as-read}
+use Rattle.promises.proofs.ReaderNumber.{foundIn, whatIsRead, early, readerNumber, read-by-number, number-found, read-found}
 
 module _ (m keys : List ℕ) where
-  -- Where a message was read, nothing was refused.
-  read-none : (room : ℕ) (f : FoundMessage) → readMessage m keys room ≡ Read f
-      → (readerNumber m keys room ≡ 0) × (whatIsRead m keys ≡ Read f)
-  read-none room f r = unrefused (readerNumber m keys room) _ _ (sym (read-by-number m keys room) ∙ r) (λ e. apart (cc))
-
-  -- Nor is anything with another working buffer that is long enough.
+  -- Where nothing was refused, nothing is with another working buffer that is long enough.
   other-none : (room other : ℕ) → readerNumber m keys room ≡ 0 → (sealed m ≡ true → length (sealedPart m (start m)) ≤ other)
       → readerNumber m keys other ≡ 0
   unfolding openRefusal partRefusal
@@ -53,12 +48,8 @@ read-header m keys w f r = sym (read-lies m keys (length w) f r .is)
 pub read-again : (h : Header) (bytes m keys w v : List ℕ) → ReadAs h bytes m keys w
     → (sealed m ≡ true → length (sealedPart m (start m)) ≤ length v) → ReadAs h bytes m keys v
 read-again h bytes m keys w v r room =
-    let a = read-none m keys (length w) (r .found) (r .reads) in
-    let z = other-none m keys (length w) (length v) (a .0) room in
-    record {
-      found = r .found;
-      reads = read-by-number m keys (length v) ∙ rw z (a .1);
-      header = r .header;
-      handed = ap (payload m (workingAfter m keys v)) (sym (a .1)) ∙ handed-alike m keys v z ∙ sym (handed-alike m keys w (a .0))
-          ∙ ap (payload m (workingAfter m keys w)) (a .1) ∙ r .handed;
-    }
+    let a = sym (number-found m keys (length w)) ∙ r .accepted in
+    let z = other-none m keys (length w) (length v) a room in
+    let e = read-found m keys (length w) (r .accepted) in
+    as-read h bytes m keys v (foundIn m keys) (read-by-number m keys (length v) ∙ rw z) (rw e at (r .header))
+    (handed-alike m keys v z ∙ sym (handed-alike m keys w a) ∙ rw e at (r .handed))

@@ -1,6 +1,6 @@
 -- SPDX-License-Identifier: MPL-2.0
 -- Demand 2's conversation: what was read in an enrolment step's message is known until a Failure, and who asks for the same step is known too.
-use Rattle.laws.proofs.Kit.{ℕ, _≡_, refl, _∙_, ap, List, [], _∷_}
+use Rattle.laws.proofs.Kit.{ℕ, _≡_, refl, _∙_, ap, List, [], _∷_, length}
 use Rattle.wire.specs.declared.header.Header.{Header}
 use Rattle.message.specs.Reading.{workingAfter}
 use Rattle.message.specs.Handed.{payload}
@@ -14,7 +14,8 @@ use Rattle.hub.proofs.StepMachine.{still}
 use Rattle.hub.proofs.Telling.{said-apart}
 use Rattle.promises.specs.Enrolment.{NoFailure, SameStep, Content, RepeatedStep, RepeatedBytes}
 use Rattle.promises.proofs.Apart.{apart}
-use Rattle.promises.proofs.ReadBack.{step-hears}
+use Rattle.promises.proofs.ReadBack.{as-read, step-hears}
+use Rattle.promises.proofs.ReaderNumber.{read-found}
 use Rattle.promises.proofs.ReadAgain.{read-again}
 use Rattle.promises.proofs.StateKept.{step-kept}
 use Rattle.promises.proofs.RepeatKnown.{Known, still-known, same-known, again, hear-replied}
@@ -29,7 +30,7 @@ content p x t =
     record {
       header = f .header;
       payload = payload (x .message) (workingAfter (x .message) (x .keys) (x .working)) (Read f);
-      reads = record { found = f; reads = r; header = refl; handed = refl };
+      reads = as-read (f .header) _ (x .message) (x .keys) (x .working) f r refl refl;
     })
 
 -- and what was read is known since.
@@ -38,7 +39,8 @@ replied p x t k =
     step-tests (p .connection) (x .message) (x .keys) (x .working) (p .report) (x .verdict)
     (λ s b. s .answer ≡ Reply t → Known (s .connection) (k .header) (k .payload) t) (λ o e. apart (cc)) (λ o z e. apart (cc))
     (λ o z.
-    rw (k .reads .reads, k .reads .handed, k .reads .header)
+    let e = read-found (x .message) (x .keys) (length (x .working)) (k .reads .accepted) in
+    rw (e, rw e at (k .reads .handed), rw e at (k .reads .header))
     (hear-replied (p .connection) z (k .header) (k .payload) (p .report) (x .verdict) t))
 
 known-since : (h : Header) (bytes : List ℕ) (t : ℕ) (p : Standing) → Known (p .connection) h bytes t → (xs : List Call) → NoFailure p xs

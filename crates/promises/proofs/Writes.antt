@@ -32,8 +32,7 @@ wrote h chain bytes keys widths of-chain of-bytes of-keys good =
       of-payload = of-bytes;
       of-keys = of-keys;
       output = replicate n 0;
-      size = n;
-      answered = rw (k, good);
+      accepted = rw (k, good);
       bytes = rw (k, good) (sym (take-at (messageBytes h chain bytes keys) (drop n (replicate n 0)) n (length-messageBytes h chain bytes keys)));
     }
 

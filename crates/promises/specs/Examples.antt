@@ -8,18 +8,12 @@ use Rattle.field.specs.Sbox.{sbox}
 use Rattle.wire.specs.Examples.{p1}
 use Rattle.seal.specs.Padding.{sealedSize}
 use Rattle.message.specs.Reading.{readMessage}
-use Rattle.message.specs.declared.reading.MessageRead.{MessageRead}
-use Rattle.message.specs.declared.reading.MessageRead.the-variants.{Refused, Read}
+use Rattle.message.specs.Answers.{foundMessage}
 use Rattle.joining.specs.Cut.{cutCount, cutPiece}
 
--- The number of the reader's refusal; 0 where the message is accepted.
-abbrev pub numberOf : MessageRead → ℕ
-numberOf (Refused n) = n
-numberOf (Read f) = 0
-
--- What a message gets without keys and without a working buffer.
+-- What a message gets without keys and without a working buffer: the number of its refusal, 0 where it is accepted.
 abbrev pub gets : List ℕ → List ℕ
-gets m = numberOf (readMessage m [] 0) ∷ []
+gets m = foundMessage (readMessage m [] 0) .refusal ∷ []
 
 -- The lengths of the first n pieces.
 abbrev pub firstPieces : ℕ → ℕ → ℕ → List ℕ

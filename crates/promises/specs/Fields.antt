@@ -14,14 +14,13 @@ use Rattle.payloads.specs.Reading.{connectionMode, connectType, codeOf, readReq
 use Rattle.payloads.specs.declared.reading.Request.{Request}
 use Rattle.payloads.specs.declared.reading.Place.{Place}
 use Rattle.writer.specs.Payload.{payloadWritten, payloadOutput, exchangeValues, responseFormat, responseValues}
-use Rattle.writer.specs.declared.Written.the-variants.{Bytes}
+use Rattle.writer.specs.Answers.{wrote}
 
--- A payload writer, given the values of its format, answered how many bytes it wrote, and `p` is that many first bytes of its output.
+-- A payload writer, given the values of its format, refused nothing, and `p` is so many first bytes of its output as it answered.
 pub record WrotePayload (f : Format) (v : Values f) (p : List ℕ) : Type 0 where
   pub output : List ℕ
-  pub size : ℕ
-  pub answered : payloadWritten f v output ≡ Bytes size
-  pub bytes : p ≡ take size (payloadOutput f v output)
+  pub accepted : wrote (payloadWritten f v output) .refusal ≡ 0
+  pub bytes : p ≡ take (wrote (payloadWritten f v output) .size) (payloadOutput f v output)
 
 -- The bytes of a payload at a place.
 abbrev pub partOf : List ℕ → Place → List ℕ

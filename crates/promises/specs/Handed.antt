@@ -10,9 +10,7 @@ use Rattle.wire.specs.Answers.{nothing}
 use Rattle.message.specs.Answers.{foundMessage}
 use Rattle.message.specs.Handed.{Place, placeOf, payload}
 use Rattle.message.specs.Reading.{readMessage, workingAfter}
-use Rattle.message.specs.declared.reading.FoundMessage.{FoundMessage}
 use Rattle.message.specs.declared.reading.MessageRead.{MessageRead}
-use Rattle.message.specs.declared.reading.MessageRead.the-variants.{Read}
 use Rattle.promises.specs.Refusals.{sealed}
 
 -- The bytes are those of a buffer, at this place, which lies in it; 0 is the message, 1 the working buffer.
@@ -42,5 +40,5 @@ PayloadHanded =
     (m keys working : List ℕ)
     → ((n : ℕ) → foundMessage (read m keys working) ≡ nothing n
     → (placeOf (read m keys working) ≡ record { buffer = 0; from = 0; size = 0 }) × (handedOut m keys working ≡ []))
-    × ((f : FoundMessage) → read m keys working ≡ Read f
+    × (foundMessage (read m keys working) .refusal ≡ 0
     → LiesIn (cond (sealed m) 1 0) (cond (sealed m) (left m keys working) m) (placeOf (read m keys working)) (handedOut m keys working))

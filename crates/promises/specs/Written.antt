@@ -9,38 +9,35 @@ use lib.ListN.{length, take}
 use Rattle.laws.specs.Bytes.{AreBytes}
 use Rattle.wire.specs.Fields.{isSealed}
 use Rattle.wire.specs.declared.header.Header.{Header}
-use Rattle.writer.specs.declared.Written.the-variants.{Bytes}
+use Rattle.writer.specs.Answers.{wrote}
 use Rattle.seal.specs.Padding.{sealedSize}
+use Rattle.message.specs.Answers.{foundMessage}
 use Rattle.message.specs.Reading.{readMessage, workingAfter}
 use Rattle.message.specs.Handed.{payload}
 use Rattle.message.specs.Writing.{writeAnswer, writtenInto}
-use Rattle.message.specs.declared.reading.FoundMessage.{FoundMessage}
-use Rattle.message.specs.declared.reading.MessageRead.the-variants.{Read}
 use Rattle.joining.specs.Cut.{badSize}
 use Rattle.hub.specs.declared.Connection.{Connection}
 use Rattle.hub.specs.Hear.{hear, reportHeard}
 use Rattle.hub.specs.Step.{step, reportStepped}
 use Rattle.message.specs.Widths.{InWidth}
 
--- The writer, called with these fields, this chain, payload and keys, answered a length, and `message` is that many first bytes of its
--- output. (The fields have their widths and the lists are bytes: what the call's types say.)
+-- The writer, called with these fields, this chain, payload and keys, refused nothing, and `message` is so many first bytes of its output as
+-- it answered. (The fields have their widths and the lists are bytes: what the call's types say.)
 pub record Wrote (h : Header) (chain payload keys message : List ℕ) : Type 0 where
   pub widths : InWidth h
   pub of-chain : AreBytes chain
   pub of-payload : AreBytes payload
   pub of-keys : AreBytes keys
   pub output : List ℕ
-  pub size : ℕ
-  pub answered : writeAnswer h chain payload (length keys) (length output) ≡ Bytes size
-  pub bytes : message ≡ take size (writtenInto h chain payload keys output)
+  pub accepted : wrote (writeAnswer h chain payload (length keys) (length output)) .refusal ≡ 0
+  pub bytes : message ≡ take (wrote (writeAnswer h chain payload (length keys) (length output)) .size) (writtenInto h chain payload keys output)
 
--- The reader, called with this message, these keys and this working buffer, answered these fields and where the payload lies, and there the
--- choosing function finds these bytes.
+-- The reader, called with this message, these keys and this working buffer, refused nothing and found these fields; and by its answer the
+-- choosing function hands out these bytes.
 pub record ReadAs (h : Header) (bytes message keys working : List ℕ) : Type 0 where
-  pub found : FoundMessage
-  pub reads : readMessage message keys (length working) ≡ Read found
-  pub header : found .header ≡ h
-  pub handed : payload message (workingAfter message keys working) (Read found) ≡ bytes
+  pub accepted : foundMessage (readMessage message keys (length working)) .refusal ≡ 0
+  pub header : foundMessage (readMessage message keys (length working)) .header ≡ h
+  pub handed : payload message (workingAfter message keys working) (readMessage message keys (length working)) ≡ bytes
 
 -- A working buffer that is long enough: a sealed payload's sealed part fits it; a plain one needs none.
 abbrev pub LongEnough : Header → (payload working : List ℕ) → Type 0
