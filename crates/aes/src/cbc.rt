@@ -179,11 +179,10 @@ pub fn cbc_encrypt_one(keys: [[u8; 16]; 11], block: [u8; 16]) -> [u8; 16]
     b
 }
 
-// Decrypts the source into the front of the target. False, with the target left alone, where the source is not whole blocks or the target
-// is shorter.
-pub fn cbc_decrypt(keys: [[u8; 16]; 11], vector: [u8; 16], source: &[u8], target: &mut [u8]) -> bool
+// The source, decrypted into the front of the target if it is whole blocks and the target is long enough.
+fn decrypt_whole(keys: &[[u8; 16]; 11], vector: [u8; 16], source: &[u8], target: &mut [u8]) -> bool
     ensures { λ r. ⌜ r ≡ fits (now (source .entry)) (now (target .entry)) ⌝ }
-    ensures { λ _. ⌜ now (target .exit) ≡ written (now (source .entry)) (cbcDecrypt keys vector (now (source .entry)))
+    ensures { λ _. ⌜ now (target .exit) ≡ written (now (source .entry)) (cbcDecrypt (now (keys .entry)) vector (now (source .entry)))
         (now (target .entry)) ⌝ }
 {
     if !fit(source.len(), target.len()) {
@@ -192,9 +191,19 @@ pub fn cbc_decrypt(keys: [[u8; 16]; 11], vector: [u8; 16], source: &[u8], target
     let sb = substitution();
     let isb = inverse_substitution();
     let t = unmixing();
-    let inverse = inverse_keys(&keys, &sb, &t);
-    decrypt_blocks(&keys, &inverse, &isb, &t, words(vector), source, target);
+    let inverse = inverse_keys(keys, &sb, &t);
+    decrypt_blocks(keys, &inverse, &isb, &t, words(vector), source, target);
     true
+}
+
+// Decrypts the source into the front of the target. False, with the target left alone, where the source is not whole blocks or the target
+// is shorter.
+pub fn cbc_decrypt(keys: [[u8; 16]; 11], vector: [u8; 16], source: &[u8], target: &mut [u8]) -> bool
+    ensures { λ r. ⌜ r ≡ fits (now (source .entry)) (now (target .entry)) ⌝ }
+    ensures { λ _. ⌜ now (target .exit) ≡ written (now (source .entry)) (cbcDecrypt keys vector (now (source .entry)))
+        (now (target .entry)) ⌝ }
+{
+    decrypt_whole(&keys, vector, source, target)
 }
 
 // The sum of two blocks.
@@ -225,7 +234,7 @@ pub fn cbc_decrypt_ends(
     let mut plain = [0u8; 32];
     put(&mut chain, 0, first);
     put(&mut chain, 16, last);
-    cbc_decrypt(keys, vector, &chain, &mut plain);
+    decrypt_whole(&keys, vector, &chain, &mut plain);
     let end = sum(front(&plain[16..]), first);
     Ends {
         first: front(&plain),
