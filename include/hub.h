@@ -58,8 +58,8 @@
  * Each call returns a number: HUB_DONE (0); or the number of a refusal in document 01 (1 to 25), which is the first row of document 01's table
  * that applies, in the order given with the call; or HUB_WRONG_BUFFER (255). (hub_same_tag and hub_version return what is said there.)
  *
- * On a refusal, 1 to 25, bytes are as they were and words are 0: every byte of every buffer is exactly as it was before, and every word that the
- * call hands out (header, length, answer, piece) is 0. What a call does otherwise its "On refusal" names. No call that is done hands out zeros
+ * On a refusal, 1 to 25, every byte of every buffer is exactly as it was before, and every word that the call hands out (header, length, answer,
+ * piece) is 0. What a call does otherwise its "On refusal" names. No call that is done hands out zeros
  * alone, but for hub_payload.
  *
  * On HUB_WRONG_BUFFER every buffer is exactly as it was before, each byte and each word of it.
@@ -300,7 +300,7 @@ uint8_t hub_same_tag(const uint8_t *a, size_t a_n, const uint8_t *b, size_t b_n)
  * On done   header holds the fields, and by HUB_FROM and HUB_SIZE where in the message the payload lies (HUB_SEALED is HUB_PLAIN) or, for a sealed
  *           message, its sealed part (HUB_STILL_SEALED). Given to hub_payload, the words of a sealed message answer 0, 0, 0: they name no payload.
  * On refusal header is all zero: an empty header, and the empty part at the message's start.
- * Proved    the contract (`readHeader` in crates/wire/specs/Reader.antt, whose rows are ReaderExact's 1 to 9; `foundHeader` in
+ * Proved    HeaderExact; the contract (`readHeader` in crates/wire/specs/Reader.antt; `foundHeader` in
  *           crates/wire/specs/Answers.antt).
  */
 HUB_ANSWER_MATTERS
@@ -337,7 +337,8 @@ uint8_t hub_read(const uint8_t *message, size_t message_n, const uint8_t *keys, 
  * Returns   HUB_DONE, HUB_WRONG_BUFFER (header or place).
  * On done   place holds the buffer (0 message, 1 working), the payload's start in it and its length; or 0, 0, 0, the empty part at the message's
  *           start, where header names a part that the buffer does not have, or HUB_SEALED is neither HUB_PLAIN nor HUB_OPENED. So after a
- *           refused hub_read, and for the words that hub_read_header wrote of a sealed message, it is 0, 0, 0.
+ *           refused hub_read, and for the words that hub_read_header wrote of a sealed message, it is 0, 0, 0. A part of working is the payload
+ *           until the next call that is lent working to write.
  * Proved    PlaceHanded: by the words of hub_read it is the part that document 01's choosing function hands out, on a refusal too (`payload` in
  *           crates/message/specs/Handed.antt). PlaceUnopened: what it is by the words of hub_read_header.
  */
@@ -377,7 +378,7 @@ uint8_t hub_write(const uint64_t *fields, size_t fields_n, const uint8_t *chain,
  * Returns   HUB_DONE, HUB_WRONG_BUFFER (state), 24.
  * On done   state holds the connection.
  * On refusal 24 state is all zero, which hub_step refuses with 24.
- * Proved    OpenerExact; what state holds is the contract (`opened` in crates/hub/specs/Opening.antt).
+ * Proved    OpenerExact, Opens.
  */
 HUB_ANSWER_MATTERS
 uint8_t hub_open(uint64_t fragment_size, uint8_t *state, size_t state_n);
@@ -404,7 +405,7 @@ uint8_t hub_open(uint64_t fragment_size, uint8_t *state, size_t state_n);
  *           HUB_AGAIN and HUB_REPEAT state too. The first bytes of working hold the opened sealed part of a sealed message.
  * On refusal answer is 0, 0, 0 (HUB_REFUSED); state and report are as they were. So is working for 1 to 13, 24 and 25; for the others its first
  *           bytes hold the opened sealed part of a sealed message.
- * Proved    StepExact, LeavesAlone, WorkingBuffer, StepsByState, RepeatedStep, HeardCount, DemandThree.
+ * Proved    StepExact, LeavesAlone, WorkingBuffer, StepsByState, RepeatedStep, RepeatedBytes, OnlyByZero, HeardCount, DemandThree.
  */
 HUB_ANSWER_MATTERS
 uint8_t hub_step(uint8_t *state, size_t state_n, const uint8_t *message, size_t message_n, const uint8_t *keys, size_t keys_n, uint8_t *working,

@@ -76,10 +76,11 @@ static void take(const uint8_t *message, size_t message_n)
     uint8_t done[4] = {0, 0, HUB_DONE_RESPONSE, 0}, reply[HUB_MOST_MESSAGE];
 
     printf("%4u bytes: ", (unsigned)message_n);
-    switch (answer[HUB_ANSWER_KIND]) {
-    case HUB_REFUSED: /* every word that a refused call hands out is 0 */
+    if (refusal != HUB_DONE) {
         printf("refused %u\n", (unsigned)refusal);
-        break;
+        return;
+    }
+    switch (answer[HUB_ANSWER_KIND]) {
     case HUB_REPLY:
     case HUB_AGAIN:
         printf("reply of type %u", (unsigned)answer[HUB_ANSWER_VALUE]);

@@ -70,6 +70,8 @@ function take_claims(clause,    binder, part, n, i) {
     binder = substr(binder, 1, index(binder, ".") - 1)
     clause = substr(clause, index(clause, "⌜ ") + length("⌜ "))
     clause = substr(clause, 1, length(clause) - length(" ⌝"))
+    # Parts of a product alone: no premise, no choice, no claim within a claim, nothing that there merely is.
+    if (clause ~ /→|⊎|∨|∃|Σ|⌜|\([A-Za-z_ ]+ : /) return
     n = parts(clause, "×", part)
     for (i = 1; i <= n; i++) {
         while (substr(part[i], 1, 1) == "(" && closed(part[i], 1, "(", ")") == length(part[i]) + 1)

@@ -27,7 +27,7 @@ abbrev pub reportRead : Connection → List ℕ → List ℕ → List ℕ → Me
 reportRead c message working report (Refused n) = report
 reportRead c message working report (Read f) = reportHeard c (f .header) (payload message working (Read f)) report
 
--- 25: "verdict not 0 or 1"; 24: "F outside 1 to 16,384 … in the connection given to a step"; 0 is neither. Both come before the message
+-- 25: "verdict not 0 or 1"; 24: "F outside 1 to 16,384 … in the connection given to a step". Both come before the message
 -- is looked at.
 abbrev pub unready : Connection → ℕ → Bool
 unready c verdict = ltb 1 verdict || badSize (c .size)

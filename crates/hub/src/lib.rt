@@ -9,7 +9,10 @@ ghost use Rattle.hub.specs.Opening.{blank, opened};
 ghost use Rattle.hub.specs.Answers.{said, answerOf};
 use joining::Arrival;
 use joining::Progress;
+use joining::answer::COMPLETE;
+use joining::answer::REPEAT;
 use joining::answer::Said;
+use joining::answer::TAKEN;
 use wire::refusals;
 
 // What the hub remembers of a gateway. It goes through a step as a value and comes back as one.
@@ -62,6 +65,13 @@ pub enum Answer {
     Complete { length: usize, heard: usize },
 }
 
+// The kinds of a step's answers that a piece's have not.
+pub const REPLY: u64 = 1;
+
+pub const AGAIN: u64 = 2;
+
+pub const FAILURE: u64 = 3;
+
 // The Status of the reply of type 7; a reply of another type has none, and 0 stands there too.
 const DONE_STATUS: u64 = 0;
 
@@ -90,18 +100,22 @@ impl Answer {
         }
     }
 
-    // Number and values of what a step answers: kind 1 Reply, 2 Again, 3 Failure, 4 Taken, 5 Repeat, 6 Complete.
+    // Number and values of what a step answers.
     pub fn said(self) -> Said
         ensures { λ r. ⌜ r ≡ said self ⌝ }
     {
         match self {
             Answer::Refused(n) => Said::refused(n),
-            Answer::Reply(connect) => Said::words(1, connect as u64, DONE_STATUS),
-            Answer::Again(connect) => Said::words(2, connect as u64, DONE_STATUS),
-            Answer::Failure => Said::words(3, 0, 0),
-            Answer::Taken(heard) => Said::words(4, heard as u64, 0),
-            Answer::Repeat(heard) => Said::words(5, heard as u64, 0),
-            Answer::Complete { length, heard } => Said::words(6, heard as u64, length as u64),
+            Answer::Reply(connect) => Said::words(REPLY, connect as u64, DONE_STATUS),
+            Answer::Again(connect) => Said::words(AGAIN, connect as u64, DONE_STATUS),
+            Answer::Failure => Said::words(FAILURE, 0, 0),
+            Answer::Taken(heard) => Said::words(TAKEN, heard as u64, 0),
+            Answer::Repeat(heard) => Said::words(REPEAT, heard as u64, 0),
+            Answer::Complete { length, heard } => Said::words(
+                COMPLETE,
+                heard as u64,
+                length as u64,
+            ),
         }
     }
 }

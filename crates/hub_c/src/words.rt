@@ -5,7 +5,7 @@ ghost use mathlib.Core.List.{_∷_, []};
 ghost use lib.ListN.{getD, length};
 ghost use lib.Seq.{sets};
 
-// The number of a call that was lent a buffer of the wrong size.
+// The number of a call that was lent a buffer of the wrong size, or a word too wide for its field.
 pub(crate) const WRONG_BUFFER: u8 = 255;
 
 // The words of a place, of an answer and of a piece.

@@ -4,11 +4,18 @@ ghost use mathlib.Core.Path.{_≡_};
 ghost use Rattle.joining.specs.Answers.{words, refused, arrived};
 use super::Arrival;
 
+// The kinds of a piece's answers; a refusal is 0, and a step has 1 to 3 besides.
+pub const TAKEN: u64 = 4;
+
+pub const REPEAT: u64 = 5;
+
+pub const COMPLETE: u64 = 6;
+
 // An answer's number and values. A value that its case does not have is 0, and beside a refusal all is 0.
 pub struct Said {
     // The refusal's number, 0 where there is none.
     pub refusal: u8,
-    // 0 Refused, 4 Taken, 5 Repeat, 6 Complete; a step has 1 to 3 besides.
+    // Which case it is: 0 Refused, 1 Reply, 2 Again, 3 Failure, 4 Taken, 5 Repeat, 6 Complete.
     pub kind: u64,
     // How many different pieces have come; of a reply its Connect type.
     pub value: u64,
@@ -49,9 +56,13 @@ impl Arrival {
     {
         match self {
             Arrival::Refused(n) => Said::refused(n),
-            Arrival::Taken(heard) => Said::words(4, heard as u64, 0),
-            Arrival::Repeat(heard) => Said::words(5, heard as u64, 0),
-            Arrival::Complete { length, heard } => Said::words(6, heard as u64, length as u64),
+            Arrival::Taken(heard) => Said::words(TAKEN, heard as u64, 0),
+            Arrival::Repeat(heard) => Said::words(REPEAT, heard as u64, 0),
+            Arrival::Complete { length, heard } => Said::words(
+                COMPLETE,
+                heard as u64,
+                length as u64,
+            ),
         }
     }
 }

@@ -1,5 +1,5 @@
 -- SPDX-License-Identifier: MPL-2.0
--- The listing in turns: the listing of what is held makes so many steps as there is room for lines, and steps add up.
+-- The listing in turns: the listing of what is held makes as many steps as there is room for lines, and steps add up.
 use Rattle.laws.proofs.Kit.{ℕ, zero, suc, _+_, _/_, _≤_, _<_, _≡_, refl, sym, _∙_, ap, Bool, true, false, true≢false, List, [], _∷_, append-nil}
 use Rattle.laws.proofs.Kit.{append-assoc, length, take, drop, drop-drop, ltb, lt-ltb, le-ltb, ltb-true, ltb-false, add-zero, arith}
 use Rattle.laws.proofs.Cases.{on}

@@ -33,7 +33,7 @@ bytesOf two x = bytes16 x
 bytesOf four x = bytes32 x
 bytesOf eight x = bytes64 x
 
--- A field: always this number; a number that passes a test; so many bytes; bytes with their number before them, which has a least and a most.
+-- A field: always this number; a number that passes a test; bytes of this number; bytes with their number before them, which has a least and a most.
 pub data Field : Type 0 where
   fixed : (w : Width) (n : ℕ) → Field
   free : (w : Width) (allowed : ℕ → Bool) → Field

@@ -35,7 +35,7 @@ module _ (m keys : List ℕ) where
       (λ s. rw s (rw s at e))
 
   -- The payload is that of the plain text or a part of the message, whatever the working buffer held.
-  handed-alike : (w : List ℕ) → readerNumber m keys (length w) ≡ 0 → payload m (workingAfter m keys w) (whatIsRead m keys)
+  pub handed-alike : (w : List ℕ) → readerNumber m keys (length w) ≡ 0 → payload m (workingAfter m keys w) (whatIsRead m keys)
       ≡ cond (sealed m) (payloadOf (opened m keys (start m))) (partOf m (start m) (leaves (chainOf m)))
   unfolding payload workingAfter
   handed-alike w e =

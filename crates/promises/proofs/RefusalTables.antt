@@ -1,5 +1,5 @@
 -- SPDX-License-Identifier: MPL-2.0
--- Demand 1 for reader, cutter, opener and writer: each call's refusal is the first number of its table, and laws' both directions do the rest.
+-- Demand 1 for readers, cutter, opener and writer: each call's refusal is the first number of its table, and laws' both directions do the rest.
 use Rattle.laws.proofs.Kit.{ℕ, _+_, _-_, _≤_, _≡_, refl, sym, _∙_, ap, true, true≢false, cond, List, _++_, length, eqb, ne-eqb, eqb-true, le-ltb}
 use Rattle.laws.proofs.Kit.{lt-leb, arith}
 use Rattle.laws.specs.Bytes.{AreBytes, be8, be16}
@@ -7,10 +7,12 @@ use Rattle.laws.specs.Rows.{first, orElse}
 use Rattle.laws.proofs.Cases.{on}
 use Rattle.laws.proofs.Firsts.{first-append}
 use Rattle.wire.specs.Chain.{leaves}
-use Rattle.wire.specs.Reader.{chainOf, headerRows, rowsOf, refusalWith, refusalOf, headerFound}
+use Rattle.wire.specs.Reader.{chainOf, headerRows, rowsOf, refusalWith, refusalOf, headerFound, readHeader}
+use Rattle.wire.specs.declared.header.HeaderRead.the-variants as head
 use Rattle.wire.specs.declared.header.Header.{Header}
 use Rattle.wire.proofs.Reading.{read-good}
 use Rattle.wire.proofs.Sound as wire
+use Rattle.wire.proofs.Told.{header-refused, refused-header}
 use Rattle.seal.specs.Opening.{sealedPart, noPart, keyRows, tagRows, partRows, partRefusal, openRefusal}
 use Rattle.message.specs.Reading.{unless, payloadRows, readMessage}
 use Rattle.message.specs.Writing.{finishedLength, lengthOf, writeRefusal, writeAnswer}
@@ -23,7 +25,7 @@ use Rattle.joining.specs.Cut.{badSize, pieceCount, cutRefusal, cutCount}
 use Rattle.joining.specs.declared.cut.Cutting.{Cutting}
 use Rattle.hub.specs.declared.Opened.{Opened}
 use Rattle.hub.specs.Opening.{opened}
-use Rattle.promises.specs.Refusals.{sealed, start, headerTable, payloadIn, sealedTable, readerTable, ReaderExact}
+use Rattle.promises.specs.Refusals.{sealed, start, headerTable, payloadIn, sealedTable, readerTable, HeaderExact, ReaderExact}
 use Rattle.promises.specs.Refusals.{cutTable, CutRefused, CutterExact, openTable, notOpened, OpenerExact, Opens, writerTable}
 use Rattle.promises.specs.Refusals.{notWritten, WriterExact}
 use Rattle.promises.proofs.Apart.{apart}
@@ -86,6 +88,14 @@ writer-exact h chain payload keys room n =
 header-first : (m : List ℕ) → first (headerTable m) ≡ refusalOf m
 unfolding refusalOf refusalWith rowsOf headerRows
 header-first m = refl
+
+pub header-exact : HeaderExact
+unfolding readHeader
+header-exact m n =
+    let rows = headerTable m in
+    let e : readHeader m ≡ cond (eqb (first rows) 0) (head.Read (headerFound m)) (head.Refused (first rows)) = rw (header-first m) in
+    let k = answered-exactly n (head.Read (headerFound m)) head.Refused (λ e. apart (cc)) (λ m e. cc) rows refl in
+    (λ r. k .0 (sym e ∙ header-refused m n r), λ l. refused-header m n (e ∙ k .1 l))
 
 module _ (m keys : List ℕ) (room : ℕ) (bytes : AreBytes m) where
   -- What seal tests for itself never applies to what passed 1 to 9.

@@ -31,7 +31,7 @@ use Rattle.hub.specs.Step.{afterRead, step}
 use Rattle.hub.proofs.HostWays.{connect-cases}
 use Rattle.hub.proofs.StepCases.{connect-apart, hear-cases, step-tests}
 use Rattle.hub.proofs.QuietKeeps.{step-still}
-use Rattle.promises.specs.Refusals.{readerTable, anyOf, hostTable, handed, stepTable, StepExact, LeavesAlone}
+use Rattle.promises.specs.Refusals.{readerTable, anyOf, hostTable, handedOut, stepTable, StepExact, LeavesAlone}
 use Rattle.promises.proofs.ReaderNumber.{whatIsRead, early, readerNumber, read-by-number}
 use Rattle.promises.proofs.RefusalTables.{reader-first}
 use Rattle.promises.proofs.Exactly.{exactly}
@@ -104,7 +104,7 @@ module _ (c : Connection) (h : Header) (p b : List ℕ) (v : ℕ) where
 module _ (c : Connection) (m keys working report : List ℕ) (v : ℕ) where
   -- The rows after 14.
   abbrev later : List (ℕ × Bool)
-  later = hostTable c (headerOf m) (handed c m keys working report v) report v
+  later = hostTable c (headerOf m) (handedOut m keys working) report v
 
   read-number : badSize (c .size) ≡ false → number (afterRead c m (workingAfter m keys working) report v (readMessage m keys (length working)))
       ≡ orElse (readerNumber m keys (length working)) (first later)

@@ -16,7 +16,7 @@ use Rattle.payloads.specs.declared.reading.Place.{Place}
 use Rattle.writer.specs.Payload.{payloadWritten, payloadOutput, exchangeValues, responseFormat, responseValues}
 use Rattle.writer.specs.Answers.{wrote}
 
--- A payload writer, given the values of its format, refused nothing, and `p` is so many first bytes of its output as it answered.
+-- A payload writer, given the values of its format, refused nothing, and `p` is the first bytes of its output, as many as it answered.
 pub record WrotePayload (f : Format) (v : Values f) (p : List ℕ) : Type 0 where
   pub output : List ℕ
   pub accepted : wrote (payloadWritten f v output) .refusal ≡ 0

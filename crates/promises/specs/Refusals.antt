@@ -14,7 +14,7 @@ use Rattle.wire.specs.Fields.{badType, badFlags, badPiece, isSealed, tagSize}
 use Rattle.wire.specs.Chain.{leaves, isBroken, badChain}
 use Rattle.payloads.specs.Shapes.{badPayload}
 use Rattle.payloads.specs.Reading.{connectType, readRequest}
-use Rattle.wire.specs.Reader.{headerOf, chainOf}
+use Rattle.wire.specs.Reader.{headerOf, chainOf, readHeader}
 use Rattle.wire.specs.declared.header.Header.{Header}
 use Rattle.sha256.specs.Digests.{digest}
 use Rattle.seal.specs.Keys.{tagOf}
@@ -23,7 +23,7 @@ use Rattle.seal.specs.Opening.{bodyOf, tagIn, sealedPart}
 use Rattle.message.specs.Reading.{opened, readMessage, workingAfter}
 use Rattle.message.specs.Handed.{payload}
 use Rattle.message.specs.Answers.{foundMessage}
-use Rattle.wire.specs.Answers.{nothing}
+use Rattle.wire.specs.Answers.{nothing, foundHeader}
 use Rattle.message.specs.Writing.{lengthOf, writeAnswer}
 use Rattle.writer.specs.declared.Wrote.{Wrote}
 use Rattle.writer.specs.Answers.{wrote}
@@ -106,10 +106,18 @@ infixl 20 _⇔_
 abbrev pub _⇔_ : Type 0 → Type 0 → Type 0
 A ⇔ B = (A → B) × (B → A)
 
+-- The reader of headers: "Given exactly when", 1 to 9.
+abbrev pub HeaderExact : Type 0
+HeaderExact = (m : List ℕ) (n : ℕ) → (foundHeader (readHeader m) ≡ nothing n) ⇔ leads n (headerTable m)
+
 -- The reader: "Given exactly when".
 abbrev pub ReaderExact : Type 0
 ReaderExact =
     (m keys : List ℕ) (room n : ℕ) → AreBytes m → (foundMessage (readMessage m keys room) ≡ nothing n) ⇔ leads n (readerTable m keys room)
+
+-- What the choosing function hands out of a message and the working buffer, by what the reader answered.
+abbrev pub handedOut : (m keys working : List ℕ) → List ℕ
+handedOut m keys working = payload m (workingAfter m keys working) (readMessage m keys (length working))
 
 -- One of the sentences of "Host states" applies to a Connect message.
 abbrev pub anyOf : List (Bool × Stepped) → Bool
@@ -145,10 +153,6 @@ module _ (c : Connection) (h : Header) (payload report : List ℕ) (verdict : �
       ∷ []
 
 module _ (c : Connection) (m keys working report : List ℕ) (verdict : ℕ) where
-  -- The payload that is handed out by what the reader answered.
-  abbrev pub handed : List ℕ
-  handed = payload m (workingAfter m keys working) (readMessage m keys (length working))
-
   -- Rows 25 and 24, which come before the message is looked at.
   abbrev pub readyTable : List (ℕ × Bool)
   readyTable =
@@ -161,7 +165,7 @@ module _ (c : Connection) (m keys working report : List ℕ) (verdict : ℕ) whe
   -- "A step checks in this order, the first that applies being the answer: 25; 24; 1 to 9; for sealed messages 10 to 13; 14; 16; 15; then
   -- 19, 17, 18, 21, 20, 22, 23."
   abbrev pub stepTable : List (ℕ × Bool)
-  stepTable = readyTable ++ (readerTable m keys (length working) ++ hostTable c (headerOf m) handed report verdict)
+  stepTable = readyTable ++ (readerTable m keys (length working) ++ hostTable c (headerOf m) (handedOut m keys working) report verdict)
 
   -- The step: "Given exactly when".
   abbrev pub StepExact : Type 0

@@ -12,17 +12,17 @@ use Rattle.wire.specs.declared.header.Header.{Header}
 use Rattle.writer.specs.Answers.{wrote}
 use Rattle.seal.specs.Padding.{sealedSize}
 use Rattle.message.specs.Answers.{foundMessage}
-use Rattle.message.specs.Reading.{readMessage, workingAfter}
-use Rattle.message.specs.Handed.{payload}
+use Rattle.message.specs.Reading.{readMessage}
 use Rattle.message.specs.Writing.{writeAnswer, writtenInto}
 use Rattle.joining.specs.Cut.{badSize}
 use Rattle.hub.specs.declared.Connection.{Connection}
 use Rattle.hub.specs.Hear.{hear, reportHeard}
 use Rattle.hub.specs.Step.{step, reportStepped}
 use Rattle.message.specs.Widths.{InWidth}
+use Rattle.promises.specs.Refusals.{handedOut}
 
--- The writer, called with these fields, this chain, payload and keys, refused nothing, and `message` is so many first bytes of its output as
--- it answered. (The fields have their widths and the lists are bytes: what the call's types say.)
+-- The writer, called with these fields, this chain, payload and keys, refused nothing, and `message` is the first bytes of its output, as
+-- many as it answered. (The fields have their widths and the lists are bytes: what the call's types say.)
 pub record Wrote (h : Header) (chain payload keys message : List ℕ) : Type 0 where
   pub widths : InWidth h
   pub of-chain : AreBytes chain
@@ -37,7 +37,7 @@ pub record Wrote (h : Header) (chain payload keys message : List ℕ) : Type 0 w
 pub record ReadAs (h : Header) (bytes message keys working : List ℕ) : Type 0 where
   pub accepted : foundMessage (readMessage message keys (length working)) .refusal ≡ 0
   pub header : foundMessage (readMessage message keys (length working)) .header ≡ h
-  pub handed : payload message (workingAfter message keys working) (readMessage message keys (length working)) ≡ bytes
+  pub handed : handedOut message keys working ≡ bytes
 
 -- A working buffer that is long enough: a sealed payload's sealed part fits it; a plain one needs none.
 abbrev pub LongEnough : Header → (payload working : List ℕ) → Type 0

@@ -61,7 +61,7 @@ fn byte(pair: u16) -> u8 {
 }
 
 // The bytes of the field at a place, as far as there is room.
-pub fn field(text: &[u8], at: usize, out: &mut [u8]) -> Decoded
+pub(crate) fn field(text: &[u8], at: usize, out: &mut [u8]) -> Decoded
     ensures { λ r. ⌜ r .count ≤ length (now (out .exit)) ⌝ }
 {
     let mut i = at;
@@ -82,7 +82,7 @@ pub fn field(text: &[u8], at: usize, out: &mut [u8]) -> Decoded
 }
 
 // Whether a certain byte stands at a place.
-pub fn starts_with(text: &[u8], at: usize, b: u8) -> bool {
+pub(crate) fn starts_with(text: &[u8], at: usize, b: u8) -> bool {
     if at < text.len() {
         return text[at] == b;
     }
@@ -90,7 +90,7 @@ pub fn starts_with(text: &[u8], at: usize, b: u8) -> bool {
 }
 
 // Whether the line at a place has no vector: a comment, nothing, or the end.
-pub fn is_no_vector(text: &[u8], at: usize) -> bool {
+pub(crate) fn is_no_vector(text: &[u8], at: usize) -> bool {
     if at < text.len() {
         return starts_with(text, at, b'#') | starts_with(text, at, b'\n');
     }

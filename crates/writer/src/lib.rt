@@ -1,6 +1,6 @@
 // SPDX-License-Identifier: MPL-2.0
-// Writing what may stand on the wire: numbers and runs of bytes at a place, the common header, the payloads of Discovery and Connect. Each writer
-// puts its bytes at the start of an output, or refuses and leaves it as it was.
+// Writing what may stand on the wire: the common header, the payloads of Discovery and Connect. Each writer puts its bytes
+// at the start of an output, or refuses and leaves it as it was.
 pub mod header;
 pub mod payload;
 
