@@ -2,7 +2,8 @@
 -- The bytes at a place, `bytesAt`: how many they are, that they are a part of the list where it has them, and that a list filled from
 -- its start one byte after the other comes to hold them.
 use Rattle.laws.proofs.Kit.{ℕ, zero, suc, _+_, _≤_, _<_, _≡_, refl, sym, List, [], _∷_, _++_, append-nil, append-assoc, length, take, drop}
-use Rattle.laws.proofs.Kit.{getD, set, length-append, length-drop, take-at, take-suc, drop-at, drop-length, getD-take, add-zero, add-one, arith}
+use Rattle.laws.proofs.Kit.{getD, set, length-append, length-drop, take-at, take-suc, drop-at, drop-length, getD-take, add-zero, add-one}
+use Rattle.laws.proofs.Kit.{arith}
 use native.Mathlib.Nat.{add-suc, add-assoc}
 use lib.Seq.{drop-cons, getD-drop, set-at}
 use Rattle.laws.specs.Bytes.{be8, bytesAt}
