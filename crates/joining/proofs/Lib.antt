@@ -1,5 +1,4 @@
 -- SPDX-License-Identifier: MPL-2.0
-pub mod Told
 pub mod HeardLaws
 pub mod Places
 pub mod Cuts

@@ -1,6 +1,6 @@
 -- SPDX-License-Identifier: MPL-2.0
 -- Bytes as numbers: the bounds of what is read, and what stands after the front of a list.
-use Rattle.laws.proofs.Kit.{ℕ, _+_, _<_, _≡_, sym, _∙_, ap, List, _++_, length, add-zero, arith}
+use Rattle.laws.proofs.Kit.{ℕ, _+_, _<_, _≡_, sym, _∙_, ap, List, _++_, length, arith}
 use native.Mathlib.Nat.{add-assoc}
 use lib.Seq.{getD-append-add}
 use Rattle.laws.specs.Bytes.{AreBytes, be8, be16, be32}
@@ -22,6 +22,3 @@ module _ (a b : List ℕ) (n : ℕ) (e : length a ≡ n) where
 
   pub be32-past : (i : ℕ) → be32 (a ++ b) (n + i) ≡ be32 b i
   be32-past i = rw (be16-past i, add-assoc n i 2, be16-past (i + 2))
-
-  pub be16-at : be16 (a ++ b) n ≡ be16 b 0
-  be16-at = ap (be16 (a ++ b)) (sym (add-zero n)) ∙ be16-past 0

@@ -1,7 +1,7 @@
 -- SPDX-License-Identifier: MPL-2.0
 -- What the reader's answer tells: whether it refused and with which number, and where the payload lies. A message that it read has type 1, 2 or 4,
 -- so what was found of it is never all zero.
-use Rattle.laws.proofs.Kit.{ℕ, _+_, _≤_, _≡_, refl, sym, _∙_, ap, true, false, cond, List, [], length, eqb, ltb, eqb-true}
+use Rattle.laws.proofs.Kit.{ℕ, _+_, _≤_, _≡_, refl, sym, ap, true, false, cond, List, [], length, eqb, ltb, eqb-true}
 use Rattle.laws.proofs.Kit.{take, drop, arith}
 use Rattle.laws.specs.Bytes.{be32}
 use Rattle.laws.specs.Rows.{first, orElse}
@@ -105,9 +105,6 @@ module _ (m keys : List ℕ) (room : ℕ) where
   refused-message n e = ap foundMessage e
 
 -- The way through `found`: by what the reader answered, and where the payload lies.
-pub told-refused : (a : MessageRead) (n : ℕ) (r : Found) → a ≡ Refused n → r ≡ nothing n → r ≡ foundMessage a
-told-refused a n r e p = p ∙ sym (ap foundMessage e)
-
 module _ (a : MessageRead) (f : FoundMessage) (e : a ≡ Read f) where
   abbrev foundAs : ℕ → Found
   foundAs n = record { refusal = 0; header = f .header; sealed = n; from = f .from; size = f .size }

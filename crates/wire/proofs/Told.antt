@@ -30,9 +30,6 @@ pub refused-header : (m : List ℕ) (n : ℕ) → readHeader m ≡ Refused n →
 refused-header m n e = ap foundHeader e
 
 -- The way through `found`: by what the reader answered, and whether the message is sealed.
-pub told-refused : (a : HeaderRead) (n : ℕ) (r : Found) → a ≡ Refused n → r ≡ nothing n → r ≡ foundHeader a
-told-refused a n r e p = p ∙ sym (ap foundHeader e)
-
 module _ (a : HeaderRead) (f : FoundHeader) (s : Bool) (e : a ≡ Read f) (is : s ≡ isSealed (f .header .flags)) where
   abbrev foundAs : ℕ → Found
   foundAs n = record { refusal = 0; header = f .header; sealed = n; from = f .start; size = f .size }

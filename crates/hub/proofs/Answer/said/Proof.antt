@@ -1,7 +1,7 @@
 -- SPDX-License-Identifier: MPL-2.0
 -- By the answer's kind.
 use Rattle.laws.proofs.Kit.{needs}
-use Rattle.joining.proofs.Told.{told}
+use Rattle.laws.proofs.Cases.{told}
 use Rattle.hub.specs.Answers.{said}
 use Rattle.hub.proofs.Answer.said.Statement.{statement}
 use Rattle.hub.proofs.Answer.said.Tie as tie

@@ -1,8 +1,8 @@
 -- SPDX-License-Identifier: MPL-2.0
 -- By the arrival's kind.
 use Rattle.laws.proofs.Kit.{needs}
+use Rattle.laws.proofs.Cases.{told}
 use Rattle.joining.specs.Answers.{arrived}
-use Rattle.joining.proofs.Told.{told}
 use Rattle.joining.proofs.Arrival.arrived.Statement.{statement}
 use Rattle.joining.proofs.Arrival.arrived.Tie as tie
 
