@@ -9,4 +9,5 @@ use Rattle.message.proofs.reading.MessageRead.found.Tie as tie
 
 pub found-spec : {M : Type 1} → statement M
 found-spec =
-    tie.close (tie.spec (λ c. search needs) _ (λ c. search needs) (λ c. search (told foundMessage)) (λ c. search told-opened) (λ c. search told-plain))
+    tie.close (tie.spec
+    (λ c. search needs) _ (λ c. search needs) (λ c. search (told foundMessage)) (λ c. search told-opened) (λ c. search told-plain))
