@@ -4,13 +4,13 @@ use Rattle.laws.proofs.Kit.{ℕ, zero, suc, _≤_, _<_, _≡_, refl, sym, Bool,
 use Rattle.laws.proofs.Kit.{length, getD, eqb, leb, eq-eqb, leb-true, le-of-suc-le-suc, not-suc-le-zero, arith}
 use Rattle.laws.proofs.Bools.{and-true, or-none, or-true}
 use Rattle.laws.proofs.Cases.{on}
-use Rattle.payloads.specs.Format.{accepts, longest}
+use Rattle.payloads.specs.Format.{end, accepts, longest}
 use Rattle.payloads.specs.Shapes.{Shape, shapes, sealedAs, hasShape, isShaped, badPayload}
 use Rattle.payloads.proofs.Formats.{accepted-short}
 
 -- The row at a place of a list of shapes.
 abbrev pub rowAt : List Shape → ℕ → Shape
-rowAt rows i = getD rows i (0, false, [])
+rowAt rows i = getD rows i (0, false, end)
 
 sealed-as : (s : Bool) → sealedAs s s ≡ true
 sealed-as true = refl

@@ -1,11 +1,11 @@
 -- SPDX-License-Identifier: MPL-2.0
 -- A number of any width is read back from where it was written, and its bytes are those that it was read from.
-use Rattle.laws.proofs.Kit.{ℕ, _+_, _*_, _/_, _%_, _≤_, _<_, _≡_, refl, sym, _∙_, ap₂, List, [], _∷_, _++_}
+use Rattle.laws.proofs.Kit.{ℕ, _+_, _*_, _/_, _%_, _≤_, _<_, _≡_, refl, sym, _∙_, ap₂, List, [], _∷_, _++_, append-assoc}
 use Rattle.laws.proofs.Kit.{length, drop, drop-drop, div-add-mod', add-zero, arith}
 use lib.ListN.{take-append-drop}
 use Rattle.laws.specs.Bytes.{AreBytes, be16, be32, bytes16, bytes32, bytes64, bytesAt}
 use Rattle.laws.proofs.Numbers.{be8-past, be16-past, be32-past, be16-below, be32-below}
-use Rattle.laws.proofs.Parts.{bytesAt-part, bytesAt-append}
+use Rattle.laws.proofs.Parts.{bytesAt-part, bytesAt-append, part-back}
 use Rattle.payloads.specs.Format.{Width, one, two, four, eight, widthOf, numberAt, bytesOf}
 
 pub length-bytesOf : (w : Width) (x : ℕ) → length (bytesOf w x) ≡ widthOf w
@@ -26,9 +26,12 @@ number-first two x b = div-add-mod' x 256
 number-first four x b = simp div-add-mod'
 number-first eight x b = simp div-add-mod'
 
--- What was written after a front is read there.
-pub number-back : (w : Width) (x : ℕ) (a b : List ℕ) (at : ℕ) → length a ≡ at → numberAt w (a ++ (bytesOf w x ++ b)) at ≡ x
-number-back w x a b at e = number-past w a (bytesOf w x ++ b) at e ∙ number-first w x b
+-- What was written between a front and a back is read there, also with a field after it.
+pub number-back : (w : Width) (x : ℕ) (a y b : List ℕ) (at : ℕ) → length a ≡ at → numberAt w (((a ++ bytesOf w x) ++ y) ++ b) at ≡ x
+number-back w x a y b at e = rw (append-assoc, append-assoc) (number-past w a (bytesOf w x ++ (y ++ b)) at e ∙ number-first w x (y ++ b))
+
+pub run-back : (x a y b : List ℕ) (at n : ℕ) → length a ≡ at → length x ≡ n → bytesAt (((a ++ x) ++ y) ++ b) at n ≡ x
+run-back x a y b at n e f = rw (append-assoc, append-assoc) (part-back a x (y ++ b) at n e f)
 
 -- A number of two halves is the bytes of the one and then of the other.
 two-bytes : (a b : ℕ) → b < 256 → bytes16 (a * 256 + b) ≡ a ∷ b ∷ []

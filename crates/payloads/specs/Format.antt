@@ -1,12 +1,13 @@
 -- SPDX-License-Identifier: MPL-2.0
--- A payload's format is a list of fields, in the order in which they stand. Every format has one writer, `write`, and one reader, `accepts`
--- with `read`; that each undoes the other is proved once, over all formats (proofs/Formats).
-use Prim.Native.Nat.{ℕ, _+_}
-use mathlib.Core.List.{List, [], _∷_, _++_}
+-- A payload's format is its fields, in the order in which they stand. Every format has one writer, `write`, and one reader, `accepts` with
+-- `read`; that each undoes the other is proved once, over all formats (proofs/Formats).
+use Prim.Native.Nat.{ℕ, _+_, _*_}
+use mathlib.Core.List.{List, [], _∷_, _++_, flatMap}
 use mathlib.Core.Bool.{Bool, true, _&&_}
 use lib.ListN.{length}
 use lib.Dec.{leb, eqb}
 use Rattle.laws.specs.Bytes.{be8, be16, be32, be64, bytes16, bytes32, bytes64, bytesAt}
+use Rattle.payloads.specs.Entries.{entryAt, each, gathered, all}
 
 -- "All numbers are big-endian." A number stands in one, two, four or eight bytes.
 pub data Width : Type 0 where
@@ -33,24 +34,31 @@ bytesOf two x = bytes16 x
 bytesOf four x = bytes32 x
 bytesOf eight x = bytes64 x
 
--- A field: always this number; a number that passes a test; bytes of this number; bytes with their number before them, which has a least and a most.
-pub data Field : Type 0 where
-  fixed : (w : Width) (n : ℕ) → Field
-  free : (w : Width) (allowed : ℕ → Bool) → Field
-  array : (size : ℕ) → Field
-  sized : (w : Width) (least most : ℕ) → Field
+-- A format: it is at its end, or it begins with a field, and after that comes another format. The fields: always this number; a number that
+-- passes a test; bytes of this number; bytes with their number before them, which has a least and a most; entries of one format with their
+-- number before them, which has a most.
+pub data Format : Type 0 where
+  end : Format
+  fixed : (w : Width) (n : ℕ) → Format → Format
+  free : (w : Width) (allowed : ℕ → Bool) → Format → Format
+  array : (size : ℕ) → Format → Format
+  sized : (w : Width) (least most : ℕ) → Format → Format
+  counted : (w : Width) (most : ℕ) (entry : Format) → Format → Format
 
--- A format: its fields.
-abbrev pub Format : Type 0
-Format = List Field
+-- A field, and then the fields after it: `fixed one 0 then array 8 then end`.
+infixr 5 _then_
+abbrev pub _then_ : (Format → Format) → Format → Format
+field then f = field f
 
--- What a payload of a format says: a number for each free number, a list for each run of bytes; a fixed number says nothing.
+-- What a payload of a format says: a number for each free number, a list for each run of bytes, a list of what each entry says for counted
+-- entries; a fixed number says nothing.
 abbrev pub Values : Format → Type 0
-Values [] = Unit
-Values (fixed w n ∷ f) = Values f
-Values (free w allowed ∷ f) = ℕ × Values f
-Values (array size ∷ f) = List ℕ × Values f
-Values (sized w least most ∷ f) = List ℕ × Values f
+Values end = Unit
+Values (fixed w n f) = Values f
+Values (free w allowed f) = ℕ × Values f
+Values (array size f) = List ℕ × Values f
+Values (sized w least most f) = List ℕ × Values f
+Values (counted w most entry f) = List (Values entry) × Values f
 
 -- Values one after the other, `x and y and tt`: the last is that nothing more is said.
 infixr 5 _and_
@@ -59,37 +67,58 @@ x and y = (x, y)
 
 -- The values that a format has a payload for. (That a number has its width is what the types of a call say.)
 unfoldable pub fits : (f : Format) → Values f → Bool
-fits [] v = true
-fits (fixed w n ∷ f) v = fits f v
-fits (free w allowed ∷ f) (x, v) = allowed x && fits f v
-fits (array size ∷ f) (b, v) = eqb (length b) size && fits f v
-fits (sized w least most ∷ f) (b, v) = leb least (length b) && leb (length b) most && fits f v
+fits end v = true
+fits (fixed w n f) v = fits f v
+fits (free w allowed f) (x, v) = allowed x && fits f v
+fits (array size f) (b, v) = eqb (length b) size && fits f v
+fits (sized w least most f) (b, v) = leb least (length b) && leb (length b) most && fits f v
+fits (counted w most entry f) (vs, v) = leb (length vs) most && all (fits entry) vs && fits f v
 
 -- The bytes of a payload, field by field.
 unfoldable pub write : (f : Format) → Values f → List ℕ
-write [] v = []
-write (fixed w n ∷ f) v = bytesOf w n ++ write f v
-write (free w allowed ∷ f) (x, v) = bytesOf w x ++ write f v
-write (array size ∷ f) (b, v) = b ++ write f v
-write (sized w least most ∷ f) (b, v) = bytesOf w (length b) ++ (b ++ write f v)
+write end v = []
+write (fixed w n f) v = bytesOf w n ++ write f v
+write (free w allowed f) (x, v) = bytesOf w x ++ write f v
+write (array size f) (b, v) = b ++ write f v
+write (sized w least most f) (b, v) = bytesOf w (length b) ++ (b ++ write f v)
+write (counted w most entry f) (vs, v) = bytesOf w (length vs) ++ (flatMap (write entry) vs ++ write f v)
 
--- The fields from a place on are as the format says, and nothing stands after them. A byte past the end counts as 0; the length is tested last.
-unfoldable pub acceptsFrom : Format → List ℕ → ℕ → Bool
-acceptsFrom [] p at = eqb (length p) at
-acceptsFrom (fixed w n ∷ f) p at = eqb (numberAt w p at) n && acceptsFrom f p (at + widthOf w)
-acceptsFrom (free w allowed ∷ f) p at = allowed (numberAt w p at) && acceptsFrom f p (at + widthOf w)
-acceptsFrom (array size ∷ f) p at = acceptsFrom f p (at + size)
-acceptsFrom (sized w least most ∷ f) p at =
-    leb least (numberAt w p at) && leb (numberAt w p at) most && acceptsFrom f p (at + widthOf w + numberAt w p at)
+-- The place after the fields that begin at a place. A byte past the end counts as 0.
+unfoldable pub endsFrom : Format → List ℕ → ℕ → ℕ
+endsFrom end p at = at
+endsFrom (fixed w n f) p at = endsFrom f p (at + widthOf w)
+endsFrom (free w allowed f) p at = endsFrom f p (at + widthOf w)
+endsFrom (array size f) p at = endsFrom f p (at + size)
+endsFrom (sized w least most f) p at = endsFrom f p (at + widthOf w + numberAt w p at)
+endsFrom (counted w most entry f) p at = endsFrom f p (entryAt (endsFrom entry p) (at + widthOf w) (numberAt w p at))
 
--- What the fields from a place on say.
+-- The fields that begin at a place are as the format says.
+unfoldable pub holdsFrom : Format → List ℕ → ℕ → Bool
+holdsFrom end p at = true
+holdsFrom (fixed w n f) p at = eqb (numberAt w p at) n && holdsFrom f p (at + widthOf w)
+holdsFrom (free w allowed f) p at = allowed (numberAt w p at) && holdsFrom f p (at + widthOf w)
+holdsFrom (array size f) p at = holdsFrom f p (at + size)
+holdsFrom (sized w least most f) p at =
+    leb least (numberAt w p at) && leb (numberAt w p at) most && holdsFrom f p (at + widthOf w + numberAt w p at)
+holdsFrom (counted w most entry f) p at =
+    let place = entryAt (endsFrom entry p) (at + widthOf w) in
+    leb (numberAt w p at) most && each (λ i. holdsFrom entry p (place i)) (numberAt w p at) && holdsFrom f p (place (numberAt w p at))
+
+-- What the fields that begin at a place say.
 unfoldable pub readFrom : (f : Format) → List ℕ → ℕ → Values f
-readFrom [] p at = tt
-readFrom (fixed w n ∷ f) p at = readFrom f p (at + widthOf w)
-readFrom (free w allowed ∷ f) p at = (numberAt w p at, readFrom f p (at + widthOf w))
-readFrom (array size ∷ f) p at = (bytesAt p at size, readFrom f p (at + size))
-readFrom (sized w least most ∷ f) p at =
+readFrom end p at = tt
+readFrom (fixed w n f) p at = readFrom f p (at + widthOf w)
+readFrom (free w allowed f) p at = (numberAt w p at, readFrom f p (at + widthOf w))
+readFrom (array size f) p at = (bytesAt p at size, readFrom f p (at + size))
+readFrom (sized w least most f) p at =
     (bytesAt p (at + widthOf w) (numberAt w p at), readFrom f p (at + widthOf w + numberAt w p at))
+readFrom (counted w most entry f) p at =
+    let place = entryAt (endsFrom entry p) (at + widthOf w) in
+    (gathered (λ i. readFrom entry p (place i)) (numberAt w p at), readFrom f p (place (numberAt w p at)))
+
+-- The fields that begin at a place are as the format says, and the payload ends with them.
+unfoldable pub acceptsFrom : Format → List ℕ → ℕ → Bool
+acceptsFrom f p at = holdsFrom f p at && eqb (length p) (endsFrom f p at)
 
 -- A payload has a format.
 abbrev pub accepts : Format → List ℕ → Bool
@@ -101,8 +130,9 @@ read f p = readFrom f p 0
 
 -- The most bytes of a payload of a format.
 unfoldable pub longest : Format → ℕ
-longest [] = 0
-longest (fixed w n ∷ f) = widthOf w + longest f
-longest (free w allowed ∷ f) = widthOf w + longest f
-longest (array size ∷ f) = size + longest f
-longest (sized w least most ∷ f) = widthOf w + most + longest f
+longest end = 0
+longest (fixed w n f) = widthOf w + longest f
+longest (free w allowed f) = widthOf w + longest f
+longest (array size f) = size + longest f
+longest (sized w least most f) = widthOf w + most + longest f
+longest (counted w most entry f) = widthOf w + most * longest entry + longest f

@@ -1,4 +1,5 @@
 -- SPDX-License-Identifier: MPL-2.0
+pub mod Entries
 pub mod Format
 pub mod Shapes
 pub mod Reading

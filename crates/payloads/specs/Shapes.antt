@@ -4,7 +4,7 @@ use Prim.Native.Nat.{ℕ}
 use mathlib.Core.List.{List, [], _∷_}
 use mathlib.Core.Bool.{Bool, true, false, not, _&&_, _||_}
 use lib.Dec.{leb, eqb}
-use Rattle.payloads.specs.Format.{one, two, four, fixed, free, array, sized, Format, accepts}
+use Rattle.payloads.specs.Format.{one, two, four, end, fixed, free, array, sized, Format, _then_, accepts}
 
 -- Numbers from 0 to n.
 abbrev pub upTo : ℕ → ℕ → Bool
@@ -16,56 +16,56 @@ either a b x = eqb x a || eqb x b
 
 -- "A Presence Request's payload is the single byte 0."
 abbrev pub presenceRequest : Format
-presenceRequest = fixed one 0 ∷ []
+presenceRequest = fixed one 0 then end
 
 -- "Each starts with ConnectionMode (2 bytes, 0 to 2) and a type byte."
 abbrev pub ofType : ℕ → Format → Format
 ofType type rest =
     free two (upTo 2)
-    ∷ fixed one type
-    ∷ rest
+    then fixed one type
+    then rest
 
 -- "HMACSize 32 (2), Nonce (8), fragment size 16,384 (4), X length 32 (2), X, Y length 32 (2), Y. 86 bytes in all."
 abbrev pub exchange : Format
 exchange =
     fixed two 32
-    ∷ array 8
-    ∷ fixed four 16384
-    ∷ fixed two 32
-    ∷ array 32
-    ∷ fixed two 32
-    ∷ array 32
-    ∷ []
+    then array 8
+    then fixed four 16384
+    then fixed two 32
+    then array 32
+    then fixed two 32
+    then array 32
+    then end
 
 -- "0 Connection Request: curve 0 (1)", and the fields above.
 abbrev pub connectionRequest : Format
-connectionRequest = ofType 0 (fixed one 0 ∷ exchange)
+connectionRequest = ofType 0 (fixed one 0 then exchange)
 
 -- "1 Connection Response: Result 0 to 3 (1); if Result is 1 (Pending) the fields from HMACSize on follow, 86 bytes in all"
 abbrev pub pendingResponse : Format
-pendingResponse = ofType 1 (fixed one 1 ∷ exchange)
+pendingResponse = ofType 1 (fixed one 1 then exchange)
 
 -- "else nothing, 4 bytes"
 abbrev pub otherResponse : Format
-otherResponse = ofType 1 (free one (λ result. upTo 3 result && not (eqb result 1)) ∷ [])
+otherResponse = ofType 1 (free one (λ result. upTo 3 result && not (eqb result 1)) then end)
 
 -- "2 and 3 Device Authentication Request and Response: certificate length 1 to 2,048 (2), certificate, thumbprint length 0 to 512 (2),
 -- thumbprint, nothing after it."
 abbrev pub deviceAuthentication : Format
 deviceAuthentication =
     free two (upTo 2)
-    ∷ free one (either 2 3)
-    ∷ sized two 1 2048
-    ∷ sized two 0 512
-    ∷ []
+    then free one (either 2 3)
+    then sized two 1 2048
+    then sized two 0 512
+    then end
 
 -- "6 Authentication Done Request: nothing more, 3 bytes."
 abbrev pub doneRequest : Format
-doneRequest = ofType 6 []
+doneRequest = ofType 6 end
 
 -- "7 Authentication Done Response: Status 0 to 4 (1), 4 bytes."
 abbrev pub doneResponse : Format
-doneResponse = ofType 7 (free one (upTo 4) ∷ [])
+doneResponse = ofType 7 (free one (upTo 4) then end)
 
 -- A shape: message type, whether it is sealed, and the format.
 abbrev pub Shape : Type 0

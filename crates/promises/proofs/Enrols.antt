@@ -5,7 +5,7 @@ use Rattle.laws.proofs.Kit.{le-ltb, arith}
 use Rattle.laws.specs.Bytes.{AreBytes, bytesAt}
 use Rattle.wire.specs.Fields.{badType, badFlags, badPiece, mostPieces, isSealed}
 use Rattle.wire.specs.Chain.{entryOf, chain, mostEntries, readChain, badChain}
-use Rattle.payloads.specs.Format.{acceptsFrom}
+use Rattle.payloads.specs.Format.{endsFrom, holdsFrom, acceptsFrom}
 use Rattle.payloads.specs.Shapes.{isShaped, badPayload}
 use Rattle.payloads.specs.Reading.{readRequest, certificateOf}
 use Rattle.wire.specs.declared.header.Header.{Header}
@@ -81,7 +81,7 @@ unequal a b e p = absurd (eqb-false a b e p)
 
 -- Of each step a message and another one: another mode, another thumbprint.
 request-allowed : Allowed 0 (requestBytes 0) × Allowed 0 (requestBytes 1)
-unfolding badFlags isSealed badPayload isShaped acceptsFrom padding sealedSize
+unfolding badFlags isSealed badPayload isShaped acceptsFrom holdsFrom endsFrom padding sealedSize
 request-allowed = (
   record { low = omega arith; of-bytes = are-bytes _ refl; flagged = refl; shaped = refl; room = omega arith },
   record { low = omega arith; of-bytes = are-bytes _ refl; flagged = refl; shaped = refl; room = omega arith },
@@ -92,7 +92,7 @@ unfolding readRequest bytesAt
 request-same = record { type = refl; nonce = λ e. refl; x = λ e. refl; y = λ e. refl; digested = unequal 0 2 refl }
 
 device-allowed : Allowed 6 (deviceBytes 0 end) × Allowed 6 (deviceBytes 1 (0 ∷ 1 ∷ 7 ∷ []))
-unfolding badFlags isSealed badPayload isShaped acceptsFrom padding sealedSize
+unfolding badFlags isSealed badPayload isShaped acceptsFrom holdsFrom endsFrom padding sealedSize
 device-allowed = (
   record { low = omega arith; of-bytes = are-bytes _ refl; flagged = refl; shaped = refl; room = omega arith },
   record { low = omega arith; of-bytes = are-bytes _ refl; flagged = refl; shaped = refl; room = omega arith },
@@ -105,7 +105,7 @@ device-same =
     record { type = refl; nonce = unequal 2 0 refl; x = unequal 2 0 refl; y = unequal 2 0 refl; digested = λ e. ap digest c }
 
 finish-allowed : Allowed 6 (finishBytes 0) × Allowed 6 (finishBytes 1)
-unfolding badFlags isSealed badPayload isShaped acceptsFrom padding sealedSize
+unfolding badFlags isSealed badPayload isShaped acceptsFrom holdsFrom endsFrom padding sealedSize
 finish-allowed = (
   record { low = omega arith; of-bytes = are-bytes _ refl; flagged = refl; shaped = refl; room = omega arith },
   record { low = omega arith; of-bytes = are-bytes _ refl; flagged = refl; shaped = refl; room = omega arith },

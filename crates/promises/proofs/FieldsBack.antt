@@ -7,7 +7,7 @@ use Rattle.laws.proofs.Cases.{on}
 use Rattle.laws.specs.Bytes.{be8, be16, bytesAt}
 use Rattle.laws.proofs.Bools.{and-true}
 use Rattle.laws.proofs.Parts.{bytesAt-part}
-use Rattle.payloads.specs.Format.{Format, Values, _and_, fits, write, acceptsFrom, readFrom, accepts, read}
+use Rattle.payloads.specs.Format.{Format, Values, _and_, fits, write, endsFrom, holdsFrom, readFrom, acceptsFrom, accepts, read}
 use Rattle.payloads.specs.Shapes.{either, presenceRequest, connectionRequest, deviceAuthentication, doneRequest, doneResponse, badPayload}
 use Rattle.payloads.specs.Reading.{connectionMode, connectType, codeOf, readRequest, sizedAt, certificateOf, thumbprintOf}
 use Rattle.payloads.specs.declared.reading.Request.{Request}
@@ -81,12 +81,8 @@ sized-part p at h = rw (le-ltb (length p) (at + 2 + be16 p at) h) (sym (bytesAt-
 
 -- The length of a Device Authentication payload that is accepted.
 device-length : (p : List ℕ) → accepts deviceAuthentication p ≡ true → length p ≡ 5 + be16 p 3 + 2 + be16 p (5 + be16 p 3)
-unfolding acceptsFrom
-device-length p h =
-    let c = be16 p 3 in
-    let t = be16 p (5 + c) in
-    let rest = and-true (either 2 3 (be8 p 2)) _ (and-true (leb (be16 p 0) 2) _ h .1) .1 in
-    eqb-true (length p) _ (and-true (leb 0 t && leb t 512) _ (and-true (leb 1 c && leb c 2048) _ rest .1) .1)
+unfolding acceptsFrom endsFrom
+device-length p h = eqb-true (length p) _ (and-true (holdsFrom deviceAuthentication p 0) _ h .1)
 
 device : (connect mode : ℕ) (certificate thumbprint p : List ℕ)
     → WrotePayload deviceAuthentication (mode and connect and certificate and thumbprint and tt) p

@@ -1,9 +1,9 @@
 -- SPDX-License-Identifier: MPL-2.0
 -- What a writer tests says whether the values fit their format; the length of its bytes; and so what it answers and leaves.
-use Rattle.laws.proofs.Kit.{ℕ, _+_, _≤_, _≡_, refl, Bool, true, not, _&&_, _||_, List, _∷_, length, length-append, sets, eqb, leb}
+use Rattle.laws.proofs.Kit.{ℕ, _+_, _≤_, _≡_, refl, Bool, true, not, _&&_, _||_, List, length, length-append, sets, eqb, leb}
 use Rattle.laws.proofs.Kit.{eq-eqb, ne-eqb, le-leb, leb-true, arith}
 use Rattle.laws.proofs.Bools.{and-one, and-assoc, and-true}
-use Rattle.payloads.specs.Format.{one, fixed, Format, Values, _and_, fits, write}
+use Rattle.payloads.specs.Format.{one, fixed, Format, _then_, Values, _and_, fits, write}
 use Rattle.payloads.specs.Shapes.{ofType, exchange, connectionRequest, otherResponse, deviceAuthentication, doneRequest, doneResponse}
 use Rattle.writer.specs.Written.{putRefusal}
 use Rattle.writer.specs.Payload.{payloadWritten, payloadOutput}
@@ -39,7 +39,7 @@ module _ (mode : ℕ) (nonce x y : List ℕ) (n : length nonce ≡ 8) (k : lengt
   unfolding fits
   fits-exchange = rw (eq-eqb (length nonce) 8 n, eq-eqb (length x) 32 k, eq-eqb (length y) 32 l, and-one)
 
-  pub length-exchange : (connect code : ℕ) → length (write (ofType connect (fixed one code ∷ exchange)) (mode and nonce and x and y and tt)) ≡ 86
+  pub length-exchange : (connect code : ℕ) → length (write (ofType connect (fixed one code then exchange)) (mode and nonce and x and y and tt)) ≡ 86
   unfolding write
   length-exchange connect code = simp length-append (omega arith)
 

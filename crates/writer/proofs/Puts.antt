@@ -3,32 +3,32 @@
 use Rattle.laws.proofs.Kit.{ℕ, _+_, _≡_, refl, Bool, List, [], _∷_, _++_, length, sets}
 use Rattle.laws.specs.Bytes.{bytes16}
 use Rattle.laws.proofs.Stores.{stored-twice}
-use Rattle.payloads.specs.Format.{Width, one, widthOf, bytesOf, fixed, free, array, sized, Format, Values, _and_, write}
+use Rattle.payloads.specs.Format.{Width, one, widthOf, bytesOf, end, fixed, free, array, sized, Format, _then_, Values, _and_, write}
 use Rattle.payloads.specs.Shapes.{ofType}
 use Rattle.payloads.proofs.Widths.{length-bytesOf}
 
-pub put-end : (at : ℕ) (l : List ℕ) → l ≡ sets l at (write [] tt)
+pub put-end : (at : ℕ) (l : List ℕ) → l ≡ sets l at (write end tt)
 unfolding write
 put-end at l = refl
 
 module _ (at : ℕ) (l : List ℕ) (f : Format) (v : Values f) {m r : List ℕ} where
   pub put-fixed : (w : Width) (n : ℕ) → m ≡ sets l at (bytesOf w n) → r ≡ sets m (at + widthOf w) (write f v)
-      → r ≡ sets l at (write (fixed w n ∷ f) v)
+      → r ≡ sets l at (write (fixed w n f) v)
   unfolding write
   put-fixed w n p q = stored-twice (bytesOf w n) (write f v) l at (at + widthOf w) p q (rw (length-bytesOf w n))
 
   pub put-free : (w : Width) (allowed : ℕ → Bool) (x : ℕ) → m ≡ sets l at (bytesOf w x) → r ≡ sets m (at + widthOf w) (write f v)
-      → r ≡ sets l at (write (free w allowed ∷ f) (x and v))
+      → r ≡ sets l at (write (free w allowed f) (x and v))
   unfolding write
   put-free w allowed x p q = stored-twice (bytesOf w x) (write f v) l at (at + widthOf w) p q (rw (length-bytesOf w x))
 
   pub put-array : (size : ℕ) (b : List ℕ) → (m ≡ sets l at b) × (length b ≡ size) → r ≡ sets m (at + size) (write f v)
-      → r ≡ sets l at (write (array size ∷ f) (b and v))
+      → r ≡ sets l at (write (array size f) (b and v))
   unfolding write
   put-array size b p q = stored-twice b (write f v) l at (at + size) (p .0) q (rw (p .1))
 
   pub put-sized : (w : Width) (least most : ℕ) (b : List ℕ) {k : List ℕ} → k ≡ sets l at (bytesOf w (length b)) → m ≡ sets k (at + widthOf w) b
-      → r ≡ sets m (at + widthOf w + length b) (write f v) → r ≡ sets l at (write (sized w least most ∷ f) (b and v))
+      → r ≡ sets m (at + widthOf w + length b) (write f v) → r ≡ sets l at (write (sized w least most f) (b and v))
   unfolding write
   put-sized w least most b {k} o p q =
       let n = length b in
@@ -36,6 +36,6 @@ module _ (at : ℕ) (l : List ℕ) (f : Format) (v : Values f) {m r : List ℕ} 
 
 -- Mode, type and the byte after it.
 pub put-code : (l : List ℕ) (f : Format) (v : Values f) {m r : List ℕ} (mode connect code : ℕ) → m ≡ sets l 0 (bytes16 mode ++ (connect ∷ code ∷ []))
-    → r ≡ sets m 4 (write f v) → r ≡ sets l 0 (write (ofType connect (fixed one code ∷ f)) (mode and v))
+    → r ≡ sets m 4 (write f v) → r ≡ sets l 0 (write (ofType connect (fixed one code then f)) (mode and v))
 unfolding write
 put-code l f v mode connect code p q = stored-twice (bytes16 mode ++ (connect ∷ code ∷ [])) (write f v) l 0 4 p q refl

@@ -28,7 +28,7 @@ ghost use lib.ListN.{length};
 ghost use lib.Seq.{sets};
 ghost use lib.Dec.{eqb};
 ghost use Rattle.laws.specs.Bytes.{bytes16};
-ghost use Rattle.payloads.specs.Format.{one, fixed, _and_, fits, write};
+ghost use Rattle.payloads.specs.Format.{one, fixed, _then_, _and_, fits, write};
 ghost use Rattle.payloads.specs.Shapes.{
   ofType,
   exchange,
@@ -120,8 +120,8 @@ fn put_exchange(out: &mut [u8], nonce: [u8; 8], x: [u8; 32], y: [u8; 32])
 
 // Writes a payload of 86 bytes, by its type and the byte after it.
 fn write_exchange(mode: u16, connect: u8, code: u8, request: Request, out: &mut [u8]) -> Written
-    ensures answer { λ r. ⌜ r ≡ payloadWritten (ofType connect (fixed one code ∷ exchange)) (exchangeValues mode request) (now (out .entry)) ⌝ }
-    ensures bytes { λ _. ⌜ now (out .exit) ≡ payloadOutput (ofType connect (fixed one code ∷ exchange)) (exchangeValues mode request)
+    ensures answer { λ r. ⌜ r ≡ payloadWritten (ofType connect (fixed one code then exchange)) (exchangeValues mode request) (now (out .entry)) ⌝ }
+    ensures bytes { λ _. ⌜ now (out .exit) ≡ payloadOutput (ofType connect (fixed one code then exchange)) (exchangeValues mode request)
         (now (out .entry)) ⌝ }
 {
     let nonce = request.nonce;

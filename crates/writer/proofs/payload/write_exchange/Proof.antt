@@ -1,7 +1,7 @@
 -- SPDX-License-Identifier: MPL-2.0
 -- Refused, or one run of stores from the start of the output.
-use Rattle.laws.proofs.Kit.{_∷_, needs}
-use Rattle.payloads.specs.Format.{one, fixed, fits}
+use Rattle.laws.proofs.Kit.{needs}
+use Rattle.payloads.specs.Format.{one, fixed, _then_, fits}
 use Rattle.payloads.specs.Shapes.{ofType, exchange}
 use Rattle.writer.specs.Payload.{exchangeValues}
 use Rattle.writer.proofs.Payloads.{length-exchange, refused-payload, wrote-payload}
@@ -16,7 +16,7 @@ refuses c =
     let a = start .args in
     let q = a .request in
     let s = c .before .before .fits-exchange .ensures in
-    refused-payload (ofType (a .connect) (fixed one (a .code) ∷ exchange)) (exchangeValues (a .mode) q) (a .out .now) _ _
+    refused-payload (ofType (a .connect) (fixed one (a .code) then exchange)) (exchangeValues (a .mode) q) (a .out .now) _ _
     (length-exchange (a .mode) (q .nonce) (q .x) (q .y) (s .1) (s .2) (s .3) (a .connect) (a .code)) (s .0) (c .before .put-refusal .ensures)
     (c .if1 .taken)
 
@@ -29,7 +29,7 @@ writes c =
     let coded = c .before .before .before .before .before .before in
     let judged = coded .before .before in
     let s = judged .before .before .fits-exchange .ensures in
-    wrote-payload (ofType (a .connect) (fixed one (a .code) ∷ exchange)) (exchangeValues (a .mode) q) (a .out .now) _ _
+    wrote-payload (ofType (a .connect) (fixed one (a .code) then exchange)) (exchangeValues (a .mode) q) (a .out .now) _ _
     (length-exchange (a .mode) (q .nonce) (q .x) (q .y) (s .1) (s .2) (s .3) (a .connect) (a .code)) (s .0) (judged .before .put-refusal .ensures)
     (judged .if1 .left) (put-code _ _ _ _ _ _ (coded .put-coded .ensures) (c .before .before .put-exchange .ensures))
 
