@@ -5,4 +5,5 @@ pub mod Streams
 pub mod Turns
 pub mod Steps
 pub mod Inputs
+pub mod ReadingOn
 pub mod Examples

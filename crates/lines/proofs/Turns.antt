@@ -16,7 +16,7 @@ turnAt-fits rest ended room written = on (ltb room (written + 64)) (λ e. rw e (
 
 module _ (stream : List ℕ) (ended : Bool) (room : ℕ) where
   -- A run that goes on takes a turn.
-  many-more : (n : ℕ) (b : Run) → 0 < n → b .going ≡ true → manyTurns n stream ended room b
+  pub many-more : (n : ℕ) (b : Run) → 0 < n → b .going ≡ true → manyTurns n stream ended room b
       ≡ manyTurns (n - 1) stream ended room (turn stream ended room b)
   unfolding manyTurns
   many-more zero b h e = absurd (omega arith)

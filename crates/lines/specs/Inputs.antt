@@ -7,7 +7,12 @@ use mathlib.Core.Bool.{Bool, true, false, cond}
 use lib.ListN.{length, drop}
 use Rattle.lines.specs.Stream.{ahead}
 use Rattle.lines.specs.Listing.{lineRoom, Turn, turnBy, Run, list}
+use Rattle.laws.specs.Bytes.{AreBytes}
 use Rattle.laws.specs.Chunks.{Step, waits, ends, goes, Stand, standing, given, whole, broughtBy}
+
+-- The most bytes of a message: MessageLength has two bytes.
+abbrev pub longestMessage : ℕ
+longestMessage = 65535
 
 -- The listing keeps no state from message to message.
 abbrev pub NoState : Type 0
@@ -55,3 +60,9 @@ abbrev pub ListedInTurns : Type 0
 ListedInTurns = (input : List ℕ) (parts : List (List ℕ × ℕ)) (rooms : List ℕ) → broughtBy parts ≡ input
     → let r = ending (reading (standing tt []) parts) rooms in
     (r .over ≡ true → r .text ≡ listing input) × (Roomy rooms → length input < length rooms → r .over ≡ true)
+
+-- There is room to read on: a turn on bytes held in a buffer that has room for any message, with an output that has room for a line,
+-- leaves fewer bytes than the buffer has.
+abbrev pub RoomToRead : Type 0
+RoomToRead = (bytes : List ℕ) (ended : Bool) (room buffer : ℕ) → AreBytes bytes → lineRoom ≤ room → longestMessage ≤ buffer → length bytes ≤ buffer
+    → length (drop (list bytes ended room .read) bytes) < buffer

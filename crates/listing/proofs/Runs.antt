@@ -1,13 +1,46 @@
 -- SPDX-License-Identifier: MPL-2.0
 -- A run of the program is one of those that `listed-in-turns` is about: a turn for each part that is read, then turns that bring nothing.
-use Rattle.laws.proofs.Kit.{ℕ, _+_, _-_, _≤_, _≡_, refl, sym, _∙_, ap, Bool, true, false, true≢false, List, [], _∷_, _++_, append-nil, append-assoc}
-use Rattle.laws.proofs.Kit.{length, take, drop, length-append, length-drop, length-take-le, eqb, eqb-true, eqb-false, eq-eqb, ne-eqb, arith}
+use Rattle.laws.proofs.Kit.{ℕ, _+_, _-_, _≤_, _<_, _≡_, refl, sym, _∙_, ap, Bool, true, false, true≢false, List, [], _∷_, _++_, append-nil, append-assoc}
+use Rattle.laws.proofs.Kit.{length, take, drop, length-append, length-drop, length-take-le, drop-at, take-append-seam, eqb, eqb-true, eqb-false, eq-eqb, ne-eqb, arith}
 use lib.Seq.{take-add}
 use Rattle.laws.proofs.Cases.{on}
+use Rattle.laws.specs.Bytes.{AreBytes}
 use Rattle.laws.specs.Chunks.{Stand, broughtBy}
-use Rattle.lines.specs.Inputs.{NoState, listing, listedIn, reading, ending}
+use Rattle.laws.proofs.ByteLists.{nil-bytes, append-bytes, take-bytes, drop-bytes}
+use Rattle.lines.specs.Listing.{lineRoom, list}
+use Rattle.lines.specs.Inputs.{NoState, longestMessage, listing, listedIn, reading, ending}
 use Rattle.lines.proofs.Inputs.{listed-in-turns}
+use Rattle.lines.proofs.ReadingOn.{room-to-read}
 use Rattle.listing.specs.Turns.{turnOn, runText, RunEnds, ReadOf, RunLists, TurnLeads}
+
+-- What a run needs of its reads: each brings the next bytes of the input, and one that brings none is the last that brings any.
+record Next (got input : List ℕ) (Later : List ℕ → Type 0) : Type 0 where
+  pub rest : List ℕ
+  pub is : got ++ rest ≡ input
+  pub ends : length got ≡ 0 → rest ≡ []
+  pub after : Later rest
+
+abbrev Reads : List (List ℕ) → List ℕ → Type 0
+Reads [] input = Unit
+Reads (got ∷ reads) input = Next got input (Reads reads)
+
+-- They do so, since there is room to read on after each turn.
+reads-next : (buffer room : ℕ) → longestMessage ≤ buffer → lineRoom ≤ room → (reads : List (List ℕ)) (bytes input : List ℕ) (ended : Bool)
+    → AreBytes bytes → length bytes ≤ buffer → AreBytes input → ReadOf buffer room bytes ended reads input → Reads reads input
+unfolding ReadOf
+reads-next buffer room long roomy [] bytes input ended b h i d = tt
+reads-next buffer room long roomy (got ∷ reads) bytes input ended b h i d =
+    let k = list bytes ended room .read in
+    let all = rw (← d .is) at i in
+    let got-bytes = rw take-append-seam at (take-bytes (length got) (got ++ d .rest) all) in
+    let rest-bytes = rw (drop-at got (d .rest) (length got) refl) at (drop-bytes (length got) (got ++ d .rest) all) in
+    record {
+      rest = d .rest;
+      is = d .is;
+      ends = d .ends (room-to-read bytes ended room buffer b roomy long h);
+      after = reads-next buffer room long roomy reads (drop k bytes ++ got) (d .rest) (eqb (length got) 0)
+          (append-bytes (drop-bytes k bytes b) got-bytes) (d .fits) rest-bytes (d .after);
+    }
 
 -- A list of length 0.
 none : (l : List ℕ) → length l ≡ 0 → l ≡ []
@@ -53,7 +86,7 @@ module _ (room : ℕ) where
   unfolding ending
   last-turn t bytes o = record { rooms = room ∷ []; over = o; says = refl }
 
-  last-turns : (reads : List (List ℕ)) (bytes : List ℕ) (ended : Bool) → ended ≡ true → RunEnds room bytes ended reads → ReadOf reads []
+  last-turns : (reads : List (List ℕ)) (bytes : List ℕ) (ended : Bool) → ended ≡ true → RunEnds room bytes ended reads → Reads reads []
       → (t : List ℕ) → Last (at t bytes) (t ++ runText room bytes ended reads)
   unfolding runText RunEnds
   last-turns [] bytes ended e r d t = rw e (last-turn t bytes (rw e at r))
@@ -97,12 +130,12 @@ module _ (room : ℕ) where
 
   -- What the turns come to, by what each read brings.
   abbrev Reached : List (List ℕ) → Type 0
-  Reached reads = (t left got rest : List ℕ) → RunEnds room (left ++ got) false reads → ReadOf reads rest
+  Reached reads = (t left got rest : List ℕ) → RunEnds room (left ++ got) false reads → Reads reads rest
       → Done (at t left) (got ++ rest) (t ++ runText room (left ++ got) false reads)
 
   -- A read, and the turns after it: those after the end of the input, or others.
   read-more : (more : List ℕ) (reads : List (List ℕ)) → Reached reads → (u left rest : List ℕ)
-      → RunEnds room (left ++ more) (eqb (length more) 0) reads → ReadOf (more ∷ reads) rest
+      → RunEnds room (left ++ more) (eqb (length more) 0) reads → Reads (more ∷ reads) rest
       → Done (at u left) rest (u ++ runText room (left ++ more) (eqb (length more) 0) reads)
   read-more more reads reach u left rest r d =
       on (eqb (length more) 0) (λ z.
@@ -128,8 +161,8 @@ module _ (room : ℕ) where
 
 -- The whole run, from a program that holds nothing.
 pub run-lists : RunLists
-run-lists room input reads d r =
-    let n = reach room reads [] [] [] input r d in
+run-lists buffer room input reads bytes long roomy d r =
+    let n = reach room reads [] [] [] input r (reads-next buffer room long roomy reads [] input false nil-bytes (omega arith) bytes d) in
     let all = listed-in-turns (broughtBy (n .parts)) (n .parts) (n .finish .rooms) refl .0 (n .finish .over) in
     sym (n .finish .says) ∙ all ∙ ap listing (n .brought)
 
@@ -152,4 +185,5 @@ turn-leads q after r t o =
       got = got;
       holds = rw (f .first) at (rw e at (take-add k (r .held - k) after));
       ended = f .ends ∙ same-none (r .held) k (length got) (f .more) n;
+      fits = rw (length-append, n) (omega (arith, f .more, f .fits));
     }

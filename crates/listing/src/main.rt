@@ -11,8 +11,8 @@ ghost use lib.ListN.{length, take};
 ghost use lib.Seq.{sets};
 ghost use Rattle.listing.specs.Turns.{turnOn, Turned};
 
-// A buffer. A message has at most 65,535 bytes, so a part of one leaves room to read on; and a line is shorter than the message
-// that it is about, so the lines of a buffer full of messages have room in another.
+// A buffer. It has room for any message, so that there is always room to read on (`RoomToRead`, in lines); and a line is shorter than
+// the message that it is about, so that the lines of a buffer full of messages have room in another.
 fn buffer() -> [u8; 262144]
     ensures { λ r. ⌜ 262144 ≡ length r ⌝ }
 {
