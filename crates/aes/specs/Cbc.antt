@@ -33,12 +33,12 @@ unfoldable pub cbcDecrypt : List (List ℕ) → List ℕ → List ℕ → List �
 cbcDecrypt ks v s = chain (cbcDecryptBlock ks) (λ b c. b) (length s / 16) v s
 
 -- The source is whole blocks, and the target has room for them.
-abbrev pub fits : List ℕ → List ℕ → Bool
-fits source target = eqb (length source % 16) 0 && leb (length source) (length target)
+abbrev pub blocksFit : List ℕ → List ℕ → Bool
+blocksFit source target = eqb (length source % 16) 0 && leb (length source) (length target)
 
 -- What the target holds in the end: `out` and, past it, what it held; all that it held if the source does not fit.
 abbrev pub written : List ℕ → List ℕ → List ℕ → List ℕ
-written source out target = cond (fits source target) (out ++ drop (length source) target) target
+written source out target = cond (blocksFit source target) (out ++ drop (length source) target) target
 
 -- The cipher block before block k of s: before the first stands the vector.
 unfoldable pub blockBefore : ℕ → List ℕ → List ℕ → List ℕ

@@ -27,7 +27,7 @@ ghost use Rattle.field.specs.Words.{Mixes};
 ghost use Rattle.aes.specs.State.{addRoundKey};
 ghost use Rattle.aes.specs.Words.{bytesOf, InverseKeys};
 ghost use Rattle.aes.specs.Cipher.{cipher};
-ghost use Rattle.aes.specs.Cbc.{cbcDecryptBlock, cbcEncrypt, cbcDecrypt, fits, written};
+ghost use Rattle.aes.specs.Cbc.{cbcDecryptBlock, cbcEncrypt, cbcDecrypt, blocksFit, written};
 
 // Sixteen bytes to place `at` of a slice.
 fn put(s: &mut [u8], at: usize, b: [u8; 16])
@@ -148,7 +148,7 @@ fn encrypt_whole(keys: &[[u8; 16]; 11], vector: [u8; 16], buffer: &mut [u8]) -> 
 // Encrypts the source into the front of the target. False, with the target left alone, where the source is not whole blocks or the target
 // is shorter.
 pub fn cbc_encrypt(keys: [[u8; 16]; 11], vector: [u8; 16], source: &[u8], target: &mut [u8]) -> bool
-    ensures { λ r. ⌜ r ≡ fits (now (source .entry)) (now (target .entry)) ⌝ }
+    ensures { λ r. ⌜ r ≡ blocksFit (now (source .entry)) (now (target .entry)) ⌝ }
     ensures { λ _. ⌜ now (target .exit) ≡ written (now (source .entry)) (cbcEncrypt keys vector (now (source .entry)))
         (now (target .entry)) ⌝ }
 {
@@ -181,7 +181,7 @@ pub fn cbc_encrypt_one(keys: [[u8; 16]; 11], block: [u8; 16]) -> [u8; 16]
 
 // The source, decrypted into the front of the target if it is whole blocks and the target is long enough.
 fn decrypt_whole(keys: &[[u8; 16]; 11], vector: [u8; 16], source: &[u8], target: &mut [u8]) -> bool
-    ensures { λ r. ⌜ r ≡ fits (now (source .entry)) (now (target .entry)) ⌝ }
+    ensures { λ r. ⌜ r ≡ blocksFit (now (source .entry)) (now (target .entry)) ⌝ }
     ensures { λ _. ⌜ now (target .exit) ≡ written (now (source .entry)) (cbcDecrypt (now (keys .entry)) vector (now (source .entry)))
         (now (target .entry)) ⌝ }
 {
@@ -199,7 +199,7 @@ fn decrypt_whole(keys: &[[u8; 16]; 11], vector: [u8; 16], source: &[u8], target:
 // Decrypts the source into the front of the target. False, with the target left alone, where the source is not whole blocks or the target
 // is shorter.
 pub fn cbc_decrypt(keys: [[u8; 16]; 11], vector: [u8; 16], source: &[u8], target: &mut [u8]) -> bool
-    ensures { λ r. ⌜ r ≡ fits (now (source .entry)) (now (target .entry)) ⌝ }
+    ensures { λ r. ⌜ r ≡ blocksFit (now (source .entry)) (now (target .entry)) ⌝ }
     ensures { λ _. ⌜ now (target .exit) ≡ written (now (source .entry)) (cbcDecrypt keys vector (now (source .entry)))
         (now (target .entry)) ⌝ }
 {

@@ -5,7 +5,7 @@ use aes::cbc::cbc_decrypt;
 use aes::cbc::cbc_encrypt;
 use aes::key::expand_key;
 ghost use mathlib.Core.Path.{_≡_};
-ghost use Rattle.aes.specs.Cbc.{cbcEncrypt, cbcDecrypt, fits, written};
+ghost use Rattle.aes.specs.Cbc.{cbcEncrypt, cbcDecrypt, blocksFit, written};
 ghost use Rattle.aes.specs.Key.{expandKey};
 ghost use Rattle.aes.specs.State.{loadBlock};
 
@@ -13,7 +13,7 @@ ghost use Rattle.aes.specs.State.{loadBlock};
 // that they lack counts as 0. False, with the target left alone, where the source is not whole blocks or the target is shorter.
 #[no_mangle]
 pub extern "C" fn bench_encrypt(key: &[u8], vector: &[u8], source: &[u8], target: &mut [u8]) -> bool
-    ensures { λ r. ⌜ r ≡ fits (now (source .entry)) (now (target .entry)) ⌝ }
+    ensures { λ r. ⌜ r ≡ blocksFit (now (source .entry)) (now (target .entry)) ⌝ }
     ensures { λ _. ⌜ now (target .exit) ≡ written (now (source .entry))
         (cbcEncrypt (expandKey (loadBlock (now (key .entry)))) (loadBlock (now (vector .entry))) (now (source .entry)))
         (now (target .entry)) ⌝ }
@@ -26,7 +26,7 @@ pub extern "C" fn bench_encrypt(key: &[u8], vector: &[u8], source: &[u8], target
 // Decrypts the source into the front of the target, as above.
 #[no_mangle]
 pub extern "C" fn bench_decrypt(key: &[u8], vector: &[u8], source: &[u8], target: &mut [u8]) -> bool
-    ensures { λ r. ⌜ r ≡ fits (now (source .entry)) (now (target .entry)) ⌝ }
+    ensures { λ r. ⌜ r ≡ blocksFit (now (source .entry)) (now (target .entry)) ⌝ }
     ensures { λ _. ⌜ now (target .exit) ≡ written (now (source .entry))
         (cbcDecrypt (expandKey (loadBlock (now (key .entry)))) (loadBlock (now (vector .entry))) (now (source .entry)))
         (now (target .entry)) ⌝ }

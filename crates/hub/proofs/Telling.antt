@@ -18,7 +18,7 @@ meant s =
     (cond (eqb (s .kind) 2) (Again (s .value))
     (cond (eqb (s .kind) 3) Failure
     (cond (eqb (s .kind) 4) (Taken (s .value))
-    (cond (eqb (s .kind) 5) (Repeat (s .value)) (Complete (s .length) (s .value)))))))
+    (cond (eqb (s .kind) 5) (Repeat (s .value)) (Complete (s .detail) (s .value)))))))
 
 meant-said : (a : Answer) → meant (said a) ≡ a
 meant-said (Refused n) = refl

@@ -86,14 +86,14 @@ doneRows c =
     ∷ []
 
 -- Rows of one Connect type, which apply to a message of that type alone.
-abbrev pub ofType : ℕ → ℕ → List (Bool × Stepped) → List (Bool × Stepped)
-ofType type own [] = []
-ofType type own (row ∷ rows) = (eqb type own && row .0, row .1) ∷ ofType type own rows
+abbrev pub rowsOfType : ℕ → ℕ → List (Bool × Stepped) → List (Bool × Stepped)
+rowsOfType type own [] = []
+rowsOfType type own (row ∷ rows) = (eqb type own && row .0, row .1) ∷ rowsOfType type own rows
 
 -- All of them.
 abbrev pub hostRows : Connection → ℕ → ℕ → Request → List ℕ → ℕ → List (Bool × Stepped)
 hostRows c type session r digest verdict =
-    ofType type 0 (requestRows c session r) ++ (ofType type 2 (deviceRows c digest verdict) ++ ofType type 6 (doneRows c))
+    rowsOfType type 0 (requestRows c session r) ++ (rowsOfType type 2 (deviceRows c digest verdict) ++ rowsOfType type 6 (doneRows c))
 
 -- The first row that applies.
 abbrev pub firstRow : List (Bool × Stepped) → Stepped → Stepped

@@ -17,7 +17,7 @@ stateAfter s state = cond (eqb (said (s .answer) .refusal) 0) (stateBytes (s .co
 
 -- The answer's three words: its kind and values, all 0 beside a refusal.
 abbrev pub answerAfter : Stepped → List ℕ
-answerAfter s = said (s .answer) .kind ∷ said (s .answer) .value ∷ said (s .answer) .length ∷ []
+answerAfter s = said (s .answer) .kind ∷ said (s .answer) .value ∷ said (s .answer) .detail ∷ []
 
 -- The state buffer or the buffer of the answer has another size.
 abbrev pub wrongStep : (state answer : List ℕ) → Bool

@@ -64,7 +64,7 @@ fn settle(stepped: Stepped, state: &mut [u8], answer: &mut [u64]) -> u8
 {
     let given = stepped.answer;
     let said = given.said();
-    put_triple(answer, said.kind, said.value, said.length);
+    put_triple(answer, said.kind, said.value, said.detail);
     if said.refusal != 0 {
         return said.refusal;
     }

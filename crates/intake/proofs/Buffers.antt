@@ -1,5 +1,5 @@
 -- SPDX-License-Identifier: MPL-2.0
--- The place behind a mark, and what a buffer holds once a part of it was moved to its front.
+-- The place after a mark, and what a buffer holds once a part of it was moved to its front.
 use Rattle.laws.proofs.Kit.{ℕ, _+_, _-_, _≤_, _<_, min, _≡_, refl, sym, _∙_, ap, false, List, _++_, length, take, drop, getD, set, length-drop}
 use Rattle.laws.proofs.Kit.{length-take, length-take-le, drop-of-length-le, take-length, take-all, take-at, drop-length, eqb, eq-eqb, ne-eqb}
 use Rattle.laws.proofs.Kit.{eqb-true, eqb-false, leb, leb-true, leb-false, arith}
@@ -9,7 +9,7 @@ use Rattle.laws.specs.Bytes.{be8, bytesAt}
 use Rattle.laws.proofs.Cases.{on}
 use Rattle.laws.proofs.Parts.{length-bytesAt, bytesAt-part, bytesAt-take, filled-more}
 use Rattle.bytes.specs.Bytes.{indexOf, slice}
-use Rattle.intake.specs.Buffer.{behind, between, fronted, Refilled}
+use Rattle.intake.specs.Buffer.{afterMark, between, fronted, Refilled}
 
 -- What a search answers, which begins at the end where the place is past it.
 module _ (text : List ℕ) (at mark found : ℕ)
@@ -22,15 +22,15 @@ module _ (text : List ℕ) (at mark found : ℕ)
   unfolding slice indexOf
   past h = let m : min at (length text) ≡ length text = omega arith in omega (arith, rw (m, take-length, drop-length) at e)
 
-  pub behind-found : found < length text → found + 1 ≡ behind text at mark
-  unfolding behind
-  behind-found h =
+  pub mark-found : found < length text → found + 1 ≡ afterMark text at mark
+  unfolding afterMark
+  mark-found h =
       on (leb at (length text)) (λ p. omega (arith, within (leb-true at (length text) p)))
       (λ p. absurd (omega (arith, past (leb-false at (length text) p))))
 
-  pub behind-none : length text ≤ found → length text ≡ behind text at mark
-  unfolding behind
-  behind-none h =
+  pub mark-none : length text ≤ found → length text ≡ afterMark text at mark
+  unfolding afterMark
+  mark-none h =
       on (leb at (length text)) (λ p. omega (arith, within (leb-true at (length text) p)))
       (λ p. omega (arith, leb-false at (length text) p))
 

@@ -1,5 +1,5 @@
 -- SPDX-License-Identifier: MPL-2.0
--- A buffer that is read into: the place behind a mark, what is kept at its front, and what a read leaves.
+-- A buffer that is read into: the place after a mark, what is kept at its front, and what a read leaves.
 use Prim.Native.Nat.{ℕ, _+_, _-_, _≤_, min}
 use mathlib.Core.Path.{_≡_}
 use mathlib.Core.List.{List, _++_}
@@ -8,9 +8,9 @@ use lib.Dec.{eqb}
 use Rattle.bytes.specs.Bytes.{indexOf}
 use Rattle.intake.specs.declared.Held.{Held}
 
--- The place behind the first byte from a place on that is the mark; the text's end where there is none.
-unfoldable pub behind : List ℕ → (at mark : ℕ) → ℕ
-behind text at mark = min (at + indexOf mark (drop at text) + 1) (length text)
+-- The place after the first byte from a place on that is the mark; the text's end where there is none.
+unfoldable pub afterMark : List ℕ → (at mark : ℕ) → ℕ
+afterMark text at mark = min (at + indexOf mark (drop at text) + 1) (length text)
 
 -- What stands between two places of a buffer; a place past its end counts as its end.
 abbrev pub between : List ℕ → (from to : ℕ) → List ℕ

@@ -7,7 +7,7 @@ ghost use mathlib.Core.Path.{_≡_};
 ghost use mathlib.Core.Bool.{false};
 ghost use Prim.Native.Nat.{_-_, _≤_};
 ghost use lib.ListN.{length, take};
-ghost use Rattle.intake.specs.Buffer.{behind, between, fronted, Refilled};
+ghost use Rattle.intake.specs.Buffer.{afterMark, between, fronted, Refilled};
 
 // What of the input is in the buffer: the first `held` bytes of it. Whether the input has ended, and whether the run is over.
 pub struct Held {
@@ -16,9 +16,9 @@ pub struct Held {
     pub over: bool,
 }
 
-// The place behind the next byte of a text that is the mark, or the text's end.
-pub fn behind(text: &[u8], at: usize, mark: u8) -> usize
-    ensures { λ r. ⌜ r ≡ behind (now (text .entry)) at mark ⌝ }
+// The place after the next byte of a text that is the mark, or the text's end.
+pub fn after_mark(text: &[u8], at: usize, mark: u8) -> usize
+    ensures { λ r. ⌜ r ≡ afterMark (now (text .entry)) at mark ⌝ }
 {
     let end = text.len();
     let found = bytes::scan::find(text, lesser(at, end), end, mark);
@@ -55,8 +55,7 @@ fn read_on(input: &mut [u8], held: usize) -> Held
     }
 }
 
-// Keeps what the buffer holds between two places, at its front, and reads on after it. What is kept is less than a whole message,
-// so that there is room.
+// Keeps what the buffer holds between two places, at its front, and reads on after it, where there is room.
 pub fn refill(input: &mut [u8], from: usize, to: usize) -> Held
     ensures { λ r. ⌜ r .over ≡ false ⌝ }
     ensures { λ r. ⌜ r .held ≤ length (now (input .exit)) ⌝ }

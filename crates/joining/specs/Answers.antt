@@ -9,12 +9,12 @@ use Rattle.joining.specs.declared.Arrival.{Arrival}
 use Rattle.joining.specs.declared.Arrival.the-variants.{Refused, Taken, Repeat, Complete}
 
 -- An answer that is no refusal: its kind and values, the refusal's number being 0.
-abbrev pub words : (kind value length : ℕ) → Said
-words kind value length = record { refusal = 0; kind = kind; value = value; length = length }
+abbrev pub words : (kind value detail : ℕ) → Said
+words kind value detail = record { refusal = 0; kind = kind; value = value; detail = detail }
 
 -- Refused with the number n: every other value is 0.
 abbrev pub refused : ℕ → Said
-refused n = record { refusal = n; kind = 0; value = 0; length = 0 }
+refused n = record { refusal = n; kind = 0; value = 0; detail = 0 }
 
 -- "Answers: Taken, Repeat, Complete with the report's length; each also tells how many different pieces of this message have come."
 abbrev pub taken : ℕ → Said

@@ -112,8 +112,8 @@ completes held piece = eqb (told held piece) (piece .count)
 
 -- A new piece: "At Complete the expected number rises by one and the heard set is empty again, the remembered count, channel and last length
 -- zero"; "Taken, … Complete with the report's length".
-abbrev pub taken : ℕ → Progress → Piece → ℕ → Joined
-taken F held piece size =
+abbrev pub advance : ℕ → Progress → Piece → ℕ → Joined
+advance F held piece size =
     cond (completes held piece)
     (record { progress = expecting (held .expected + 1); answer = Complete (F * (piece .count - 1) + lastOf held piece size) (told held piece) })
     (record { progress = extended held piece size; answer = Taken (told held piece) })
@@ -124,7 +124,7 @@ join F held piece bytes report =
     cond (eqb (joinRefusal F held piece bytes report) 0)
     (cond (has (held .heard) (piece .index))
     (record { progress = held; answer = Repeat (told held piece) })
-    (taken F held piece (length bytes)))
+    (advance F held piece (length bytes)))
     (record { progress = held; answer = Refused (joinRefusal F held piece bytes report) })
 
 -- "Piece i is written into the report buffer from place F × i on; no other byte changes": and none where the piece is refused or a Repeat.

@@ -19,20 +19,20 @@ pub struct Said {
     pub kind: u64,
     // How many different pieces have come; of a reply its Connect type.
     pub value: u64,
-    // The report's length; of a reply its Status.
-    pub length: u64,
+    // Of Complete the report's length; of a reply its Status.
+    pub detail: u64,
 }
 
 impl Said {
     // An answer that is no refusal.
-    pub fn words(kind: u64, value: u64, length: u64) -> Said
-        ensures { λ r. ⌜ r ≡ words kind value length ⌝ }
+    pub fn words(kind: u64, value: u64, detail: u64) -> Said
+        ensures { λ r. ⌜ r ≡ words kind value detail ⌝ }
     {
         Said {
             refusal: 0,
             kind,
             value,
-            length,
+            detail,
         }
     }
 
@@ -44,7 +44,7 @@ impl Said {
             refusal: number,
             kind: 0,
             value: 0,
-            length: 0,
+            detail: 0,
         }
     }
 }

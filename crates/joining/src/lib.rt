@@ -11,7 +11,7 @@ ghost use lib.ListN.{length};
 ghost use Rattle.laws.specs.Rows.{first};
 ghost use Rattle.joining.specs.Heard.{come, mark, most};
 ghost use Rattle.joining.specs.Join.{badIndex, unlike, misfit, conflict, sequenceRows, placeRows, joinRefusal, Fitting};
-ghost use Rattle.joining.specs.Join.{join, reportAfter, expecting, taken, isLast};
+ghost use Rattle.joining.specs.Join.{join, reportAfter, expecting, advance, isLast};
 ghost use Rattle.joining.specs.Report.{put};
 use heard::PIECES;
 use octets::compare::alike;
@@ -216,7 +216,7 @@ fn advance(
     told: usize,
 ) -> Joined
     requires { ⌜ (heard ≡ mark (held .heard) (piece .index)) × (told ≡ come (piece .count) heard) × Fitting size held piece given ⌝ }
-    ensures { λ r. ⌜ r ≡ taken size held piece given ⌝ }
+    ensures { λ r. ⌜ r ≡ advance size held piece given ⌝ }
 {
     let count = piece.count;
     let last = last_of(held.last, piece, given);

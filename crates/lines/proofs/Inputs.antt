@@ -8,7 +8,7 @@ use Rattle.wire.specs.Reader.{readHeader}
 use Rattle.lines.specs.declared.stream.Next.{Next}
 use Rattle.lines.specs.declared.stream.Next.the-variants.{Message, More, End}
 use Rattle.lines.specs.Stream.{ahead}
-use Rattle.lines.specs.Listing.{isRefused, stops, begun, behind, turnBy, turnAt, Run, turn, manyTurns, list}
+use Rattle.lines.specs.Listing.{isRefused, stops, begun, afterTurn, turnBy, turnAt, Run, turn, manyTurns, list}
 use Rattle.laws.specs.Chunks.{Stand, stepped, given, standing, steps, turns, broughtBy}
 use Rattle.lines.specs.Inputs.{NoState, stepOf, lineStep, listing, listedOf, listedIn, reading, ending, Roomy, ListedInTurns}
 use Rattle.laws.proofs.Chunks.{steps-over, steps-suc, steps-add, adds-up}
@@ -17,14 +17,14 @@ use Rattle.lines.proofs.Steps.{line-steady}
 -- A turn is a step, where the run goes on.
 module _ (r : Stand NoState) (ended : Bool) (room : ℕ) where
   step-by : (b : Run) (rest : List ℕ) (next : Next) → rest ≡ drop (b .read) (r .left) → b .over ≡ false
-      → listedOf r (behind b (turnBy rest next)) ≡ stepped (listedOf r b) (stepOf (turnBy rest next))
+      → listedOf r (afterTurn b (turnBy rest next)) ≡ stepped (listedOf r b) (stepOf (turnBy rest next))
   step-by b rest (Message size) e o =
       on (isRefused (readHeader (take size rest)))
       (λ f. rw (f, drop-drop, append-assoc)) (λ f. rw (f, drop-drop, append-assoc))
   step-by b rest More e o = rw (o, add-zero, append-nil)
   step-by b rest End e o = rw (drop-drop, append-assoc)
 
-  going-by : (b : Run) (rest : List ℕ) (next : Next) → behind b (turnBy rest next) .going ≡ true → behind b (turnBy rest next) .over ≡ false
+  going-by : (b : Run) (rest : List ℕ) (next : Next) → afterTurn b (turnBy rest next) .going ≡ true → afterTurn b (turnBy rest next) .over ≡ false
   going-by b rest (Message size) = on (isRefused (readHeader (take size rest))) (λ f. rw f (λ g. sym g)) (λ f. rw f (λ g. refl))
   going-by b rest More = λ g. refl
   going-by b rest End = λ g. absurd (true≢false (sym g))
@@ -51,24 +51,24 @@ module _ (r : Stand NoState) (ended : Bool) (room : ℕ) where
     unfolding manyTurns turn
     many-suc e = rw (g, e)
 
-    turn-full : room < length (b .text) + 64 → turn (r .left) ended room b ≡ behind b (stops false)
+    turn-full : room < length (b .text) + 64 → turn (r .left) ended room b ≡ afterTurn b (stops false)
     unfolding turn turnAt
     turn-full h = rw (lt-ltb room (length (b .text) + 64) h)
 
-    turn-roomy : length (b .text) + 64 ≤ room → turn (r .left) ended room b ≡ behind b (turnBy rest (ahead rest ended))
+    turn-roomy : length (b .text) + 64 ≤ room → turn (r .left) ended room b ≡ afterTurn b (turnBy rest (ahead rest ended))
     unfolding turn turnAt
     turn-roomy h = rw (le-ltb room (length (b .text) + 64) h)
 
-    stays : listedOf r (behind b (stops false)) ≡ listedOf r b
+    stays : listedOf r (afterTurn b (stops false)) ≡ listedOf r b
     stays = rw (o, add-zero, append-nil)
 
     -- A turn without room, then the others.
-    full : room < length (b .text) + 64 → Many n (behind b (stops false)) → Many (suc n) b
+    full : room < length (b .text) + 64 → Many n (afterTurn b (stops false)) → Many (suc n) b
     full h m =
         record { count = m .count; is = rw (many-suc (turn-full h), ← stays) (m .is); some = λ p q k. absurd (omega arith) }
 
     -- A turn with room, then the others.
-    more : length (b .text) + 64 ≤ room → Many n (behind b (turnBy rest (ahead rest ended))) → Many (suc n) b
+    more : length (b .text) + 64 ≤ room → Many n (afterTurn b (turnBy rest (ahead rest ended))) → Many (suc n) b
     unfolding lineStep
     more h m =
         record {
@@ -83,7 +83,7 @@ module _ (r : Stand NoState) (ended : Bool) (room : ℕ) where
   many (suc n) b f =
       on (b .going) (λ g.
       on (ltb room (length (b .text) + 64))
-      (λ l. full n b (f g) g (ltb-true room (length (b .text) + 64) l) (many n (behind b (stops false)) (λ h. refl)))
+      (λ l. full n b (f g) g (ltb-true room (length (b .text) + 64) l) (many n (afterTurn b (stops false)) (λ h. refl)))
       (λ l. more n b (f g) g (ltb-false room (length (b .text) + 64) l) (many n _ (going-by b _ (ahead (drop (b .read) (r .left)) ended)))))
       λ g. none (suc n) b (λ p h. true≢false (sym h ∙ g))
 

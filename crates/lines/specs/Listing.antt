@@ -76,12 +76,12 @@ abbrev pub begun : Run
 begun = record { read = 0; text = []; going = true; over = false }
 
 -- The run after a turn.
-abbrev pub behind : Run → Turn → Run
-behind b s = record { read = b .read + s .size; text = b .text ++ s .line; going = s .going; over = s .over }
+abbrev pub afterTurn : Run → Turn → Run
+afterTurn b s = record { read = b .read + s .size; text = b .text ++ s .line; going = s .going; over = s .over }
 
 -- The run after one turn.
 unfoldable pub turn : List ℕ → Bool → ℕ → Run → Run
-turn stream ended room b = behind b (turnAt (drop (b .read) stream) ended room (length (b .text)))
+turn stream ended room b = afterTurn b (turnAt (drop (b .read) stream) ended room (length (b .text)))
 
 -- Turn after turn, as long as the run goes on.
 unfoldable pub manyTurns : ℕ → List ℕ → Bool → ℕ → Run → Run

@@ -39,7 +39,7 @@ decimal n = digits (digitCount n) n
 
 -- A number in decimal, and a byte after it.
 unfoldable pub field : ℕ → ℕ → List ℕ
-field n behind = decimal n ++ (behind ∷ [])
+field n after = decimal n ++ (after ∷ [])
 
 -- A name, which ends in a blank, a number in decimal and the line's end.
 unfoldable pub named : List ℕ → ℕ → List ℕ

@@ -34,16 +34,16 @@ fn digit(number: u32) -> u8
 }
 
 // Puts a number at a place, and a byte after it; answers the place after that.
-pub(crate) fn put_field(number: u32, behind: u8, out: &mut [u8], at: usize) -> usize
+pub(crate) fn put_field(number: u32, after: u8, out: &mut [u8], at: usize) -> usize
     requires { ⌜ at + 11 ≤ length (now out) ⌝ }
     ensures { λ r. ⌜ r ≤ at + 11 ⌝ }
-    ensures { λ r. ⌜ r ≡ at + length (field number behind) ⌝ }
-    ensures { λ _. ⌜ now (out .exit) ≡ sets (now (out .entry)) at (field number behind) ⌝ }
+    ensures { λ r. ⌜ r ≡ at + length (field number after) ⌝ }
+    ensures { λ _. ⌜ now (out .exit) ≡ sets (now (out .entry)) at (field number after) ⌝ }
 {
     let count = digit_count(number);
     put_digits(number, count, out, at);
     let end = at + count;
-    out[end] = behind;
+    out[end] = after;
     end + 1
 }
 

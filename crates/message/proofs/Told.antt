@@ -20,7 +20,7 @@ use Rattle.seal.specs.Padding.{payloadOf}
 use Rattle.seal.specs.Opening.{openRefusal}
 use Rattle.message.specs.Answers.{foundMessage}
 use Rattle.message.specs.Handed.{partOf, payload}
-use Rattle.message.specs.Reading.{opened, unless, payloadRows, inMessage, inWorking, plainRead, sealedRead, behindHeader, readMessage}
+use Rattle.message.specs.Reading.{opened, unless, payloadRows, inMessage, inWorking, plainRead, sealedRead, afterHeader, readMessage}
 use Rattle.message.specs.Reading.{workingBehind, workingAfter}
 use Rattle.message.specs.declared.reading.FoundMessage.{FoundMessage}
 use Rattle.message.specs.declared.reading.MessageRead.{MessageRead}
@@ -84,7 +84,7 @@ module _ (m keys : List ℕ) (room : ℕ) where
   unfolding readMessage
   lies-all = by (readHeader m) refl
     where
-      by : (a : HeaderRead) → readHeader m ≡ a → liesOf (behindHeader a m keys room)
+      by : (a : HeaderRead) → readHeader m ≡ a → liesOf (afterHeader a m keys room)
       by (head.Refused n) e = tt
       by (head.Read f) e =
           on (isSealed (f .header .flags)) (λ t. rw t (lies-sealed f (read-sound m f e) t)) (λ t. rw t (lies-plain f (read-sound m f e) t))

@@ -53,13 +53,13 @@ sealedRead m keys f room = unless
     (Read (inWorking (f .header) (be32 (opened m keys (f .start)) 0)))
 
 -- What follows the header, by what reading the header answered.
-abbrev pub behindHeader : HeaderRead → List ℕ → List ℕ → ℕ → MessageRead
-behindHeader (head.Refused n) m keys room = Refused n
-behindHeader (head.Read f) m keys room = cond (isSealed (f .header .flags)) (sealedRead m keys f room) (plainRead m f)
+abbrev pub afterHeader : HeaderRead → List ℕ → List ℕ → ℕ → MessageRead
+afterHeader (head.Refused n) m keys room = Refused n
+afterHeader (head.Read f) m keys room = cond (isSealed (f .header .flags)) (sealedRead m keys f room) (plainRead m f)
 
 -- What the reader answers, with a working buffer of `room` bytes.
 unfoldable pub readMessage : List ℕ → List ℕ → ℕ → MessageRead
-readMessage m keys room = behindHeader (readHeader m) m keys room
+readMessage m keys room = afterHeader (readHeader m) m keys room
 
 -- The working buffer after a message, by what reading its header answered.
 abbrev pub workingBehind : HeaderRead → List ℕ → List ℕ → List ℕ → List ℕ

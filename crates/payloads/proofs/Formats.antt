@@ -59,7 +59,7 @@ written-back (counted w most entry f) (vs, v) a b at e h =
     let c = and-true (leb n most) (all (fits entry) vs) (k .0) in
     let l = longer a s at _ e (length-bytesOf w n) in
     let es = entries-back (write entry) (fits entry) (holdsFrom entry) (endsFrom entry) (readFrom entry) (written-back entry) vs (a ++ s)
-        (write f v ++ b) (at + widthOf w) l (c .1) in
+    (write f v ++ b) (at + widthOf w) l (c .1) in
     let t = rw (← append-assoc ((a ++ s) ++ x) (write f v) b) at es in
     let r = written-back f v ((a ++ s) ++ x) b (at + widthOf w + length x) (longer (a ++ s) x _ _ l refl) (k .1) in
     rw (← append-assoc a s (x ++ write f v), number-back w n a (x ++ write f v) b at e, c .0)
@@ -158,7 +158,7 @@ module _ (p : List ℕ) where
         let c = and-true (leb n most) _ (k .0) .1 in
         let i = onward f (place n) in
         let all = entries-then (holdsFrom entry p) (readFrom entry p) p (write entry) (endsFrom entry p) (onward entry) (written-read entry) next n c
-            (omega (arith, i)) in
+        (omega (arith, i)) in
         rw (append-assoc, append-assoc, written-read f (place n) (k .1) l, length-gathered (λ i. readFrom entry p (place i)) n, all)
         (number-then p bytes w at (omega (arith, i, entries-onward (holdsFrom entry p) (endsFrom entry p) (onward entry) next n)))
 

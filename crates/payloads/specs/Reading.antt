@@ -7,7 +7,7 @@ use lib.ListN.{length, getD}
 use lib.Dec.{ltb}
 use Rattle.laws.specs.Bytes.{be16, bytesAt}
 use Rattle.payloads.specs.declared.reading.Request.{Request}
-use Rattle.payloads.specs.declared.reading.Place.{Place}
+use Rattle.payloads.specs.declared.reading.Span.{Span}
 
 -- The ConnectionMode of a Connect payload.
 abbrev pub connectionMode : List ℕ → ℕ
@@ -26,14 +26,14 @@ unfoldable pub readRequest : List ℕ → Request
 readRequest p = record { nonce = bytesAt p 6 8; x = bytesAt p 20 32; y = bytesAt p 54 32 }
 
 -- The place of the bytes whose number stands before them, at a place; where they do not lie in the payload, the empty place at its start.
-abbrev pub sizedAt : List ℕ → ℕ → Place
+abbrev pub sizedAt : List ℕ → ℕ → Span
 sizedAt p at =
     cond (ltb (length p) (at + 2 + be16 p at)) (record { from = 0; size = 0 }) (record { from = at + 2; size = be16 p at })
 
 -- The certificate's place; where it does not lie in the payload, the empty place at its start.
-unfoldable pub certificateOf : List ℕ → Place
+unfoldable pub certificateOf : List ℕ → Span
 certificateOf p = sizedAt p 3
 
 -- The thumbprint's place, after the certificate; where it does not lie in the payload, the empty place at its start.
-unfoldable pub thumbprintOf : List ℕ → Place
+unfoldable pub thumbprintOf : List ℕ → Span
 thumbprintOf p = sizedAt p (5 + be16 p 3)

@@ -7,8 +7,8 @@ use lib.Dec.{leb, eqb}
 use Rattle.payloads.specs.Format.{one, two, four, end, fixed, free, array, sized, Format, _then_, accepts}
 
 -- Numbers from 0 to n.
-abbrev pub upTo : ℕ → ℕ → Bool
-upTo n x = leb x n
+abbrev pub atMost : ℕ → ℕ → Bool
+atMost n x = leb x n
 
 -- One of two numbers.
 abbrev pub either : ℕ → ℕ → ℕ → Bool
@@ -21,7 +21,7 @@ presenceRequest = fixed one 0 then end
 -- "Each starts with ConnectionMode (2 bytes, 0 to 2) and a type byte."
 abbrev pub ofType : ℕ → Format → Format
 ofType type rest =
-    free two (upTo 2)
+    free two (atMost 2)
     then fixed one type
     then rest
 
@@ -47,13 +47,13 @@ pendingResponse = ofType 1 (fixed one 1 then exchange)
 
 -- "else nothing, 4 bytes"
 abbrev pub otherResponse : Format
-otherResponse = ofType 1 (free one (λ result. upTo 3 result && not (eqb result 1)) then end)
+otherResponse = ofType 1 (free one (λ result. atMost 3 result && not (eqb result 1)) then end)
 
 -- "2 and 3 Device Authentication Request and Response: certificate length 1 to 2,048 (2), certificate, thumbprint length 0 to 512 (2),
 -- thumbprint, nothing after it."
 abbrev pub deviceAuthentication : Format
 deviceAuthentication =
-    free two (upTo 2)
+    free two (atMost 2)
     then free one (either 2 3)
     then sized two 1 2048
     then sized two 0 512
@@ -65,7 +65,7 @@ doneRequest = ofType 6 end
 
 -- "7 Authentication Done Response: Status 0 to 4 (1), 4 bytes."
 abbrev pub doneResponse : Format
-doneResponse = ofType 7 (free one (upTo 4) then end)
+doneResponse = ofType 7 (free one (atMost 4) then end)
 
 -- A shape: message type, whether it is sealed, and the format.
 abbrev pub Shape : Type 0

@@ -69,32 +69,32 @@ pub fn read_request(payload: &[u8]) -> Request
 }
 
 // A part of a payload: where it begins and how many bytes it has.
-pub struct Place {
+pub struct Span {
     pub from: usize,
     pub size: usize,
 }
 
 // Where the bytes lie whose number stands before them, at a place; where they do not lie in the payload, the empty place at its start.
-fn sized_at(p: &[u8], at: u32) -> Place
+fn sized_at(p: &[u8], at: u32) -> Span
     ensures { λ r. ⌜ r ≡ sizedAt (now (p .entry)) at ⌝ }
 {
     let size = number16(p, at) as usize;
     let from = at as usize + 2;
     if p.len() < from + size {
-        return Place { from: 0, size: 0 };
+        return Span { from: 0, size: 0 };
     }
-    Place { from, size }
+    Span { from, size }
 }
 
 // Where the certificate of a Device Authentication payload lies; where it does not lie in the payload, the empty place at its start.
-pub fn certificate_of(payload: &[u8]) -> Place
+pub fn certificate_of(payload: &[u8]) -> Span
     ensures { λ r. ⌜ r ≡ certificateOf (now (payload .entry)) ⌝ }
 {
     sized_at(payload, 3)
 }
 
 // Where its thumbprint lies, after the certificate; where it does not lie in the payload, the empty place at its start.
-pub fn thumbprint_of(payload: &[u8]) -> Place
+pub fn thumbprint_of(payload: &[u8]) -> Span
     ensures { λ r. ⌜ r ≡ thumbprintOf (now (payload .entry)) ⌝ }
 {
     sized_at(payload, 5 + number16(payload, 3) as u32)

@@ -3,10 +3,12 @@
 -- reader of a field that is free gives one of these values; of one that is fixed, a byte of the bytes.
 use Rattle.laws.proofs.Kit.{ℕ, _+_, _≤_, _≡_, refl, sym, _∙_, ap, subst, Bool, true, false, true≢false, _&&_, List, length, take-append-seam, eqb}
 use Rattle.laws.proofs.Kit.{leb, eqb-true, eqb-false, eq-eqb, not, le-ltb, lit<, arith}
+use mathlib.Core.List.{flatMap}
 use Rattle.laws.proofs.Cases.{on}
 use Rattle.laws.specs.Bytes.{be8, be16, bytesAt}
 use Rattle.laws.proofs.Bools.{and-true}
 use Rattle.laws.proofs.Parts.{bytesAt-part}
+use Rattle.payloads.specs.Entries.{entryAt, each, gathered}
 use Rattle.payloads.specs.Format.{Format, Values, _and_, fits, write, endsFrom, holdsFrom, readFrom, acceptsFrom, accepts, read}
 use Rattle.payloads.specs.Shapes.{either, presenceRequest, connectionRequest, deviceAuthentication, doneRequest, doneResponse, badPayload}
 use Rattle.payloads.specs.Reading.{connectionMode, connectType, codeOf, readRequest, sizedAt, certificateOf, thumbprintOf}
@@ -18,7 +20,7 @@ use Rattle.writer.specs.Written.{putRefusal, written, output}
 use Rattle.writer.specs.Payload.{payloadWritten, exchangeValues, responseFormat, responseValues}
 use Rattle.writer.specs.declared.Written.the-variants.{Bytes}
 use Rattle.writer.proofs.PayloadBack.{payload-back}
-use Rattle.promises.specs.Fields.{WrotePayload, partOf, FieldsBack, CanBeWritten, OnlyWritten}
+use Rattle.promises.specs.Fields.{WrotePayload, spanOf, FieldsBack, ValuesBack, CanBeWritten, OnlyWritten, CountedEntries}
 
 module _ (f : Format) (v : Values f) (p : List ℕ) (w : WrotePayload f v p) where
   -- Nothing was refused.
@@ -76,7 +78,7 @@ response mode result r p false e w =
     )
 
 -- Bytes after their number lie where `sizedAt` says, if they lie in the payload.
-sized-part : (p : List ℕ) (at : ℕ) → at + 2 + be16 p at ≤ length p → partOf p (sizedAt p at) ≡ bytesAt p (at + 2) (be16 p at)
+sized-part : (p : List ℕ) (at : ℕ) → at + 2 + be16 p at ≤ length p → spanOf p (sizedAt p at) ≡ bytesAt p (at + 2) (be16 p at)
 sized-part p at h = rw (le-ltb (length p) (at + 2 + be16 p at) h) (sym (bytesAt-part p (at + 2) (be16 p at) h))
 
 -- The length of a Device Authentication payload that is accepted.
@@ -87,7 +89,7 @@ device-length p h = eqb-true (length p) _ (and-true (holdsFrom deviceAuthenticat
 device : (connect mode : ℕ) (certificate thumbprint p : List ℕ)
     → WrotePayload deviceAuthentication (mode and connect and certificate and thumbprint and tt) p
     → (badPayload 2 true p ≡ false) × (connectionMode p ≡ mode) × (connectType p ≡ connect)
-    × (partOf p (certificateOf p) ≡ certificate) × (partOf p (thumbprintOf p) ≡ thumbprint)
+    × (spanOf p (certificateOf p) ≡ certificate) × (spanOf p (thumbprintOf p) ≡ thumbprint)
 unfolding write readFrom certificateOf thumbprintOf
 device connect mode certificate thumbprint p w =
     let s = says _ _ p w in
@@ -122,6 +124,9 @@ fields-back =
       done-response = finished;
     }
 
+pub values-back : ValuesBack
+values-back f v p w = (accepted f v p w, says f v p w)
+
 pub can-be-written : CanBeWritten
 unfolding written output putRefusal
 can-be-written f v h =
@@ -137,3 +142,8 @@ pub only-written : OnlyWritten
 only-written f p bytes h =
     let k = write-back f p bytes h in
     subst (λ (q : List ℕ). WrotePayload f (read f p) q) (k .1) (can-be-written f (read f p) (k .0))
+
+-- By computation.
+pub counted-entries : CountedEntries
+unfolding write endsFrom holdsFrom readFrom acceptsFrom entryAt each gathered flatMap bytesAt
+counted-entries = record { table = refl; said = refl; written = refl }

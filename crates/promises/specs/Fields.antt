@@ -2,17 +2,17 @@
 -- Demand 2, the payloads of Discovery and Connect: what is written reads back, field by field.
 use Prim.Native.Nat.{ℕ}
 use mathlib.Core.Path.{_≡_}
-use mathlib.Core.List.{List}
-use mathlib.Core.Bool.{true, false}
+use mathlib.Core.List.{List, [], _∷_, map}
+use mathlib.Core.Bool.{Bool, true, false}
 use lib.ListN.{take}
 use lib.Dec.{eqb}
 use Rattle.laws.specs.Bytes.{AreBytes}
 use Rattle.laws.specs.Parts.{part}
-use Rattle.payloads.specs.Format.{Format, Values, _and_, fits, write, accepts, read}
-use Rattle.payloads.specs.Shapes.{presenceRequest, connectionRequest, deviceAuthentication, doneRequest, doneResponse, badPayload}
+use Rattle.payloads.specs.Format.{one, end, fixed, free, sized, counted, Format, _then_, Values, _and_, fits, write, accepts, read}
+use Rattle.payloads.specs.Shapes.{atMost, presenceRequest, connectionRequest, deviceAuthentication, doneRequest, doneResponse, badPayload}
 use Rattle.payloads.specs.Reading.{connectionMode, connectType, codeOf, readRequest, certificateOf, thumbprintOf}
 use Rattle.payloads.specs.declared.reading.Request.{Request}
-use Rattle.payloads.specs.declared.reading.Place.{Place}
+use Rattle.payloads.specs.declared.reading.Span.{Span}
 use Rattle.writer.specs.Payload.{payloadWritten, payloadOutput, exchangeValues, responseFormat, responseValues}
 use Rattle.writer.specs.Answers.{wrote}
 
@@ -23,8 +23,8 @@ pub record WrotePayload (f : Format) (v : Values f) (p : List ℕ) : Type 0 wher
   pub bytes : p ≡ take (wrote (payloadWritten f v output) .size) (payloadOutput f v output)
 
 -- The bytes of a payload at a place.
-abbrev pub partOf : List ℕ → Place → List ℕ
-partOf p place = part p (place .from) (place .size)
+abbrev pub spanOf : List ℕ → Span → List ℕ
+spanOf p s = part p (s .from) (s .size)
 
 -- What each payload writer wrote is not refused with 14, and the readers read from it the fields that were given: one row a payload.
 pub record FieldsBack : Type 0 where
@@ -41,13 +41,18 @@ pub record FieldsBack : Type 0 where
   pub device-authentication : (connect mode : ℕ) (certificate thumbprint p : List ℕ)
       → WrotePayload deviceAuthentication (mode and connect and certificate and thumbprint and tt) p
       → (badPayload 2 true p ≡ false) × (connectionMode p ≡ mode) × (connectType p ≡ connect)
-      × (partOf p (certificateOf p) ≡ certificate) × (partOf p (thumbprintOf p) ≡ thumbprint)
+      × (spanOf p (certificateOf p) ≡ certificate) × (spanOf p (thumbprintOf p) ≡ thumbprint)
   -- "6 Authentication Done Request"
   pub done-request : (mode : ℕ) (p : List ℕ) → WrotePayload doneRequest (mode and tt) p
       → (badPayload 2 true p ≡ false) × (connectionMode p ≡ mode) × (connectType p ≡ 6)
   -- "7 Authentication Done Response": Status
   pub done-response : (mode status : ℕ) (p : List ℕ) → WrotePayload doneResponse (mode and status and tt) p
       → (badPayload 2 true p ≡ false) × (connectionMode p ≡ mode) × (connectType p ≡ 7) × (codeOf p ≡ status)
+
+-- "What is written reads back", of any format: the payload is accepted and says the values that were given. Of counted entries it says as many
+-- as were given, each with its values, in their order.
+abbrev pub ValuesBack : Type 0
+ValuesBack = (f : Format) (v : Values f) (p : List ℕ) → WrotePayload f v p → (accepts f p ≡ true) × (read f p ≡ v)
 
 -- Its premise can be met: a payload of any format is written for all values that fit, into an output that has just room for it.
 abbrev pub CanBeWritten : Type 0
@@ -56,3 +61,35 @@ CanBeWritten = (f : Format) (v : Values f) → fits f v ≡ true → WrotePayloa
 -- Nothing else is accepted: a payload that has a format is what its writer writes, for the values that are read from it.
 abbrev pub OnlyWritten : Type 0
 OnlyWritten = (f : Format) (p : List ℕ) → AreBytes p → accepts f p ≡ true → WrotePayload f (read f p) p
+
+-- A format with counted entries, which no payload of 01 has: at most two, each a number 0 to 6 and at most three bytes with their number before
+-- them; after the entries the number 9.
+abbrev pub twoEntries : Format
+twoEntries =
+    counted one 2
+    (free one (atMost 6)
+    then sized one 0 3
+    then end)
+    then fixed one 9
+    then end
+
+-- Payloads, and whether each has that format: two entries, and none; three; an entry's number too large; its bytes too many; what follows is not
+-- there, or is another; an entry that reaches past the end; a byte too many.
+abbrev pub entryExamples : List (List ℕ × Bool)
+entryExamples =
+    (2 ∷ 5 ∷ 1 ∷ 7 ∷ 6 ∷ 0 ∷ 9 ∷ [], true)
+    ∷ (0 ∷ 9 ∷ [], true)
+    ∷ (3 ∷ 0 ∷ 0 ∷ 0 ∷ 0 ∷ 0 ∷ 0 ∷ 9 ∷ [], false)
+    ∷ (1 ∷ 7 ∷ 0 ∷ 9 ∷ [], false)
+    ∷ (1 ∷ 6 ∷ 4 ∷ 1 ∷ 2 ∷ 3 ∷ 4 ∷ 9 ∷ [], false)
+    ∷ (1 ∷ 6 ∷ 0 ∷ [], false)
+    ∷ (1 ∷ 6 ∷ 0 ∷ 8 ∷ [], false)
+    ∷ (1 ∷ 6 ∷ 3 ∷ 7 ∷ 9 ∷ [], false)
+    ∷ (1 ∷ 6 ∷ 0 ∷ 9 ∷ 0 ∷ [], false)
+    ∷ []
+
+-- Each is as the table says; and the first says its two entries, for which the writer writes it.
+pub record CountedEntries : Type 0 where
+  pub table : map (λ (e : List ℕ × Bool). accepts twoEntries (e .0)) entryExamples ≡ map (λ (e : List ℕ × Bool). e .1) entryExamples
+  pub said : read twoEntries (2 ∷ 5 ∷ 1 ∷ 7 ∷ 6 ∷ 0 ∷ 9 ∷ []) ≡ ((5 and (7 ∷ []) and tt) ∷ (6 and [] and tt) ∷ []) and tt
+  pub written : write twoEntries (((5 and (7 ∷ []) and tt) ∷ (6 and [] and tt) ∷ []) and tt) ≡ 2 ∷ 5 ∷ 1 ∷ 7 ∷ 6 ∷ 0 ∷ 9 ∷ []

@@ -84,10 +84,10 @@ fn turn(
     let found = ahead(&input[from..end], play.ended);
     match found {
         Next::Message(size) => {
-            let behind = from + lesser(size as usize, end - from);
+            let after = from + lesser(size as usize, end - from);
             let next = play_message(
                 connection,
-                &input[from..behind],
+                &input[from..after],
                 keys,
                 verdict,
                 working,
@@ -96,7 +96,7 @@ fn turn(
             Play {
                 connection: next,
                 held: end,
-                played: behind,
+                played: after,
                 ended: play.ended,
                 over: false,
             }

@@ -36,7 +36,7 @@ length-tag keys body = length-hmac (tagKey keys) _
 -- What the rows leave.
 pub record Fit (keys start size room : ℕ) : Type 0 where
   pub keys64 : keys ≡ 64
-  pub behind : 42 ≤ start
+  pub past : 42 ≤ start
   pub short : start + sealedSize size ≤ 65503
   pub small : size < 65536
   pub roomy : start + sealedSize size + 32 ≤ room
@@ -50,7 +50,7 @@ fit keys start size room e =
     let s = sizes size in
     record {
       keys64 = eqb-true keys 64 (not-false _ (at wrongKeys));
-      behind = ltb-false start 42 (at tooShort);
+      past = ltb-false start 42 (at tooShort);
       short = short;
       small = omega arith;
       roomy = ltb-false room (start + sealedSize size + 32) (at noRoom);
@@ -60,7 +60,7 @@ pub fit-allowed : (keys start size room : ℕ) → Fit keys start size room → 
 unfolding sealRefusal
 fit-allowed keys start size room f =
     rw (
-      le-ltb start 42 (f .behind),
+      le-ltb start 42 (f .past),
       le-ltb 65503 (start + sealedSize size) (f .short),
       f .keys64,
       le-ltb room (start + sealedSize size + 32) (f .roomy),
@@ -81,7 +81,7 @@ module _ (keys payload out : List ℕ) (start end : ℕ) (f : Fit (length keys) 
     (ends : end ≡ start + sealedSize (length payload)) (v part tagged : List ℕ)
     (first : v ≡ vector keys out)
     (sealed : part ≡ cbcEncrypt (expandKey (encryptionKey keys)) v (plainText payload))
-    (behind : tagged ≡ sets (putMid start (end - start) out part) end (tagOf keys (take end (putMid start (end - start) out part)))) where
+    (after : tagged ≡ sets (putMid start (end - start) out part) end (tagOf keys (take end (putMid start (end - start) out part)))) where
   abbrev written : List ℕ
   written = putMid start (end - start) out part
 
@@ -104,5 +104,5 @@ module _ (keys payload out : List ℕ) (start end : ℕ) (f : Fit (length keys) 
       let front : take end written ≡ body = rw written-is (take-at body (drop end out) end body-long) in
       let t = length-tag keys body in (
         sym allowed,
-        put-after body (tagOf keys body) out end body-long (omega arith) written-is (rw front at behind) ∙ rw (allowed, t, ends),
+        put-after body (tagOf keys body) out end body-long (omega arith) written-is (rw front at after) ∙ rw (allowed, t, ends),
       )

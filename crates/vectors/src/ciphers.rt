@@ -33,7 +33,7 @@ pub(crate) fn key_line(text: &[u8], at: usize) -> Said {
     Said {
         tried: true,
         agreed: agreed,
-        next: intake::behind(text, p.next, b'\n'),
+        next: intake::after_mark(text, p.next, b'\n'),
     }
 }
 
@@ -56,7 +56,7 @@ pub(crate) fn block_line(text: &[u8], at: usize) -> Said {
     Said {
         tried: true,
         agreed: block_agrees(key, plain, cipher),
-        next: intake::behind(text, c.next, b'\n'),
+        next: intake::after_mark(text, c.next, b'\n'),
     }
 }
 
@@ -110,6 +110,6 @@ pub(crate) fn chain_line(text: &[u8], at: usize) -> Said {
     Said {
         tried: true,
         agreed: chain_agrees(key, vector, &mut plain[0..n], &cipher[0..m]),
-        next: intake::behind(text, c.next, b'\n'),
+        next: intake::after_mark(text, c.next, b'\n'),
     }
 }

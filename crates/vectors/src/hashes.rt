@@ -61,7 +61,7 @@ pub(crate) fn digest_line(text: &[u8], at: usize) -> Said {
     Said {
         tried: true,
         agreed: digest_agrees(&message[0..n], &published[0..k]),
-        next: intake::behind(text, d.next, b'\n'),
+        next: intake::after_mark(text, d.next, b'\n'),
     }
 }
 
@@ -80,7 +80,7 @@ pub(crate) fn tag_line(text: &[u8], at: usize) -> Said {
     Said {
         tried: true,
         agreed: tag_agrees(&key[0..i], &message[0..n], &published[0..k], is_valid),
-        next: intake::behind(text, d.next, b'\n'),
+        next: intake::after_mark(text, d.next, b'\n'),
     }
 }
 

@@ -77,7 +77,7 @@ pub(crate) fn field(text: &[u8], at: usize, out: &mut [u8]) -> Decoded
     }
     Decoded {
         count: n,
-        next: intake::behind(text, i, b' '),
+        next: intake::after_mark(text, i, b' '),
     }
 }
 

@@ -35,7 +35,7 @@ fn line(text: &[u8], at: usize, kind: u8) -> Said {
         return Said {
             tried: false,
             agreed: false,
-            next: intake::behind(text, at, b'\n'),
+            next: intake::after_mark(text, at, b'\n'),
         };
     }
     match kind {

@@ -99,7 +99,7 @@ pub record Sound (m : List ℕ) (f : FoundHeader) : Type 0 where
   pub is : f .header ≡ headerOf m
   pub good : Good m
   pub spans : f .start + f .size + tagSize (f .header .flags) ≡ length m
-  pub behind : 42 ≤ f .start
+  pub past : 42 ≤ f .start
   pub blocks : isSealed (f .header .flags) ≡ true → (f .size % 16 ≡ 0) × (16 ≤ f .size)
 
 pub small-tag : (m : List ℕ) → tagSize (be16 m 6) ≤ 32
@@ -111,7 +111,7 @@ unfolding chainOf
 sound-good m g =
     let r = room-left (tagSize (be16 m 6)) m (g .chained) in
     let t = small-tag m in
-    record { is = refl; good = g; spans = omega arith; behind = omega arith; blocks = g .blocks }
+    record { is = refl; good = g; spans = omega arith; past = omega arith; blocks = g .blocks }
 
 -- What that says of an answer, which is nothing of a refusal.
 abbrev soundOf : List ℕ → HeaderRead → Type 0

@@ -16,9 +16,9 @@ use Rattle.wire.proofs.Chains.{chain-long}
 use Rattle.wire.proofs.Reading.{read-good}
 use Rattle.writer.proofs.ChainBack.{leaving, chain-back}
 
-pub fields-back : (h : Header) (size : ℕ) (rest : List ℕ) → headerOf (headerBytes h size ++ rest) ≡ h
+pub header-back : (h : Header) (size : ℕ) (rest : List ℕ) → headerOf (headerBytes h size ++ rest) ≡ h
 unfolding headerBytes
-fields-back h size rest = simp div-add-mod'
+header-back h size rest = simp div-add-mod'
 
 -- What the writer's tests make sure of, where `body` is the payload or the sealed part.
 pub record Accepted (h : Header) (chain body tag : List ℕ) : Type 0 where
@@ -42,7 +42,7 @@ module _ (h : Header) (chain body tag : List ℕ) where
   length-message = simp length-append (omega arith)
 
   fields : headerOf message ≡ h
-  fields = fields-back h size (chain ++ (body ++ tag))
+  fields = header-back h size (chain ++ (body ++ tag))
 
   module _ (a : Accepted h chain body tag) where
     tags : tagSize (be16 message 6) ≡ length tag

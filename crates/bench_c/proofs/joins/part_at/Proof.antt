@@ -12,8 +12,8 @@ part-at-spec =
     (λ c. search needs) (λ c. search needs) (λ c. search needs)
     (λ c.
     let a = c .before .before .before .args in
-    let behind : length (a .source .now) ≤ a .at = omega arith in
-    rw (drop-of-length-le (a .source .now) behind) (sym (take-nil (a .wanted))))
+    let past : length (a .source .now) ≤ a .at = omega arith in
+    rw (drop-of-length-le (a .source .now) past) (sym (take-nil (a .wanted))))
     (λ c. search needs) (λ c κs. search needs) (λ c. search needs) (λ c. search needs) (λ c. search needs) (λ c. search needs) λ c.
     let a = c .before .before .before .before .args in
     rw (add-sub-cancel-left, c .before .lesser .ensures)

@@ -21,7 +21,7 @@ put-field-spec =
     let a = count .before .before .args in (
       omega (arith, few count),
       (
-        omega (arith, length-field (a .number) (a .behind)),
-        field-put _ _ _ _ (a .behind) _ (count .digit-count .ensures) (c .before .before .put-digits .ensures),
+        omega (arith, length-field (a .number) (a .after)),
+        field-put _ _ _ _ (a .after) _ (count .digit-count .ensures) (c .before .before .put-digits .ensures),
       ),
     ))

@@ -1,5 +1,5 @@
 -- SPDX-License-Identifier: MPL-2.0
--- The bytes after their number, behind the certificate.
+-- The bytes after their number, after the certificate.
 use Rattle.payloads.specs.Reading.{thumbprintOf}
 use Rattle.laws.proofs.Kit.{needs}
 use Rattle.payloads.proofs.reading.thumbprint_of.Statement.{statement}
