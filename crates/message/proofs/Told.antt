@@ -21,7 +21,7 @@ use Rattle.seal.specs.Opening.{openRefusal}
 use Rattle.message.specs.Answers.{foundMessage}
 use Rattle.message.specs.Handed.{partOf, payload}
 use Rattle.message.specs.Reading.{opened, unless, payloadRows, inMessage, inWorking, plainRead, sealedRead, afterHeader, readMessage}
-use Rattle.message.specs.Reading.{workingBehind, workingAfter}
+use Rattle.message.specs.Reading.{workingAfterHeader, workingAfter}
 use Rattle.message.specs.declared.reading.FoundMessage.{FoundMessage}
 use Rattle.message.specs.declared.reading.MessageRead.{MessageRead}
 use Rattle.message.specs.declared.reading.MessageRead.the-variants.{Refused, Read}
@@ -40,7 +40,7 @@ pub length-workingAfter : (m keys working : List ℕ) → length (workingAfter m
 unfolding workingAfter
 length-workingAfter m keys working = by (readHeader m) refl
   where
-    by : (a : HeaderRead) → readHeader m ≡ a → length (workingBehind a m keys working) ≡ length working
+    by : (a : HeaderRead) → readHeader m ≡ a → length (workingAfterHeader a m keys working) ≡ length working
     by (head.Refused n) e = refl
     by (head.Read f) e =
         let s = read-sound m f e in

@@ -62,11 +62,11 @@ unfoldable pub readMessage : List ℕ → List ℕ → ℕ → MessageRead
 readMessage m keys room = afterHeader (readHeader m) m keys room
 
 -- The working buffer after a message, by what reading its header answered.
-abbrev pub workingBehind : HeaderRead → List ℕ → List ℕ → List ℕ → List ℕ
-workingBehind (head.Refused n) m keys working = working
-workingBehind (head.Read f) m keys working = cond (isSealed (f .header .flags)) (openedInto keys m (f .start) working) working
+abbrev pub workingAfterHeader : HeaderRead → List ℕ → List ℕ → List ℕ → List ℕ
+workingAfterHeader (head.Refused n) m keys working = working
+workingAfterHeader (head.Read f) m keys working = cond (isSealed (f .header .flags)) (openedInto keys m (f .start) working) working
 
 -- "The working buffer is untouched by refusals 1 to 13 … and by plain messages. After a sealed message got past 13 its first bytes hold the
 -- opened sealed part, the rest is unchanged."
 unfoldable pub workingAfter : List ℕ → List ℕ → List ℕ → List ℕ
-workingAfter m keys working = workingBehind (readHeader m) m keys working
+workingAfter m keys working = workingAfterHeader (readHeader m) m keys working
