@@ -130,7 +130,7 @@ fn fit(size: usize, room: usize) -> bool
 }
 
 // A buffer, encrypted where it stands if it is whole blocks. The round keys come to the public calls by value and are lent from there on: handed
-// from call to call by value, they made the loop of the chain 4 % longer.
+// from call to call by value, they made encryption execute 4 to 5 % more.
 fn encrypt_whole(keys: &[[u8; 16]; 11], vector: [u8; 16], buffer: &mut [u8]) -> bool
     ensures { λ r. ⌜ r ≡ eqb (length (now (buffer .entry)) % 16) 0 ⌝ }
     ensures { λ _. ⌜ now (buffer .exit) ≡ cond (eqb (length (now (buffer .entry)) % 16) 0)

@@ -1,16 +1,18 @@
 -- SPDX-License-Identifier: MPL-2.0
 -- The place in words is that of the part that is handed out: what the readers found lies in its buffer.
-use Rattle.laws.proofs.Kit.{ℕ, _+_, _≤_, _≡_, refl, Bool, true, false, cond, List, [], _∷_, length, getD, le-ltb, eqb, arith}
+use Rattle.laws.proofs.Kit.{ℕ, _+_, _≤_, _≡_, refl, sym, _∙_, Bool, true, false, cond, List, [], _∷_, length, take, drop, getD, le-ltb, eqb, eqb-false, arith}
+use Rattle.laws.specs.Rows.{first}
 use Rattle.laws.proofs.Cases.{on}
 use Rattle.wire.specs.Answers.{foundHeader}
 use Rattle.wire.specs.Fields.{isSealed}
 use Rattle.wire.specs.Reader.{readHeader}
+use Rattle.wire.specs.declared.header.FoundHeader.{FoundHeader}
 use Rattle.wire.specs.declared.header.HeaderRead.{HeaderRead}
 use Rattle.wire.specs.declared.header.HeaderRead.the-variants as head
 use Rattle.wire.proofs.Sound.{read-sound}
 use Rattle.message.specs.Answers.{foundMessage}
 use Rattle.message.specs.Handed.{placeOf}
-use Rattle.message.specs.Reading.{readMessage}
+use Rattle.message.specs.Reading.{payloadRows, plainRead, afterHeader, readMessage}
 use Rattle.message.specs.declared.reading.MessageRead.{MessageRead}
 use Rattle.message.specs.declared.reading.MessageRead.the-variants.{Refused, Read}
 use Rattle.message.proofs.Told.{read-lies}
@@ -27,6 +29,10 @@ module _ (m w from size : ℕ) where
   unfolding placeIn
   unplaced = refl
 
+-- A message that is still sealed has no part in either buffer.
+two-none : _≡_ {A = ℕ} 2 0 → ⊥
+two-none e = omega arith
+
 pub place-handed : PlaceHanded
 place-handed m keys w = by (readMessage m keys (length w)) refl
   where
@@ -34,15 +40,32 @@ place-handed m keys w = by (readMessage m keys (length w)) refl
     by (Refused n) e = placed (length m) (length w) 0 0 false (omega arith)
     by (Read f) e = placed (length m) (length w) (f .from) (f .size) (f .sealed) (read-lies m keys (length w) f e .inside)
 
+-- A plain message that is read: its part is that of the header.
+plain-place : (m keys : List ℕ) (room : ℕ) (f : FoundHeader) → isSealed (f .header .flags) ≡ false
+    → foundMessage (afterHeader (head.Read f) m keys room) .refusal ≡ 0
+    → placeWords (placeOf (afterHeader (head.Read f) m keys room)) ≡ 0 ∷ f .start ∷ f .size ∷ []
+unfolding plainRead
+plain-place m keys room f s =
+    let n = first (payloadRows (f .header .kind) false (take (f .size) (drop (f .start) m))) in
+    on (eqb n 0) (λ z. rw (s, z) (λ e. refl)) (λ z. rw (s, z) (λ e. absurd (eqb-false n 0 z e)))
+
+place-plain : (m keys w : List ℕ) (a : HeaderRead) → readHeader m ≡ a → foundHeader a .sealed ≡ 0
+    → foundMessage (afterHeader a m keys (length w)) .refusal ≡ 0 → placeBy m w (foundHeader a) ≡ placeWords (placeOf (afterHeader a m keys (length w)))
+place-plain m keys w (head.Refused n) e z r = placed (length m) (length w) 0 0 false (omega arith)
+place-plain m keys w (head.Read f) e z r =
+    let s = on (isSealed (f .header .flags)) (λ s. absurd (two-none (rw s at z))) (λ s. s) in
+    let here : placeBy m w (foundHeader (head.Read f)) ≡ 0 ∷ f .start ∷ f .size ∷ [] =
+    rw s (placed (length m) (length w) (f .start) (f .size) false (omega (arith, read-sound m f e .spans))) in
+    here ∙ sym (plain-place m keys (length w) f s r)
+
 pub place-unopened : PlaceUnopened
-place-unopened m w = by (readHeader m) refl
-  where
-    by : (a : HeaderRead) → readHeader m ≡ a → let f = foundHeader a in
-        placeBy m w f ≡ cond (eqb (f .sealed) 0) (0 ∷ f .from ∷ f .size ∷ []) (0 ∷ 0 ∷ 0 ∷ [])
-    by (head.Refused n) e = placed (length m) (length w) 0 0 false (omega arith)
-    by (head.Read f) e =
-        on (isSealed (f .header .flags)) (λ s. rw s (unplaced (length m) (length w) (f .start) (f .size)))
-        (λ s. rw s (placed (length m) (length w) (f .start) (f .size) false (omega (arith, read-sound m f e .spans))))
+unfolding readMessage
+place-unopened =
+    record {
+      plain = λ m keys w z r. place-plain m keys w (readHeader m) refl z r;
+      sealed = λ m w z. let f = foundHeader (readHeader m) in rw z (unplaced (length m) (length w) (f .from) (f .size));
+      refused = λ m w n e. rw e (placed (length m) (length w) 0 0 false (omega arith));
+    }
 
 -- The place by the words of a header.
 pub place-told : (h : List ℕ) (m w a b d : ℕ) (p q : List ℕ) → a ≡ getD h 8 0 → b ≡ getD h 9 0 → d ≡ getD h 10 0 → p ≡ placeIn m w a b d

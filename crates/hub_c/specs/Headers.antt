@@ -6,7 +6,7 @@ use mathlib.Core.List.{List, [], _∷_, _++_}
 use mathlib.Core.Bool.{Bool, cond, not, _&&_, _||_}
 use lib.Dec.{eqb, ltb}
 use lib.ListN.{length}
-use Rattle.wire.specs.Answers.{foundHeader}
+use Rattle.wire.specs.Answers.{nothing, foundHeader}
 use Rattle.wire.specs.Reader.{readHeader}
 use Rattle.wire.specs.declared.answers.Found.{Found}
 use Rattle.wire.specs.declared.header.Header.{Header}
@@ -54,9 +54,12 @@ PlaceHanded =
     (message keys working : List ℕ) → let read = readMessage message keys (length working) in
     placeBy message working (foundMessage read) ≡ placeWords (placeOf read)
 
--- Those that hub_read_header gave do so of a plain message; of a sealed one, which nobody has opened, and on a refusal, they name the empty part at
--- the message's start.
-abbrev pub PlaceUnopened : Type 0
-PlaceUnopened =
-    (message working : List ℕ) → let f = foundHeader (readHeader message) in
-    placeBy message working f ≡ cond (eqb (f .sealed) 0) (0 ∷ f .from ∷ f .size ∷ []) (0 ∷ 0 ∷ 0 ∷ [])
+-- Those that hub_read_header gave name the same part, of a plain message that the reader does not refuse. Of a sealed one, which nobody has opened,
+-- and on a refusal, they name the empty part at the message's start.
+pub record PlaceUnopened : Type 0 where
+  pub plain : (message keys working : List ℕ) → let f = foundHeader (readHeader message) in let read = readMessage message keys (length working) in
+      f .sealed ≡ 0 → foundMessage read .refusal ≡ 0 → placeBy message working f ≡ placeWords (placeOf read)
+  pub sealed : (message working : List ℕ) → let f = foundHeader (readHeader message) in
+      f .sealed ≡ 2 → placeBy message working f ≡ 0 ∷ 0 ∷ 0 ∷ []
+  pub refused : (message working : List ℕ) (n : ℕ) → foundHeader (readHeader message) ≡ nothing n
+      → placeBy message working (foundHeader (readHeader message)) ≡ 0 ∷ 0 ∷ 0 ∷ []

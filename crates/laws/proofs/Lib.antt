@@ -12,6 +12,7 @@ pub mod Cases
 pub mod Courses
 pub mod Numbers
 pub mod Parts
+pub mod NumberBytes
 pub mod Stores
 pub mod Order
 pub mod Lent

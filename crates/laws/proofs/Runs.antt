@@ -1,10 +1,10 @@
 -- SPDX-License-Identifier: MPL-2.0
 -- A list given by its elements has them; a list that has them is that list, also where a loop filled them in one by one.
-use Rattle.laws.proofs.Kit.{ℕ, zero, suc, _+_, _≤_, _<_, _≡_, refl, sym, _∙_, ap, List, length, getD, set, length-set, getD-set-same}
-use Rattle.laws.proofs.Kit.{getD-set-other, add-zero, le-of-suc-le-suc, not-suc-le-zero, zero-add, arith}
+use Rattle.laws.proofs.Kit.{ℕ, zero, suc, _+_, _≤_, _<_, _≡_, refl, sym, _∙_, ap, List, length, getD, set, length-append, length-set}
+use Rattle.laws.proofs.Kit.{getD-set-same, getD-set-other, add-zero, le-of-suc-le-suc, not-suc-le-zero, zero-add, arith}
 use native.Mathlib.Decide.{ℕ-discrete}
 use lib.Seq.{ext-getD}
-use Rattle.laws.specs.Runs.{run, table}
+use Rattle.laws.specs.Runs.{run, gathered, table}
 
 pub run-length {ℓ} : {A : Type ℓ} (f : ℕ → A) (i n : ℕ) → length (run f i n) ≡ n
 unfolding run
@@ -23,6 +23,11 @@ run-from-zero f n k d h = run-at f 0 n k k d h (zero-add k)
 pub run-is : {A : Type 0} (d : A) (f : ℕ → A) (n : ℕ) (l : List A) → length l ≡ n → ((k : ℕ) → k < n → getD l k d ≡ f k) → l ≡ run f 0 n
 run-is d f n l e h =
     ext-getD d l (run f 0 n) (e ∙ sym (run-length f 0 n)) (λ k g. let b : k < n = omega arith in h k b ∙ sym (run-from-zero f n k d b))
+
+pub length-gathered : {A : Type 0} (f : ℕ → A) (n : ℕ) → length (gathered f n) ≡ n
+unfolding gathered
+length-gathered f zero = refl
+length-gathered f (suc n) = rw length-append (omega (arith, length-gathered f n))
 
 pub table-at : (f : ℕ → ℕ) (x : ℕ) → x < 256 → getD (table f) x 0 ≡ f x
 unfolding table

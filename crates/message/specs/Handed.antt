@@ -7,7 +7,7 @@ use mathlib.Core.Bool.{cond}
 use lib.ListN.{length, take, drop}
 use lib.Dec.{eqb, ltb}
 use Rattle.message.specs.declared.reading.MessageRead.{MessageRead}
-use Rattle.message.specs.declared.reading.MessageRead.the-variants.{Refused, Read}
+use Rattle.message.specs.Answers.{foundMessage}
 
 -- A part of one of the two buffers: of which (0 is the message, 1 the working buffer), from where, how many bytes.
 pub record Place : Type 0 where
@@ -15,10 +15,10 @@ pub record Place : Type 0 where
   pub from : ℕ
   pub size : ℕ
 
--- Where the payload lies, by what the reader answered. "On a refusal that part is empty, at the message's start."
+-- Where the payload lies, by the values of the reader's answer: beside a refusal these are 0. "On a refusal that part is empty, at the message's
+-- start."
 abbrev pub placeOf : MessageRead → Place
-placeOf (Refused n) = record { buffer = 0; from = 0; size = 0 }
-placeOf (Read f) = record { buffer = cond (f .sealed) 1 0; from = f .from; size = f .size }
+placeOf read = let f = foundMessage read in record { buffer = f .sealed; from = f .from; size = f .size }
 
 -- The size bytes from a place on; none where they reach past the end.
 unfoldable pub partOf : List ℕ → ℕ → ℕ → List ℕ

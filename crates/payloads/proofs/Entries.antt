@@ -5,7 +5,8 @@ use Rattle.laws.proofs.Kit.{ℕ, zero, suc, _+_, _*_, _≤_, _≡_, refl, sym, 
 use Rattle.laws.proofs.Kit.{length-append, arith}
 use mathlib.Core.List.{flatMap}
 use Rattle.laws.proofs.Bools.{and-one, and-assoc, and-true}
-use Rattle.payloads.specs.Entries.{entryAt, each, gathered, all}
+use Rattle.laws.specs.Runs.{gathered}
+use Rattle.payloads.specs.Entries.{entryAt, each, all}
 
 -- Something that begins at a place was written for a value: it passes its test, it ends after the bytes that were written, and it says the value.
 pub record Back {A : Type 0} (passes : Bool) (ends : ℕ) (says : A) (at : ℕ) (bytes : List ℕ) (v : A) : Type 0 where
@@ -39,7 +40,7 @@ module _ (ends : ℕ → ℕ) where
 
 -- What was written for values one after the other, between any front and any back, if this holds of one value.
 module _ {A : Type 0} (write : A → List ℕ) (fits : A → Bool) (holds : List ℕ → ℕ → Bool) (ends : List ℕ → ℕ → ℕ) (says : List ℕ → ℕ → A)
-    (one : (v : A) (a b : List ℕ) (at : ℕ) → length a ≡ at → fits v ≡ true → let p = (a ++ write v) ++ b in
+    (single : (v : A) (a b : List ℕ) (at : ℕ) → length a ≡ at → fits v ≡ true → let p = (a ++ write v) ++ b in
     Back (holds p at) (ends p at) (says p at) at (write v) v) where
   abbrev AllBack : List A → List ℕ → ℕ → Type 0
   AllBack vs p at = let place = entryAt (ends p) at in
@@ -53,7 +54,7 @@ module _ {A : Type 0} (write : A → List ℕ) (fits : A → Bool) (holds : List
       let x = write v in
       let y = flatMap write vs in
       let p = ((a ++ x) ++ y) ++ b in
-      let first = rw (← append-assoc (a ++ x) y b) at (one v a (y ++ b) at e (k .0)) in
+      let first = rw (← append-assoc (a ++ x) y b) at (single v a (y ++ b) at e (k .0)) in
       let rest = entries-back vs (a ++ x) b (at + length x) (rw (length-append, e)) (k .1) in
       let here : ends p at ≡ at + length x = first .place in
       rw (← append-assoc a x y)
@@ -76,11 +77,6 @@ module _ (holds : ℕ → Bool) (ends : ℕ → ℕ) where
       let place = entryAt ends first in
       let k = and-true (each (λ i. holds (place i)) n) (holds (place n)) h in
       omega (arith, entries-short l short first n (k .0), short (place n) (k .1))
-
-pub length-gathered : {A : Type 0} (says : ℕ → A) (n : ℕ) → length (gathered says n) ≡ n
-unfolding gathered
-length-gathered says zero = refl
-length-gathered says (suc n) = rw length-append (omega (arith, length-gathered says n))
 
 module _ {A : Type 0} where
   all-append : (test : A → Bool) (vs : List A) (v : A) → all test (vs ++ (v ∷ [])) ≡ (all test vs && test v)
@@ -109,10 +105,10 @@ module _ {A : Type 0} where
         → each (λ i. holds (entryAt ends first i)) n ≡ true → entryAt ends first n ≤ length p
         → flatMap write (gathered (λ i. says (entryAt ends first i)) n) ++ drop (entryAt ends first n) p ≡ drop first p
     unfolding each gathered entryAt flatMap
-    entries-then p write ends onward one first zero h l = refl
-    entries-then p write ends onward one first (suc n) h l =
+    entries-then p write ends onward single first zero h l = refl
+    entries-then p write ends onward single first (suc n) h l =
         let place = entryAt ends first in
         let vs = gathered (λ i. says (place i)) n in
         let k = and-true (each (λ i. holds (place i)) n) (holds (place n)) h in
-        rw (flatMap-append write vs (says (place n)), append-assoc, one (place n) (k .1) l)
-        (entries-then p write ends onward one first n (k .0) (omega (arith, onward (place n))))
+        rw (flatMap-append write vs (says (place n)), append-assoc, single (place n) (k .1) l)
+        (entries-then p write ends onward single first n (k .0) (omega (arith, onward (place n))))

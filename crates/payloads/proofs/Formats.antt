@@ -1,18 +1,19 @@
 -- SPDX-License-Identifier: MPL-2.0
 -- One theorem each way, over any format, field by field: what was written is accepted and read back; what is accepted is what the writer writes
 -- for the values that were read. Entries are of a format too, a smaller one, so that the same holds of each (proofs/Entries: of all).
-use Rattle.laws.proofs.Kit.{ℕ, _+_, _*_, _≤_, _≡_, refl, sym, _∙_, true, _&&_, List, [], _++_, append-nil, append-assoc, length, drop}
+use Rattle.laws.proofs.Kit.{ℕ, _+_, _≤_, _≡_, refl, sym, true, _&&_, List, [], _++_, append-nil, append-assoc, length, drop}
 use Rattle.laws.proofs.Kit.{length-append, drop-length, eqb, leb, eq-eqb, eqb-true, leb-true, zero-add, arith}
 use mathlib.Core.List.{flatMap}
 use native.Mathlib.Nat.{mul-le-mul-right}
 use Rattle.laws.specs.Bytes.{AreBytes}
 use Rattle.laws.proofs.Bools.{and-true}
 use Rattle.laws.proofs.Parts.{length-bytesAt}
-use Rattle.payloads.specs.Entries.{entryAt, each, gathered, all}
-use Rattle.payloads.specs.Format.{Width, widthOf, numberAt, bytesOf, end, fixed, free, array, sized, counted, Format, Values, fits, write}
+use Rattle.laws.proofs.Runs.{length-gathered}
+use Rattle.payloads.specs.Entries.{entryAt, each, all}
+use Rattle.payloads.specs.Format.{widthOf, numberAt, numberBytes, end, fixed, free, array, sized, counted, Format, Values, fits, write}
 use Rattle.payloads.specs.Format.{endsFrom, holdsFrom, readFrom, acceptsFrom, accepts, read, longest}
-use Rattle.payloads.proofs.Widths.{length-bytesOf, number-back, run-back, run-then, number-then}
-use Rattle.payloads.proofs.Entries.{Back, after-field, entries-back, entries-onward, entries-short, length-gathered, all-gathered, entries-then}
+use Rattle.payloads.proofs.Widths.{length-numberBytes, number-back, run-back, run-then, number-then}
+use Rattle.payloads.proofs.Entries.{Back, after-field, entries-back, entries-onward, entries-short, all-gathered, entries-then}
 
 -- What was written between any front and any back.
 abbrev WrittenBack : (f : Format) → Values f → List ℕ → ℕ → Type 0
@@ -26,16 +27,16 @@ written-back : (f : Format) (v : Values f) (a b : List ℕ) (at : ℕ) → lengt
 unfolding fits write endsFrom holdsFrom readFrom
 written-back end v a b at e h = record { holds = refl; place = omega arith; value = refl }
 written-back (fixed w n f) v a b at e h =
-    let x = bytesOf w n in
-    let r = written-back f v (a ++ x) b (at + widthOf w) (longer a x at _ e (length-bytesOf w n)) h in
+    let x = numberBytes w n in
+    let r = written-back f v (a ++ x) b (at + widthOf w) (longer a x at _ e (length-numberBytes w n)) h in
     rw (← append-assoc a x (write f v), number-back w n a (write f v) b at e, eq-eqb n n refl)
-    (after-field (λ (u : Values f). u) x (write f v) (length-bytesOf w n) r)
+    (after-field (λ (u : Values f). u) x (write f v) (length-numberBytes w n) r)
 written-back (free w allowed f) (n, v) a b at e h =
     let k = and-true (allowed n) (fits f v) h in
-    let x = bytesOf w n in
-    let r = written-back f v (a ++ x) b (at + widthOf w) (longer a x at _ e (length-bytesOf w n)) (k .1) in
+    let x = numberBytes w n in
+    let r = written-back f v (a ++ x) b (at + widthOf w) (longer a x at _ e (length-numberBytes w n)) (k .1) in
     rw (← append-assoc a x (write f v), number-back w n a (write f v) b at e, k .0)
-    (after-field (λ (u : Values f). (n, u)) x (write f v) (length-bytesOf w n) r)
+    (after-field (λ (u : Values f). (n, u)) x (write f v) (length-numberBytes w n) r)
 written-back (array size f) (x, v) a b at e h =
     let k = and-true (eqb (length x) size) (fits f v) h in
     let l = eqb-true (length x) size (k .0) in
@@ -44,27 +45,27 @@ written-back (array size f) (x, v) a b at e h =
 written-back (sized w least most f) (x, v) a b at e h =
     let n = length x in
     let k = and-true (leb least n && leb n most) (fits f v) h in
-    let s = bytesOf w n in
-    let l = longer a s at _ e (length-bytesOf w n) in
+    let s = numberBytes w n in
+    let l = longer a s at _ e (length-numberBytes w n) in
     let r = written-back f v ((a ++ s) ++ x) b (at + widthOf w + n) (longer (a ++ s) x _ n l refl) (k .1) in
     rw (← append-assoc a s (x ++ write f v), number-back w n a (x ++ write f v) b at e, k .0)
     (rw (← append-assoc (a ++ s) x (write f v), run-back x (a ++ s) (write f v) b _ n l refl)
-    (after-field (λ (u : List ℕ × Values f). u) s (x ++ write f v) (length-bytesOf w n)
+    (after-field (λ (u : List ℕ × Values f). u) s (x ++ write f v) (length-numberBytes w n)
     (after-field (λ (u : Values f). (x, u)) x (write f v) refl r)))
 written-back (counted w most entry f) (vs, v) a b at e h =
     let n = length vs in
     let x = flatMap (write entry) vs in
-    let s = bytesOf w n in
+    let s = numberBytes w n in
     let k = and-true (leb n most && all (fits entry) vs) (fits f v) h in
     let c = and-true (leb n most) (all (fits entry) vs) (k .0) in
-    let l = longer a s at _ e (length-bytesOf w n) in
+    let l = longer a s at _ e (length-numberBytes w n) in
     let es = entries-back (write entry) (fits entry) (holdsFrom entry) (endsFrom entry) (readFrom entry) (written-back entry) vs (a ++ s)
     (write f v ++ b) (at + widthOf w) l (c .1) in
     let t = rw (← append-assoc ((a ++ s) ++ x) (write f v) b) at es in
     let r = written-back f v ((a ++ s) ++ x) b (at + widthOf w + length x) (longer (a ++ s) x _ _ l refl) (k .1) in
     rw (← append-assoc a s (x ++ write f v), number-back w n a (x ++ write f v) b at e, c .0)
     (rw (← append-assoc (a ++ s) x (write f v), t .holds, t .place, t .value)
-    (after-field (λ (u : List (Values entry) × Values f). u) s (x ++ write f v) (length-bytesOf w n)
+    (after-field (λ (u : List (Values entry) × Values f). u) s (x ++ write f v) (length-numberBytes w n)
     (after-field (λ (u : Values f). (vs, u)) x (write f v) refl r)))
 
 -- Reading undoes writing: what is written for values that fit is accepted, and says these values.
@@ -157,9 +158,9 @@ module _ (p : List ℕ) where
         let k = and-true (leb n most && each (λ i. holdsFrom entry p (place i)) n) _ h in
         let c = and-true (leb n most) _ (k .0) .1 in
         let i = onward f (place n) in
-        let all = entries-then (holdsFrom entry p) (readFrom entry p) p (write entry) (endsFrom entry p) (onward entry) (written-read entry) next n c
+        let entries = entries-then (holdsFrom entry p) (readFrom entry p) p (write entry) (endsFrom entry p) (onward entry) (written-read entry) next n c
         (omega (arith, i)) in
-        rw (append-assoc, append-assoc, written-read f (place n) (k .1) l, length-gathered (λ i. readFrom entry p (place i)) n, all)
+        rw (append-assoc, append-assoc, written-read f (place n) (k .1) l, length-gathered (λ i. readFrom entry p (place i)) n, entries)
         (number-then p bytes w at (omega (arith, i, entries-onward (holdsFrom entry p) (endsFrom entry p) (onward entry) next n)))
 
 -- Writing undoes reading: the values that are read from what is accepted fit, and the writer writes these bytes for them.

@@ -3,4 +3,5 @@ pub mod Steps
 pub mod Widths
 pub mod Entries
 pub mod Formats
+pub mod TypedBytes
 pub mod Shaped

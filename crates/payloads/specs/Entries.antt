@@ -1,7 +1,7 @@
 -- SPDX-License-Identifier: MPL-2.0
--- Entries that stand one after the other, each known by its index, from 0 on: where it stands, whether it passes a test, what it says.
+-- Entries that stand one after the other, each known by its index, from 0 on: where it stands, and whether each passes a test.
 use Prim.Native.Nat.{ℕ, zero, suc}
-use mathlib.Core.List.{List, [], _∷_, _++_}
+use mathlib.Core.List.{List, [], _∷_}
 use mathlib.Core.Bool.{Bool, true, _&&_}
 
 -- The place of an entry: the first stands at a given place, each other where the one before it ends.
@@ -13,11 +13,6 @@ entryAt ends first (suc i) = ends (entryAt ends first i)
 unfoldable pub each : (test : ℕ → Bool) (n : ℕ) → Bool
 each test zero = true
 each test (suc n) = each test n && test n
-
--- What the first n entries say, in their order.
-unfoldable pub gathered : {A : Type 0} (says : ℕ → A) (n : ℕ) → List A
-gathered says zero = []
-gathered says (suc n) = gathered says n ++ (says n ∷ [])
 
 -- Each value of a list passes a test.
 unfoldable pub all : {A : Type 0} (test : A → Bool) → List A → Bool

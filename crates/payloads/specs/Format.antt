@@ -7,7 +7,8 @@ use mathlib.Core.Bool.{Bool, true, _&&_}
 use lib.ListN.{length}
 use lib.Dec.{leb, eqb}
 use Rattle.laws.specs.Bytes.{be8, be16, be32, be64, bytes16, bytes32, bytes64, bytesAt}
-use Rattle.payloads.specs.Entries.{entryAt, each, gathered, all}
+use Rattle.laws.specs.Runs.{gathered}
+use Rattle.payloads.specs.Entries.{entryAt, each, all}
 
 -- "All numbers are big-endian." A number stands in one, two, four or eight bytes.
 pub data Width : Type 0 where
@@ -28,11 +29,11 @@ numberAt four p at = be32 p at
 numberAt eight p at = be64 p at
 
 -- A number in the bytes of a width.
-abbrev pub bytesOf : Width → ℕ → List ℕ
-bytesOf one x = x ∷ []
-bytesOf two x = bytes16 x
-bytesOf four x = bytes32 x
-bytesOf eight x = bytes64 x
+abbrev pub numberBytes : Width → ℕ → List ℕ
+numberBytes one x = x ∷ []
+numberBytes two x = bytes16 x
+numberBytes four x = bytes32 x
+numberBytes eight x = bytes64 x
 
 -- A format: it is at its end, or it begins with a field, and after that comes another format. The fields: always this number; a number that
 -- passes a test; bytes of this number; bytes with their number before them, which has a least and a most; entries of one format with their
@@ -77,11 +78,11 @@ fits (counted w most entry f) (vs, v) = leb (length vs) most && all (fits entry)
 -- The bytes of a payload, field by field.
 unfoldable pub write : (f : Format) → Values f → List ℕ
 write end v = []
-write (fixed w n f) v = bytesOf w n ++ write f v
-write (free w allowed f) (x, v) = bytesOf w x ++ write f v
+write (fixed w n f) v = numberBytes w n ++ write f v
+write (free w allowed f) (x, v) = numberBytes w x ++ write f v
 write (array size f) (b, v) = b ++ write f v
-write (sized w least most f) (b, v) = bytesOf w (length b) ++ (b ++ write f v)
-write (counted w most entry f) (vs, v) = bytesOf w (length vs) ++ (flatMap (write entry) vs ++ write f v)
+write (sized w least most f) (b, v) = numberBytes w (length b) ++ (b ++ write f v)
+write (counted w most entry f) (vs, v) = numberBytes w (length vs) ++ (flatMap (write entry) vs ++ write f v)
 
 -- The place after the fields that begin at a place. A byte past the end counts as 0.
 unfoldable pub endsFrom : Format → List ℕ → ℕ → ℕ

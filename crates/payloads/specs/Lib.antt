@@ -1,5 +1,6 @@
 -- SPDX-License-Identifier: MPL-2.0
 pub mod Entries
 pub mod Format
+pub mod Typed
 pub mod Shapes
 pub mod Reading

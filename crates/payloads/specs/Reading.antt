@@ -5,7 +5,9 @@ use mathlib.Core.List.{List}
 use mathlib.Core.Bool.{cond}
 use lib.ListN.{length, getD}
 use lib.Dec.{ltb}
-use Rattle.laws.specs.Bytes.{be16, bytesAt}
+use Rattle.laws.specs.Bytes.{be16}
+use Rattle.payloads.specs.Format.{read}
+use Rattle.payloads.specs.Shapes.{connectionRequest}
 use Rattle.payloads.specs.declared.reading.Request.{Request}
 use Rattle.payloads.specs.declared.reading.Span.{Span}
 
@@ -21,9 +23,11 @@ connectType p = getD p 2 255
 abbrev pub codeOf : List ℕ → ℕ
 codeOf p = getD p 3 255
 
--- Nonce, X and Y, each at its place.
+-- Nonce, X and Y: what a Connection Request says after its mode. A Connection Response that is Pending has them at the same places.
 unfoldable pub readRequest : List ℕ → Request
-readRequest p = record { nonce = bytesAt p 6 8; x = bytesAt p 20 32; y = bytesAt p 54 32 }
+readRequest p =
+    let said = read connectionRequest p .1 in
+    record { nonce = said .0; x = said .1 .0; y = said .1 .1 .0 }
 
 -- The place of the bytes whose number stands before them, at a place; where they do not lie in the payload, the empty place at its start.
 abbrev pub sizedAt : List ℕ → ℕ → Span

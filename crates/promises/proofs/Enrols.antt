@@ -5,7 +5,7 @@ use Rattle.laws.proofs.Kit.{le-ltb, arith}
 use Rattle.laws.specs.Bytes.{AreBytes, bytesAt}
 use Rattle.wire.specs.Fields.{badType, badFlags, badPiece, mostPieces, isSealed}
 use Rattle.wire.specs.Chain.{entryOf, chain, mostEntries, readChain, badChain}
-use Rattle.payloads.specs.Format.{endsFrom, holdsFrom, acceptsFrom}
+use Rattle.payloads.specs.Format.{endsFrom, holdsFrom, readFrom, acceptsFrom}
 use Rattle.payloads.specs.Shapes.{isShaped, badPayload}
 use Rattle.payloads.specs.Reading.{readRequest, certificateOf}
 use Rattle.wire.specs.declared.header.Header.{Header}
@@ -88,7 +88,7 @@ request-allowed = (
 )
 
 request-same : SameStep (requestBytes 0) (requestBytes 1)
-unfolding readRequest bytesAt
+unfolding readRequest readFrom bytesAt
 request-same = record { type = refl; nonce = λ e. refl; x = λ e. refl; y = λ e. refl; digested = unequal 0 2 refl }
 
 device-allowed : Allowed 6 (deviceBytes 0 end) × Allowed 6 (deviceBytes 1 (0 ∷ 1 ∷ 7 ∷ []))

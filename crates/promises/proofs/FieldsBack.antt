@@ -1,26 +1,29 @@
 -- SPDX-License-Identifier: MPL-2.0
 -- What a payload writer wrote is the bytes of its format, accepted, and it says the values that were given (`payload-back`, over any format). A
 -- reader of a field that is free gives one of these values; of one that is fixed, a byte of the bytes.
-use Rattle.laws.proofs.Kit.{ℕ, _+_, _≤_, _≡_, refl, sym, _∙_, ap, subst, Bool, true, false, true≢false, _&&_, List, length, take-append-seam, eqb}
-use Rattle.laws.proofs.Kit.{leb, eqb-true, eqb-false, eq-eqb, not, le-ltb, lit<, arith}
+use Rattle.laws.proofs.Kit.{ℕ, _+_, _≤_, _≡_, refl, sym, _∙_, ap, subst, Bool, true, false, true≢false, List, length, take-append-seam, eqb}
+use Rattle.laws.proofs.Kit.{eqb-true, eqb-false, eq-eqb, not, le-ltb, lit<, arith}
 use mathlib.Core.List.{flatMap}
 use Rattle.laws.proofs.Cases.{on}
-use Rattle.laws.specs.Bytes.{be8, be16, bytesAt}
+use Rattle.laws.specs.Bytes.{be16, bytesAt}
 use Rattle.laws.proofs.Bools.{and-true}
 use Rattle.laws.proofs.Parts.{bytesAt-part}
-use Rattle.payloads.specs.Entries.{entryAt, each, gathered}
+use Rattle.laws.specs.Runs.{gathered}
+use Rattle.payloads.specs.Entries.{entryAt, each, all}
+use Rattle.payloads.specs.Typed.{hasWidths}
 use Rattle.payloads.specs.Format.{Format, Values, _and_, fits, write, endsFrom, holdsFrom, readFrom, acceptsFrom, accepts, read}
-use Rattle.payloads.specs.Shapes.{either, presenceRequest, connectionRequest, deviceAuthentication, doneRequest, doneResponse, badPayload}
+use Rattle.payloads.specs.Shapes.{presenceRequest, connectionRequest, deviceAuthentication, doneRequest, doneResponse, badPayload}
 use Rattle.payloads.specs.Reading.{connectionMode, connectType, codeOf, readRequest, sizedAt, certificateOf, thumbprintOf}
 use Rattle.payloads.specs.declared.reading.Request.{Request}
 use Rattle.payloads.proofs.Formats.{write-back}
+use Rattle.payloads.proofs.TypedBytes.{written-bytes, typed-read}
 use Rattle.payloads.proofs.Shaped.{shape-good}
 use Rattle.writer.specs.Answers.{wrote}
 use Rattle.writer.specs.Written.{putRefusal, written, output}
 use Rattle.writer.specs.Payload.{payloadWritten, exchangeValues, responseFormat, responseValues}
 use Rattle.writer.specs.declared.Written.the-variants.{Bytes}
 use Rattle.writer.proofs.PayloadBack.{payload-back}
-use Rattle.promises.specs.Fields.{WrotePayload, spanOf, FieldsBack, ValuesBack, CanBeWritten, OnlyWritten, CountedEntries}
+use Rattle.promises.specs.Fields.{WrotePayload, spanOf, FieldsBack, ValuesBack, CanBeWritten, OnlyWritten, OfBytes, CountedEntries}
 
 module _ (f : Format) (v : Values f) (p : List ℕ) (w : WrotePayload f v p) where
   -- Nothing was refused.
@@ -142,6 +145,10 @@ pub only-written : OnlyWritten
 only-written f p bytes h =
     let k = write-back f p bytes h in
     subst (λ (q : List ℕ). WrotePayload f (read f p) q) (k .1) (can-be-written f (read f p) (k .0))
+
+pub of-bytes : OfBytes
+unfolding all hasWidths
+of-bytes = record { of-shapes = refl; of-written = written-bytes; of-read = λ f p bytes. typed-read p bytes f 0 }
 
 -- By computation.
 pub counted-entries : CountedEntries

@@ -19,3 +19,4 @@ pub mod Counted
 pub mod Determined
 pub mod Witness
 pub mod Enrols
+pub mod HostSteps

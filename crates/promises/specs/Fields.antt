@@ -8,8 +8,11 @@ use lib.ListN.{take}
 use lib.Dec.{eqb}
 use Rattle.laws.specs.Bytes.{AreBytes}
 use Rattle.laws.specs.Parts.{part}
+use Rattle.payloads.specs.Entries.{all}
+use Rattle.payloads.specs.Typed.{hasWidths, Typed}
 use Rattle.payloads.specs.Format.{one, end, fixed, free, sized, counted, Format, _then_, Values, _and_, fits, write, accepts, read}
-use Rattle.payloads.specs.Shapes.{atMost, presenceRequest, connectionRequest, deviceAuthentication, doneRequest, doneResponse, badPayload}
+use Rattle.payloads.specs.Shapes.{atMost, presenceRequest, connectionRequest, deviceAuthentication, doneRequest, doneResponse}
+use Rattle.payloads.specs.Shapes.{Shape, shapes, badPayload}
 use Rattle.payloads.specs.Reading.{connectionMode, connectType, codeOf, readRequest, certificateOf, thumbprintOf}
 use Rattle.payloads.specs.declared.reading.Request.{Request}
 use Rattle.payloads.specs.declared.reading.Span.{Span}
@@ -58,9 +61,17 @@ ValuesBack = (f : Format) (v : Values f) (p : List ℕ) → WrotePayload f v p �
 abbrev pub CanBeWritten : Type 0
 CanBeWritten = (f : Format) (v : Values f) → fits f v ≡ true → WrotePayload f v (write f v)
 
--- Nothing else is accepted: a payload that has a format is what its writer writes, for the values that are read from it.
+-- Nothing else is accepted: a payload that has a format is what its writer writes, for the values that are read from it. So what stands above of
+-- payloads that were written holds of every payload that is accepted.
 abbrev pub OnlyWritten : Type 0
 OnlyWritten = (f : Format) (p : List ℕ) → AreBytes p → accepts f p ≡ true → WrotePayload f (read f p) p
+
+-- Formats and bytes: the numbers of each shape's format have room in their widths; such a format is written in bytes, for values that fit and are as
+-- the types of a call have them; and what is read from bytes is such values.
+pub record OfBytes : Type 0 where
+  pub of-shapes : all (λ (row : Shape). hasWidths (row .2)) shapes ≡ true
+  pub of-written : (f : Format) (v : Values f) → hasWidths f ≡ true → fits f v ≡ true → Typed f v → AreBytes (write f v)
+  pub of-read : (f : Format) (p : List ℕ) → AreBytes p → Typed f (read f p)
 
 -- A format with counted entries, which no payload of 01 has: at most two, each a number 0 to 6 and at most three bytes with their number before
 -- them; after the entries the number 9.

@@ -6,6 +6,7 @@ pub mod Fields
 pub mod Handed
 pub mod Reports
 pub mod Enrolment
+pub mod HostStates
 pub mod Counted
 pub mod Met
 pub mod Determinacy

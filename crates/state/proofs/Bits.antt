@@ -5,8 +5,9 @@ use Rattle.laws.proofs.Kit.{arith}
 use native.Mathlib.Nat.{zero-div, div-one, pow-succ', div-div-eq-div-mul}
 use Rattle.joining.specs.Heard.{bit, has}
 use Rattle.joining.proofs.HeardLaws.{bit-le}
-use Rattle.state.specs.State.{listed, value, eight}
-use Rattle.state.proofs.Listed.{listed-at}
+use Rattle.laws.specs.Runs.{gathered}
+use Rattle.state.specs.State.{value, eight}
+use Rattle.state.proofs.Gathered.{gathered-at}
 
 -- Bit k of a number, and a number's half.
 abbrev bitOf : ℕ → ℕ → Bool
@@ -41,10 +42,10 @@ weighed (b ∷ bs) n l e =
 
 -- Bit k of eight indexes is index k of them, and indexes that are the bits of a byte make the byte.
 pub eight-bit : (h : List Bool) (at k : ℕ) → k < 8 → bitOf (eight h at) k ≡ has h (at + k)
-eight-bit h at k l = picked (listed (λ (i : ℕ). has h (at + i)) 8) k ∙ listed-at _ false 8 k l
+eight-bit h at k l = picked (gathered (λ (i : ℕ). has h (at + i)) 8) k ∙ gathered-at _ false 8 k l
 
 pub eight-bits : (h : List Bool) (at n : ℕ) → n < 256 → ((k : ℕ) → k < 8 → has h (at + k) ≡ eqb (n / 2 ^ k % 2) 1) → eight h at ≡ n
-unfolding listed
+unfolding gathered
 eight-bits h at n l e =
     let f : ℕ → Bool = λ (i : ℕ). has h (at + i) in
-    weighed (listed f 8) n l (λ k i. listed-at f false 8 k i ∙ e k i)
+    weighed (gathered f 8) n l (λ k i. gathered-at f false 8 k i ∙ e k i)

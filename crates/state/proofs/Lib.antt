@@ -1,5 +1,5 @@
 -- SPDX-License-Identifier: MPL-2.0
-pub mod Listed
+pub mod Gathered
 pub mod Parted
 pub mod Sames
 pub mod Bits

@@ -10,7 +10,8 @@ use Rattle.hub.specs.declared.Connection.{Connection}
 use Rattle.state.specs.Layout.{heardPlace, heardSize}
 use Rattle.state.specs.State.{joined, bitAt, heardAt, heardByte, heardBytes, progressAt, connectionAt, Fits, ReadBack}
 use Rattle.state.specs.State.{progressParts, progressBytes, stateBytes}
-use Rattle.state.proofs.Listed.{length-listed, listed-at, bytesAt-listed}
+use Rattle.laws.proofs.Runs.{length-gathered}
+use Rattle.state.proofs.Gathered.{gathered-at, bytesAt-gathered}
 use Rattle.state.proofs.Parted.{Stand, joined-stand}
 use Rattle.state.proofs.Sames.{same-progress, same-connection}
 use Rattle.state.proofs.Bits.{eight-bit}
@@ -43,9 +44,9 @@ read64 n e = rw e (simp div-add-mod')
 module _ (s : List ℕ) (h : List Bool) (e : bytesAt s heardPlace heardSize ≡ heardBytes h heardSize) where
   byte-back : (i : ℕ) → i < heardSize → be8 s (heardPlace + i) ≡ heardByte h i
   byte-back i l =
-      sym (listed-at (λ (k : ℕ). be8 s (heardPlace + k)) 0 heardSize i l)
-      ∙ ap (λ (l : List ℕ). getD l i 0) (sym (bytesAt-listed s heardPlace heardSize) ∙ e)
-      ∙ listed-at (heardByte h) 0 heardSize i l
+      sym (gathered-at (λ (k : ℕ). be8 s (heardPlace + k)) 0 heardSize i l)
+      ∙ ap (λ (l : List ℕ). getD l i 0) (sym (bytesAt-gathered s heardPlace heardSize) ∙ e)
+      ∙ gathered-at (heardByte h) 0 heardSize i l
 
   bit-back : (i : ℕ) → i < most → bitAt s i ≡ has h i
   bit-back i l =
@@ -56,14 +57,14 @@ module _ (s : List ℕ) (h : List Bool) (e : bytesAt s heardPlace heardSize ≡ 
 
   heard-back : length h ≡ most → heardAt s most ≡ h
   heard-back f =
-      let n = length-listed (bitAt s) most in
-      ext-getD false (heardAt s most) h (n ∙ sym f) (λ i l. listed-at (bitAt s) false most i (rw n at l) ∙ bit-back i (rw n at l))
+      let n = length-gathered (bitAt s) most in
+      ext-getD false (heardAt s most) h (n ∙ sym f) (λ i l. gathered-at (bitAt s) false most i (rw n at l) ∙ bit-back i (rw n at l))
 
 state-back : (s : List ℕ) (c : Connection) → Fits c → Stand s 0 (allParts c) → connectionAt s ≡ c
 unfolding connectionAt mostPieces bytesAt
 state-back s c f w =
     let (size, (state, (session, (nonce, (x, (y, (digest, (expected, (heard, (count, (channel, (last, end)))))))))))) =
-    rw (f .nonce, f .x, f .y, f .digest, length-listed (heardByte (c .progress .heard)) heardSize) at w in
+    rw (f .nonce, f .x, f .y, f .digest, length-gathered (heardByte (c .progress .heard)) heardSize) at w in
     let progress = same-progress (progressAt s) (c .progress) (read32 _ expected) (heard-back s (c .progress .heard) heard (f .heard))
     (read64 _ count) (read64 _ channel) (read16 _ last) in
     same-connection _ c (read64 _ size) (ap (λ (l : List ℕ). be8 l 0) state) (read64 _ session) nonce x y digest progress
@@ -71,6 +72,6 @@ state-back s c f w =
 pub read-back : ReadBack
 unfolding mostPieces
 read-back c f = rw (all-parts c) (
-  simp (length-append, f .nonce, f .x, f .y, f .digest, length-listed (heardByte (c .progress .heard)) heardSize),
+  simp (length-append, f .nonce, f .x, f .y, f .digest, length-gathered (heardByte (c .progress .heard)) heardSize),
   state-back (joined (allParts c)) c f (joined-stand [] (allParts c)),
 )

@@ -1,22 +1,18 @@
 -- SPDX-License-Identifier: MPL-2.0
 -- A connection in bytes, numbers big-endian as on the wire: the layout, read and written.
-use Prim.Native.Nat.{ℕ, zero, suc, _+_, _*_, _/_, _%_, _^_}
+use Prim.Native.Nat.{ℕ, _+_, _*_, _/_, _%_, _^_}
 use mathlib.Core.Path.{_≡_}
 use mathlib.Core.List.{List, [], _∷_, _++_}
 use mathlib.Core.Bool.{Bool}
 use lib.Dec.{eqb}
 use lib.ListN.{length}
+use Rattle.laws.specs.Runs.{gathered}
 use Rattle.laws.specs.Bytes.{AreBytes, be8, be16, be32, be64, bytesAt, bytes16, bytes32, bytes64}
 use Rattle.joining.specs.Heard.{bit, has, most}
 use Rattle.joining.specs.declared.Progress.{Progress}
 use Rattle.hub.specs.declared.Connection.{Connection}
 use Rattle.state.specs.Layout.{sizePlace, statePlace, sessionPlace, noncePlace, xPlace, yPlace, digestPlace, expectedPlace}
 use Rattle.state.specs.Layout.{heardPlace, heardSize, countPlace, channelPlace, lastPlace, stateSize}
-
--- The first n values of a function.
-unfoldable pub listed : {A : Type 0} → (ℕ → A) → ℕ → List A
-listed f zero = []
-listed f (suc n) = listed f n ++ (f n ∷ [])
 
 -- Parts, one after the other.
 abbrev pub joined : List (List ℕ) → List ℕ
@@ -29,7 +25,7 @@ bitAt s i = eqb (be8 s (heardPlace + i / 8) / 2 ^ (i % 8) % 2) 1
 
 -- The first n indexes of the heard set.
 abbrev pub heardAt : List ℕ → ℕ → List Bool
-heardAt s n = listed (bitAt s) n
+heardAt s n = gathered (bitAt s) n
 
 -- Bits as a number, the first having the value 1.
 abbrev pub value : List Bool → ℕ
@@ -38,7 +34,7 @@ value (b ∷ bs) = bit b + 2 * value bs
 
 -- An index and the seven after it as a byte.
 abbrev pub eight : List Bool → ℕ → ℕ
-eight heard at = value (listed (λ (k : ℕ). has heard (at + k)) 8)
+eight heard at = value (gathered (λ (k : ℕ). has heard (at + k)) 8)
 
 -- The byte of the heard set that has index 8 i and the seven after it.
 abbrev pub heardByte : List Bool → ℕ → ℕ
@@ -46,7 +42,7 @@ heardByte heard i = eight heard (8 * i)
 
 -- The first n bytes of a heard set.
 abbrev pub heardBytes : List Bool → ℕ → List ℕ
-heardBytes heard n = listed (heardByte heard) n
+heardBytes heard n = gathered (heardByte heard) n
 
 -- How far the expected message has come, from its place on.
 abbrev pub progressAt : List ℕ → Progress

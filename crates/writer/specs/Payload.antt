@@ -11,7 +11,7 @@ use Rattle.payloads.specs.Shapes.{connectionRequest, pendingResponse, otherResp
 use Rattle.writer.specs.declared.Written.{Written}
 use Rattle.writer.specs.Written.{written, output}
 
--- Values that do not fit their format are refused: they would give none of the shapes.
+-- Values that do not fit their format are refused with 14.
 abbrev pub payloadWritten : (f : Format) → Values f → (out : List ℕ) → Written
 payloadWritten f v out = written (not (fits f v)) (length (write f v)) out
 

@@ -4,7 +4,7 @@ use Rattle.laws.proofs.Kit.{_-_, _≤_, _≡_, refl, length, sets, arith, needs
 use Rattle.wire.specs.Fields.{mostPieces}
 use Rattle.state.specs.Layout.{heardPlace, heardSize}
 use Rattle.state.specs.State.{heardBytes}
-use Rattle.state.proofs.Listed.{listed-none, listed-stored}
+use Rattle.state.proofs.Gathered.{gathered-none, gathered-stored}
 use Rattle.state.proofs.put_heard.Statement.{statement}
 use Rattle.state.proofs.put_heard.Tie as tie
 
@@ -25,5 +25,5 @@ pub put-heard-spec : {M : Type 1} → statement M
 unfolding mostPieces
 put-heard-spec =
     tie.close (tie.spec
-    Inv-loop μ-loop (λ c. (omega arith, refl, rw listed-none)) (λ c. search needs) (λ c. search needs) (λ c κs. search needs) (λ c κs. search needs)
-    (λ c. search needs) (λ c. search needs) (λ c. (omega arith, omega arith, search listed-stored)) (λ c. search needs) returns)
+    Inv-loop μ-loop (λ c. (omega arith, refl, rw gathered-none)) (λ c. search needs) (λ c. search needs) (λ c κs. search needs) (λ c κs. search needs)
+    (λ c. search needs) (λ c. search needs) (λ c. (omega arith, omega arith, search gathered-stored)) (λ c. search needs) returns)

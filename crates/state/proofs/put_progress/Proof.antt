@@ -3,7 +3,7 @@
 use Rattle.wire.specs.Fields.{mostPieces}
 use Rattle.state.specs.Layout.{expectedPlace, heardSize}
 use Rattle.state.specs.State.{heardByte, progressParts, progressBytes}
-use Rattle.state.proofs.Listed.{length-listed}
+use Rattle.laws.proofs.Runs.{length-gathered}
 use Rattle.state.proofs.Parted.{stored-joined}
 use Rattle.laws.proofs.Kit.{needs}
 use Rattle.state.proofs.put_progress.Statement.{statement}
@@ -19,7 +19,7 @@ returns c =
     let at-count : tie.After-store64 = search in
     let at-channel : tie.After-store642 = search in
     let at-last : tie.After-store16 = search in
-    let run = rw (length-listed (heardByte (p .heard)) heardSize) at (stored-joined (start .args .out .now) expectedPlace (progressParts p)) in (
+    let run = rw (length-gathered (heardByte (p .heard)) heardSize) at (stored-joined (start .args .out .now) expectedPlace (progressParts p)) in (
       rw (at-last .store16 .ensures, at-channel .store642 .ensures, at-count .store64 .ensures)
           (rw (at-heard .put-heard .ensures .0, at-expected .store32 .ensures) run),
       at-heard .put-heard .ensures .1,
