@@ -199,9 +199,10 @@ enum hub_place_word {
 
 /* Places of the words that hub_step writes. */
 enum hub_answer_word {
-    HUB_ANSWER_KIND = 0,  /* a hub_kind */
-    HUB_ANSWER_VALUE = 1, /* Reply, Again: the Connect type to send; Taken, Repeat, Complete: how many different pieces have come; else 0 */
-    HUB_ANSWER_LENGTH = 2 /* Complete: the report's length; Reply and Again of type 7: the Status to send, which is 0; else 0 */
+    HUB_ANSWER_KIND = 0,   /* a hub_kind */
+    HUB_ANSWER_VALUE = 1,  /* Reply, Again: the Connect type to send; Taken, Repeat, Complete: how many different pieces have come; else 0 */
+    HUB_ANSWER_LENGTH = 2, /* Complete: the report's length; Reply and Again of type 7: the Status to send, which is 0; else 0 */
+    HUB_ANSWER_STATUS = 2  /* the same word, by its name in a Reply and an Again */
 };
 
 /* The kinds of a step's answers. */

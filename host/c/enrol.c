@@ -73,7 +73,7 @@ static void take(const uint8_t *message, size_t message_n)
     uint8_t verdict = judge(message, message_n);
     uint8_t refusal = hub_step(state, HUB_STATE, message, message_n, keys, HUB_KEYS, working, sizeof working, report, sizeof report, verdict, answer,
                                HUB_ANSWER);
-    uint8_t done[4] = {0, 0, HUB_DONE_RESPONSE, 0}, reply[HUB_MOST_MESSAGE];
+    uint8_t done[4] = {0, 0, HUB_DONE_RESPONSE, (uint8_t)answer[HUB_ANSWER_STATUS]}, reply[HUB_MOST_MESSAGE];
 
     printf("%4u bytes: ", (unsigned)message_n);
     if (refusal != HUB_DONE) {

@@ -12,10 +12,20 @@ pub const MOST_PIECES: usize = 64;
 /// What a step that was not refused answers.
 #[derive(Clone, Copy, Debug, PartialEq, Eq)]
 pub enum Answer {
-    /// Send the Connect payload of this type: 1, 3, or 7 with Status 0.
-    Reply(u8),
+    /// Send a Connect payload.
+    Reply {
+        /// Its type: 1, 3 or 7.
+        connect: u8,
+        /// Of type 7, its Status, which is 0; else 0.
+        status: u8,
+    },
     /// The message came before and nothing has changed; send the same reply again.
-    Again(u8),
+    Again {
+        /// Its type: 1, 3 or 7.
+        connect: u8,
+        /// Of type 7, its Status, which is 0; else 0.
+        status: u8,
+    },
     /// The certificate was not accepted: send Authentication Failure.
     Failure,
     /// A new piece is in the report buffer, others are missing.
@@ -39,15 +49,16 @@ pub enum Answer {
 
 impl Answer {
     fn of(words: [u64; 3]) -> Answer {
-        let [kind, value, length] = words;
+        let [kind, value, detail] = words;
         let heard = value as usize;
+        let (connect, status) = (value as u8, detail as u8);
         match kind {
-            1 => Answer::Reply(value as u8),
-            2 => Answer::Again(value as u8),
+            1 => Answer::Reply { connect, status },
+            2 => Answer::Again { connect, status },
             3 => Answer::Failure,
             4 => Answer::Taken { heard },
             5 => Answer::Repeat { heard },
-            6 => Answer::Complete { heard, length: length as usize },
+            6 => Answer::Complete { heard, length: detail as usize },
             _ => unreachable!("a kind of hub.h"),
         }
     }

@@ -27,10 +27,11 @@
 //! let mut request = [0; 86];
 //! request[..20].copy_from_slice(b"\0\0\0\0\0\x20a nonce!\0\0\x40\0\0\x20");
 //! request[53] = 32;
-//! assert_eq!(take(plain, &request, &mut hub)?, Answer::Reply(1));
-//! assert_eq!(take(plain, &request, &mut hub)?, Answer::Again(1));
-//! assert_eq!(take(sealed, b"\0\0\x02\0\x0ba gateway's\0\0", &mut hub)?, Answer::Reply(3));
-//! assert_eq!(take(sealed, b"\0\0\x06", &mut hub)?, Answer::Reply(7));
+//! let reply = |connect| Answer::Reply { connect, status: 0 };
+//! assert_eq!(take(plain, &request, &mut hub)?, reply(1));
+//! assert_eq!(take(plain, &request, &mut hub)?, Answer::Again { connect: 1, status: 0 });
+//! assert_eq!(take(sealed, b"\0\0\x02\0\x0ba gateway's\0\0", &mut hub)?, reply(3));
+//! assert_eq!(take(sealed, b"\0\0\x06", &mut hub)?, reply(7));
 //!
 //! // It sends a report of two pieces, the second one first.
 //! let sent = b"pump 7: 1,204 litres";

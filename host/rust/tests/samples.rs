@@ -34,8 +34,11 @@ fn messages(stream: &[u8]) -> Vec<&[u8]> {
 fn said(answer: Result<Answer, Refusal>) -> String {
     match answer {
         Err(refusal) => refusal.to_string(),
-        Ok(Answer::Reply(kind)) => format!("reply {kind}"),
-        Ok(Answer::Again(kind)) => format!("again {kind}"),
+        Ok(Answer::Reply { connect, status: 0 }) => format!("reply {connect}"),
+        Ok(Answer::Again { connect, status: 0 }) => format!("again {connect}"),
+        Ok(Answer::Reply { status, .. } | Answer::Again { status, .. }) => {
+            format!("status {status}")
+        }
         Ok(Answer::Failure) => "failure".to_owned(),
         Ok(Answer::Taken { heard }) => format!("taken {heard}"),
         Ok(Answer::Repeat { heard }) => format!("repeat {heard}"),

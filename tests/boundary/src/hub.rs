@@ -31,7 +31,7 @@ fn unless_refused<const N: usize>(number: u8, words: [u64; N]) -> Result<[u64; N
 }
 
 /// The words of a header by hub.h's names, in its order.
-pub fn by_name<const N: usize>(words: &[u64; N], names: [usize; N]) -> [u64; N] {
+pub fn by_name<const N: usize, const M: usize>(words: &[u64; N], names: [usize; M]) -> [u64; M] {
     names.map(|name| words[name])
 }
 
@@ -81,10 +81,10 @@ pub fn fields_of(header: &Header) -> [u64; 8] {
 
 /// A step's answer.
 pub fn answer_of(words: &[u64; 3]) -> Answer {
-    let [kind, value, length] = by_name(words, answer_words());
+    let [kind, value, length, status] = by_name(words, answer_words());
     let [_, reply, again, failure, taken, repeat, complete] = kinds();
-    // The Status of a reply of type 7 is 0 too.
     assert!(kind == complete || length == 0, "a length that is not used is {length}");
+    assert!((kind != reply && kind != again) || status == 0, "the Status of a reply is {status}");
     match kind {
         kind if kind == reply => Answer::Reply(fits(value)),
         kind if kind == again => Answer::Again(fits(value)),

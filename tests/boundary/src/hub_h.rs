@@ -85,7 +85,7 @@ mod through {
         pub static through_bounds: [usize; 6];
         pub static through_header_words: [usize; 11];
         pub static through_place_words: [usize; 3];
-        pub static through_answer_words: [usize; 3];
+        pub static through_answer_words: [usize; 4];
         pub static through_piece_words: [usize; 3];
         pub static through_state_places: [usize; 13];
         pub static through_kinds: [u64; 7];
@@ -113,7 +113,7 @@ constants! {
     bounds: [usize; 6] = through_bounds, "Least and most message, most read, most sealed, pieces, F.";
     header_words: [usize; 11] = through_header_words, "Type to size.";
     place_words: [usize; 3] = through_place_words, "Buffer, from, size.";
-    answer_words: [usize; 3] = through_answer_words, "Kind, value, length.";
+    answer_words: [usize; 4] = through_answer_words, "Kind, value, length, Status.";
     piece_words: [usize; 3] = through_piece_words, "Count, from, size.";
     state_places: [usize; 13] = through_state_places, "Fragment size to last length, and the end.";
     kinds: [u64; 7] = through_kinds, "Refused, Reply, Again, Failure, Taken, Repeat, Complete.";

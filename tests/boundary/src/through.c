@@ -84,7 +84,7 @@ uint8_t through_list(const uint8_t *message, size_t message_n, uint8_t *line, si
 /* The constants of hub.h, in the order in which src/hub_h.rs names them. */
 extern const uint32_t through_version_here;
 extern const uint8_t through_refusals[27];
-extern const size_t through_sizes[10], through_bounds[6], through_header_words[11], through_place_words[3], through_answer_words[3],
+extern const size_t through_sizes[10], through_bounds[6], through_header_words[11], through_place_words[3], through_answer_words[4],
     through_piece_words[3], through_state_places[13];
 extern const uint64_t through_kinds[7], through_sealed[3], through_types[3], through_flags[5], through_connects[6];
 
@@ -101,7 +101,7 @@ const size_t through_bounds[6] = {HUB_LEAST_MESSAGE, HUB_MOST_MESSAGE, HUB_MOST_
 const size_t through_header_words[11] = {HUB_TYPE,    HUB_FLAGS,   HUB_SEQUENCE, HUB_REQUEST, HUB_INDEX, HUB_COUNT,
                                          HUB_SESSION, HUB_CHANNEL, HUB_SEALED,   HUB_FROM,    HUB_SIZE};
 const size_t through_place_words[3] = {HUB_PLACE_BUFFER, HUB_PLACE_FROM, HUB_PLACE_SIZE};
-const size_t through_answer_words[3] = {HUB_ANSWER_KIND, HUB_ANSWER_VALUE, HUB_ANSWER_LENGTH};
+const size_t through_answer_words[4] = {HUB_ANSWER_KIND, HUB_ANSWER_VALUE, HUB_ANSWER_LENGTH, HUB_ANSWER_STATUS};
 const size_t through_piece_words[3] = {HUB_PIECE_COUNT, HUB_PIECE_FROM, HUB_PIECE_SIZE};
 const size_t through_state_places[13] = {HUB_STATE_FRAGMENT_SIZE, HUB_STATE_STATE,       HUB_STATE_SESSION,  HUB_STATE_NONCE, HUB_STATE_X,
                                          HUB_STATE_Y,             HUB_STATE_CERTIFICATE, HUB_STATE_EXPECTED, HUB_STATE_HEARD, HUB_STATE_COUNT,

@@ -108,8 +108,11 @@ impl Implementation for Wrapper {
         let mut hub = h::Connection::from_bytes(encode(&connection));
         let answer = match hub.step(message, keys, working, report, verdict == 1) {
             Err(by) => Answer::Refused(refused(by)),
-            Ok(h::Answer::Reply(kind)) => Answer::Reply(kind),
-            Ok(h::Answer::Again(kind)) => Answer::Again(kind),
+            Ok(h::Answer::Reply { connect, status: 0 }) => Answer::Reply(connect),
+            Ok(h::Answer::Again { connect, status: 0 }) => Answer::Again(connect),
+            Ok(h::Answer::Reply { status, .. } | h::Answer::Again { status, .. }) => {
+                panic!("Status {status}")
+            }
             Ok(h::Answer::Failure) => Answer::Failure,
             Ok(h::Answer::Taken { heard }) => Answer::Taken(heard as u32),
             Ok(h::Answer::Repeat { heard }) => Answer::Repeat(heard as u32),
