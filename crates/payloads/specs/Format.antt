@@ -35,15 +35,18 @@ numberBytes two x = bytes16 x
 numberBytes four x = bytes32 x
 numberBytes eight x = bytes64 x
 
--- A format: it is at its end, or it begins with a field, and after that comes another format. The fields: always this number; a number that
--- passes a test; bytes of this number; bytes with their number before them, which has a least and a most; entries of one format with their
--- number before them, which has a most.
+-- A format: it is at its end, or it begins with a field, and after the field comes the rest of it.
 pub data Format : Type 0 where
   end : Format
+  -- Always this number.
   fixed : (w : Width) (n : ℕ) → Format → Format
+  -- A number that passes a test.
   free : (w : Width) (allowed : ℕ → Bool) → Format → Format
+  -- So many bytes.
   array : (size : ℕ) → Format → Format
+  -- Bytes with their number before them, which has a least and a most.
   sized : (w : Width) (least most : ℕ) → Format → Format
+  -- Entries, all of one format, with their number before them, which has a most.
   counted : (w : Width) (most : ℕ) (entry : Format) → Format → Format
 
 -- A field, and then the fields after it: `fixed one 0 then array 8 then end`.
@@ -66,7 +69,7 @@ infixr 5 _and_
 abbrev pub _and_ : {A B : Type 0} → A → B → A × B
 x and y = (x, y)
 
--- The values that a format has a payload for. (That a number has its width is what the types of a call say.)
+-- The values that a format has a payload for. (That a number has its width and a list is of bytes is what the types of a call say: `Typed`.)
 unfoldable pub fits : (f : Format) → Values f → Bool
 fits end v = true
 fits (fixed w n f) v = fits f v
@@ -84,7 +87,7 @@ write (array size f) (b, v) = b ++ write f v
 write (sized w least most f) (b, v) = numberBytes w (length b) ++ (b ++ write f v)
 write (counted w most entry f) (vs, v) = numberBytes w (length vs) ++ (flatMap (write entry) vs ++ write f v)
 
--- The place after the fields that begin at a place. A byte past the end counts as 0.
+-- The place after the fields that begin at a place. Here and below a byte past the end of the payload counts as 0.
 unfoldable pub endsFrom : Format → List ℕ → ℕ → ℕ
 endsFrom end p at = at
 endsFrom (fixed w n f) p at = endsFrom f p (at + widthOf w)
