@@ -16,18 +16,18 @@ use Rattle.lines.proofs.ReadingOn.{room-to-read}
 use Rattle.listing.specs.Turns.{turnOn, runText, RunTo, RunEnds, ReadOf, RunLists, TurnLeads}
 
 -- What a run needs of its reads: each brings the next bytes of the input, and one that brings none is the last that brings any.
-record Next (got input : List ℕ) (Later : List ℕ → Type 0) : Type 0 where
+pub record Next (got input : List ℕ) (Later : List ℕ → Type 0) : Type 0 where
   pub rest : List ℕ
   pub is : got ++ rest ≡ input
   pub ends : length got ≡ 0 → rest ≡ []
   pub after : Later rest
 
-abbrev Reads : List (List ℕ) → List ℕ → Type 0
+abbrev pub Reads : List (List ℕ) → List ℕ → Type 0
 Reads [] input = Unit
 Reads (got ∷ reads) input = Next got input (Reads reads)
 
 -- They do so, since there is room to read on after each turn.
-reads-next : (buffer room : ℕ) → longestMessage ≤ buffer → lineRoom ≤ room → (reads : List (List ℕ)) (bytes input : List ℕ) (ended : Bool)
+pub reads-next : (buffer room : ℕ) → longestMessage ≤ buffer → lineRoom ≤ room → (reads : List (List ℕ)) (bytes input : List ℕ) (ended : Bool)
     → AreBytes bytes → length bytes ≤ buffer → AreBytes input → ReadOf buffer room bytes ended reads input → Reads reads input
 unfolding ReadOf
 reads-next buffer room long roomy [] bytes input ended b h i d = tt

@@ -1,6 +1,6 @@
 -- SPDX-License-Identifier: MPL-2.0
 -- The program: a turn lists what it holds and holds on what is left, with a read after it; turn after turn is a run.
-use Prim.Native.Nat.{ℕ, _+_, _≤_, _<_}
+use Prim.Native.Nat.{ℕ, _+_, _*_, _≤_, _<_}
 use mathlib.Core.Path.{_≡_}
 use mathlib.Core.List.{List, [], _∷_, _++_}
 use mathlib.Core.Bool.{Bool, true, false, not, _||_}
@@ -79,6 +79,28 @@ ReadOf buffer room bytes ended (got ∷ reads) input =
 abbrev pub RunLists : Type 0
 RunLists = (buffer room : ℕ) (input : List ℕ) (reads : List (List ℕ)) → AreBytes input → longestMessage ≤ buffer → lineRoom ≤ room
     → ReadOf buffer room [] false reads input → RunEnds room [] false reads → runText room [] false reads ≡ listing input
+
+-- No run goes on for ever: it has no more reads than twice the bytes of its input, and one.
+abbrev pub RunStops : Type 0
+RunStops = (test : Stand NoState → Bool) (buffer room : ℕ) (input : List ℕ) (reads : List (List ℕ)) → AreBytes input → longestMessage ≤ buffer
+    → lineRoom ≤ room → ReadOf buffer room [] false reads input → RunTo test room [] false reads → length reads ≤ 2 * length input + 1
+
+-- Reads of an input by which a run ends.
+pub record Ending (buffer room : ℕ) (input : List ℕ) : Type 0 where
+  pub reads : List (List ℕ)
+  pub brings : ReadOf buffer room [] false reads input
+  pub ends : RunEnds room [] false reads
+
+-- Every input has such reads.
+abbrev pub RunExists : Type 0
+RunExists = (buffer room : ℕ) (input : List ℕ) → AreBytes input → longestMessage ≤ buffer → lineRoom ≤ room → Ending buffer room input
+
+-- The run of the program lists its input, if what it listed was written and there are fewer than 2^63 - 1 bytes: then the run is over, and
+-- all that it writes is the listing of the input that its reads are of.
+abbrev pub RanLists : Type 0
+RanLists = (buffer room : ℕ) (input : List ℕ) (r : Finish) (ran : Ran room r) → AreBytes input → 2 * length input + 1 < mostTurns
+    → longestMessage ≤ buffer → lineRoom ≤ room → ReadOf buffer room [] false (ran .reads) input → r .last .whole ≡ true
+    → (r .last .held .over ≡ true) × (runText room [] false (ran .reads) ≡ listing input)
 
 -- A turn that goes on leads to the next turn of such a run: what is then held is what was left and, after
 -- it, bytes that count as what was read.

@@ -62,7 +62,8 @@ fn turn(input: &mut [u8], held: Held, out: &mut [u8]) -> Went
     Went { held: next, whole }
 }
 
-// Turn after turn, until the run is over; every turn reads a byte or is among the last, so that no input reaches the end of the counter.
+// Turn after turn, until the run is over. An input of n bytes takes at most 2 n + 2 of them (`RunStops`), so that none of fewer than
+// 2^63 - 1 bytes brings the counter to its end.
 fn run(input: &mut [u8], out: &mut [u8]) -> Finish
     ensures { λ r. ⌜ Ran (length (now (out .entry))) r ⌝ }
 {
