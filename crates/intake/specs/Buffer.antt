@@ -20,8 +20,8 @@ between buffer from to = drop from (take to buffer)
 unfoldable pub fronted : List ℕ → (from to : ℕ) → List ℕ
 fronted buffer from to = between buffer from to ++ drop (to - from) buffer
 
--- What a read after the bytes kept leaves: they stand first; what comes after them, up to `held`, was read; where nothing was read the
--- input has ended.
+-- What a read after the bytes kept leaves: they stand first; as many bytes are held, or more, and they lie in the buffer; the input has
+-- ended exactly where no more are held than were kept.
 pub record Refilled (kept after : List ℕ) (r : Held) : Type 0 where
   pub first : take (length kept) after ≡ kept
   pub more : length kept ≤ r .held

@@ -1,8 +1,8 @@
 -- SPDX-License-Identifier: MPL-2.0
 -- Why the parts of an input add up to the whole: what a run has written, and what it would write over the bytes at hand with those to come
 -- after them, are together the same after each step and after each part that comes.
-use Rattle.laws.proofs.Kit.{ℕ, zero, suc, _+_, _≤_, _<_, _≡_, refl, sym, Bool, true, false, true≢false, List, [], _∷_, _++_, append-nil}
-use Rattle.laws.proofs.Kit.{append-assoc, length, drop, length-drop, length-append, ⊎-elim, zero-add, arith}
+use Rattle.laws.proofs.Kit.{ℕ, zero, suc, _+_, _≤_, _<_, _≡_, refl, sym, _∙_, Bool, true, false, true≢false, List, [], _∷_, _++_}
+use Rattle.laws.proofs.Kit.{append-nil, append-assoc, length, drop, length-drop, length-append, ⊎-elim, zero-add, arith}
 use lib.Seq.{drop-append-le}
 use Rattle.laws.proofs.Cases.{on}
 use Rattle.laws.specs.Chunks.{Step, waits, ends, goes, Stand, standing, stepped, given, outcome, steps, whole, turns}
@@ -33,7 +33,7 @@ module _ {S : Type 0} (step : S → List ℕ → Bool → Step S) where
   -- No step leaves more bytes than there were.
   left-stepped : (r : Stand S) (x : Step S) → length (stepped r x .left) ≤ length (r .left)
   left-stepped r waits = omega arith
-  left-stepped r (ends k t) = omega (arith, length-drop k (r .left))
+  left-stepped r (ends n t s) = omega (arith, length-drop n (r .left))
   left-stepped r (goes n t s) = omega (arith, length-drop n (r .left))
 
   left-steps : (ended : Bool) (n : ℕ) (r : Stand S) → length (steps step ended n r .left) ≤ length (r .left)
@@ -56,7 +56,7 @@ module _ {S : Type 0} (step : S → List ℕ → Bool → Step S) where
         → ((q : Stand S) → length (q .left) < n → steps step true n q .over ≡ true)
         → (x : Step S) → step (r .state) (r .left) true ≡ x → steps step true n (stepped r x) .over ≡ true
     enough-by n r h ih waits e = absurd (true≢false (rw e at (steady .decides (r .state) (r .left))))
-    enough-by n r h ih (ends k t) e = rw (steps-over true n (stepped r (ends k t)) refl)
+    enough-by n r h ih (ends k t s) e = rw (steps-over true n (stepped r (ends k t s)) refl)
     enough-by n r h ih (goes k t s) e =
         let b = rw e at (steady .moves (r .state) (r .left) true) in
         ih (stepped r (goes k t s)) (omega (arith, b .0, b .1, length-drop k (r .left)))
@@ -68,13 +68,30 @@ module _ {S : Type 0} (step : S → List ℕ → Bool → Step S) where
         let x = step (r .state) (r .left) true in
         rw (steps-suc true n r x o refl) (enough-by n r h (steps-enough n) x refl)
 
+    -- And until they do, they take bytes.
+    taken-by : (n : ℕ) (r : Stand S) (x : Step S) → step (r .state) (r .left) true ≡ x → steps step true n (stepped r x) .over ≡ false
+        → length (steps step true n (stepped r x) .left) < length (r .left)
+    taken-by n r waits e o = absurd (true≢false (rw e at (steady .decides (r .state) (r .left))))
+    taken-by n r (ends k t s) e o = absurd (true≢false (rw (steps-over true n (stepped r (ends k t s)) refl) at o))
+    taken-by n r (goes k t s) e o =
+        let b = rw e at (steady .moves (r .state) (r .left) true) in
+        omega (arith, b .0, b .1, length-drop k (r .left), left-steps true n (stepped r (goes k t s)))
+
+    pub steps-take : (n : ℕ) (r : Stand S) → 0 < n → steps step true n r .over ≡ false → length (steps step true n r .left) < length (r .left)
+    steps-take zero r h o = absurd (omega arith)
+    steps-take (suc n) r h o =
+        on (r .over) (λ v. absurd (true≢false (sym v ∙ rw (steps-over true (suc n) r v) at o))) λ v.
+        let x = step (r .state) (r .left) true in
+        let e = steps-suc true n r x v refl in
+        rw e (taken-by n r x refl (rw e at o))
+
     -- How many steps there are does not matter, where they end the run.
     settled-by : (n k : ℕ) (r : Stand S) → length (r .left) < suc k
         → ((q : Stand S) → steps step true n q .over ≡ true → length (q .left) < k → steps step true n q ≡ steps step true k q)
         → (x : Step S) → step (r .state) (r .left) true ≡ x → steps step true n (stepped r x) .over ≡ true
         → steps step true n (stepped r x) ≡ steps step true k (stepped r x)
     settled-by n k r h ih waits e o = absurd (true≢false (rw e at (steady .decides (r .state) (r .left))))
-    settled-by n k r h ih (ends j t) e o = rw (steps-over true n (stepped r (ends j t)) refl, steps-over true k (stepped r (ends j t)) refl)
+    settled-by n k r h ih (ends j t s) e o = rw (steps-over true n (stepped r (ends j t s)) refl, steps-over true k (stepped r (ends j t s)) refl)
     settled-by n k r h ih (goes j t s) e o =
         let b = rw e at (steady .moves (r .state) (r .left) true) in
         ih (stepped r (goes j t s)) o (omega (arith, b .0, b .1, length-drop j (r .left)))
@@ -97,11 +114,11 @@ module _ {S : Type 0} (step : S → List ℕ → Bool → Step S) where
       leads-by : (r : Stand S) → r .over ≡ false → Leads rest w r → (x : Step S) → step (r .state) (r .left) false ≡ x
           → step (r .state) (r .left ++ rest) true ≡ x → Leads rest w (stepped r x)
       leads-by r v l waits e f = l
-      leads-by r v l (ends k t) e f =
+      leads-by r v l (ends k t s) e f =
           let m = length (r .left ++ rest) in
-          let whole = given r rest in
-          let p = rw (steps-suc true m whole (ends k t) v f, steps-over true m (stepped whole (ends k t)) refl) at (l .to (suc m) (omega arith)) in
-          record { to = λ n h. rw (steps-over true n (given (stepped r (ends k t)) rest) refl) p }
+          let x = ends k t s in
+          let p = rw (steps-suc true m (given r rest) x v f, steps-over true m (stepped (given r rest) x) refl) at (l .to (suc m) (omega arith)) in
+          record { to = λ n h. rw (steps-over true n (given (stepped r x) rest) refl) p }
       leads-by r v l (goes k t s) e f =
           let b = rw e at (steady .moves (r .state) (r .left) false) in
           let m = length (r .left ++ rest) in

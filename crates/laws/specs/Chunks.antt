@@ -8,23 +8,23 @@ use mathlib.Core.List.{List, [], _∷_, _++_}
 use mathlib.Core.Bool.{Bool, true, false, cond}
 use lib.ListN.{length, drop}
 
--- What a step does: it waits for more bytes; or it takes n bytes, writes a text and ends the run; or it takes n bytes, writes a text and
--- goes on from another state.
+-- What a step does: it waits for more bytes; or it takes n bytes, writes a text, comes to a state and ends the run; or it takes n bytes,
+-- writes a text and goes on from that state.
 pub data Step (S : Type 0) : Type 0 where
   waits : Step S
-  ends : ℕ → List ℕ → Step S
+  ends : ℕ → List ℕ → S → Step S
   goes : ℕ → List ℕ → S → Step S
 
 -- A step waits.
 abbrev pub isWaiting : {S : Type 0} → Step S → Bool
 isWaiting waits = true
-isWaiting (ends n text) = false
+isWaiting (ends n text s) = false
 isWaiting (goes n text s) = false
 
 -- A step that goes on takes one byte at least, and no more than there are.
 abbrev pub Moves : {S : Type 0} → ℕ → Step S → Type 0
 Moves there waits = Unit
-Moves there (ends n text) = Unit
+Moves there (ends n text s) = Unit
 Moves there (goes n text s) = (0 < n) × (n ≤ there)
 
 -- Where a run stands: the step's state, the bytes at hand, the text written so far, and whether the run is over.
@@ -41,7 +41,7 @@ standing s bytes = record { state = s; left = bytes; text = []; over = false }
 -- The run after a step.
 abbrev pub stepped : {S : Type 0} → Stand S → Step S → Stand S
 stepped r waits = r
-stepped r (ends n text) = record { state = r .state; left = drop n (r .left); text = r .text ++ text; over = true }
+stepped r (ends n text s) = record { state = s; left = drop n (r .left); text = r .text ++ text; over = true }
 stepped r (goes n text s) = record { state = s; left = drop n (r .left); text = r .text ++ text; over = false }
 
 -- The run after bytes have come.

@@ -10,8 +10,8 @@ use Rattle.lines.specs.declared.stream.Next.the-variants.{Message, More,
 use Rattle.lines.specs.Stream.{ahead}
 use Rattle.lines.specs.Listing.{isRefused, stops, begun, afterTurn, turnBy, turnAt, Run, turn, manyTurns, list}
 use Rattle.laws.specs.Chunks.{Stand, stepped, given, standing, steps, turns, broughtBy}
-use Rattle.lines.specs.Inputs.{NoState, stepOf, lineStep, listing, listedOf, listedIn, reading, ending, Roomy, ListedInTurns}
-use Rattle.laws.proofs.Chunks.{steps-over, steps-suc, steps-add, adds-up}
+use Rattle.lines.specs.Inputs.{NoState, stepOf, lineStep, listing, listedOf, listedIn, reading, ending, Roomy, ListedInTurns, TurnTakes}
+use Rattle.laws.proofs.Chunks.{steps-over, steps-suc, steps-add, steps-take, adds-up}
 use Rattle.lines.proofs.Steps.{line-steady}
 
 -- A turn is a step, where the run goes on.
@@ -103,6 +103,15 @@ module _ (r : Stand NoState) (ended : Bool) (room : ℕ) where
       on (r .over) (λ o. record { count = 1; is = rw (steps-over lineStep ended 1 r o, o); some = λ h. omega arith }) λ o.
       let m = many (length (r .left) / 42 + 2) begun (λ g. refl) in
       record { count = m .count; is = cond-false (r .over) _ _ o ∙ listed-many m o; some = λ h. m .some (omega arith) refl (omega arith) }
+
+-- A turn once the input has ended.
+takes-by : (q r : Stand NoState) (n : ℕ) → q ≡ steps lineStep true n r → 0 < n → q .over ≡ false → length (q .left) < length (r .left)
+takes-by q r n e h o = rw e (steps-take lineStep line-steady n r h (rw e at o))
+
+pub turn-takes : TurnTakes
+turn-takes bytes room h o =
+    let m = made (standing tt bytes) true room in
+    takes-by (listedIn true (standing tt bytes) room) (standing tt bytes) (m .count) (m .is) (m .some h) o
 
 -- The turns of the program, in steps: the same bytes come, and each turn makes a number of steps.
 record Reads (r : Stand NoState) (parts : List (List ℕ × ℕ)) : Type 0 where

@@ -20,7 +20,7 @@ NoState = Unit
 
 -- A turn as a step.
 abbrev pub stepOf : Turn → Step NoState
-stepOf t = cond (t .over) (ends (t .size) (t .line)) (cond (t .going) (goes (t .size) (t .line) tt) waits)
+stepOf t = cond (t .over) (ends (t .size) (t .line) tt) (cond (t .going) (goes (t .size) (t .line) tt) waits)
 
 -- "MessageLength bytes at a time, at least 42, or what is left .. Each gives one line".
 unfoldable pub lineStep : NoState → List ℕ → Bool → Step NoState
@@ -60,6 +60,11 @@ abbrev pub ListedInTurns : Type 0
 ListedInTurns = (input : List ℕ) (parts : List (List ℕ × ℕ)) (rooms : List ℕ) → broughtBy parts ≡ input
     → let r = ending (reading (standing tt []) parts) rooms in
     (r .over ≡ true → r .text ≡ listing input) × (Roomy rooms → length input < length rooms → r .over ≡ true)
+
+-- Once the input has ended, a turn whose output has room for a line takes a byte, or the run is over.
+abbrev pub TurnTakes : Type 0
+TurnTakes = (bytes : List ℕ) (room : ℕ) → let r = listedIn true (standing tt bytes) room in
+    lineRoom ≤ room → r .over ≡ false → length (r .left) < length bytes
 
 -- There is room to read on: a turn on bytes held in a buffer that has room for any message, with an output that has room for a line,
 -- leaves fewer bytes than the buffer has.

@@ -1,9 +1,11 @@
 -- SPDX-License-Identifier: MPL-2.0
 -- A run of the program is one of those that `listed-in-turns` is about: a turn for each part that is read, then turns that bring nothing.
-use Rattle.laws.proofs.Kit.{ℕ, _+_, _-_, _≤_, _<_, _≡_, refl, sym, _∙_, ap, Bool, true, false, true≢false, List, [], _∷_, _++_, append-nil, append-assoc}
-use Rattle.laws.proofs.Kit.{length, take, drop, length-append, length-drop, length-take-le, drop-at, take-append-seam, eqb, eqb-true, eqb-false, eq-eqb, ne-eqb, arith}
+use Rattle.laws.proofs.Kit.{ℕ, _+_, _-_, _≤_, _≡_, refl, sym, _∙_, ap, Bool, true, false, not, List, [], _∷_, _++_, append-nil, append-assoc}
+use Rattle.laws.proofs.Kit.{length, take, drop, length-append, length-drop, length-take-le, drop-at, take-append-seam, eqb, eqb-true, eqb-false}
+use Rattle.laws.proofs.Kit.{eq-eqb, ne-eqb, arith}
 use lib.Seq.{take-add}
 use Rattle.laws.proofs.Cases.{on}
+use Rattle.laws.proofs.Bools.{or-false}
 use Rattle.laws.specs.Bytes.{AreBytes}
 use Rattle.laws.specs.Chunks.{Stand, broughtBy}
 use Rattle.laws.proofs.ByteLists.{nil-bytes, append-bytes, take-bytes, drop-bytes}
@@ -11,21 +13,21 @@ use Rattle.lines.specs.Listing.{lineRoom, list}
 use Rattle.lines.specs.Inputs.{NoState, longestMessage, listing, listedIn, reading, ending}
 use Rattle.lines.proofs.Inputs.{listed-in-turns}
 use Rattle.lines.proofs.ReadingOn.{room-to-read}
-use Rattle.listing.specs.Turns.{turnOn, runText, RunEnds, ReadOf, RunLists, TurnLeads}
+use Rattle.listing.specs.Turns.{turnOn, runText, RunTo, RunEnds, ReadOf, RunLists, TurnLeads}
 
 -- What a run needs of its reads: each brings the next bytes of the input, and one that brings none is the last that brings any.
-record Next (got input : List ℕ) (Later : List ℕ → Type 0) : Type 0 where
+pub record Next (got input : List ℕ) (Later : List ℕ → Type 0) : Type 0 where
   pub rest : List ℕ
   pub is : got ++ rest ≡ input
   pub ends : length got ≡ 0 → rest ≡ []
   pub after : Later rest
 
-abbrev Reads : List (List ℕ) → List ℕ → Type 0
+abbrev pub Reads : List (List ℕ) → List ℕ → Type 0
 Reads [] input = Unit
 Reads (got ∷ reads) input = Next got input (Reads reads)
 
 -- They do so, since there is room to read on after each turn.
-reads-next : (buffer room : ℕ) → longestMessage ≤ buffer → lineRoom ≤ room → (reads : List (List ℕ)) (bytes input : List ℕ) (ended : Bool)
+pub reads-next : (buffer room : ℕ) → longestMessage ≤ buffer → lineRoom ≤ room → (reads : List (List ℕ)) (bytes input : List ℕ) (ended : Bool)
     → AreBytes bytes → length bytes ≤ buffer → AreBytes input → ReadOf buffer room bytes ended reads input → Reads reads input
 unfolding ReadOf
 reads-next buffer room long roomy [] bytes input ended b h i d = tt
@@ -88,7 +90,7 @@ module _ (room : ℕ) where
 
   last-turns : (reads : List (List ℕ)) (bytes : List ℕ) (ended : Bool) → ended ≡ true → RunEnds room bytes ended reads → Reads reads []
       → (t : List ℕ) → Last (at t bytes) (t ++ runText room bytes ended reads)
-  unfolding runText RunEnds
+  unfolding runText RunTo
   last-turns [] bytes ended e r d t = rw e (last-turn t bytes (rw e at r))
   last-turns (got ∷ reads) bytes ended e r d t =
       let q = turnOn bytes ended room in
@@ -145,14 +147,14 @@ module _ (room : ℕ) where
       λ z. rw (← d .is, z) (reach u left more (d .rest) (rw z at r) (d .after))
 
   reach-next : (more : List ℕ) (reads : List (List ℕ)) → Reached reads → Reached (more ∷ reads)
-  unfolding runText RunEnds
+  unfolding runText RunTo
   reach-next more reads reach t left got rest r d =
       let q = turnOn (left ++ got) false room in
       let n = read-more more reads reach (t ++ q .text) (q .left) rest (r .1) d in
       goes t left got rest _ (r .0) (rw append-assoc at n)
 
   reach-last : Reached []
-  unfolding runText RunEnds
+  unfolding runText RunTo
   reach-last t left got rest r d = quits t left got rest r
 
   reach : (reads : List (List ℕ)) → Reached reads
@@ -174,14 +176,15 @@ same-none held left got h e =
 
 -- A read leaves what was left, and after it what was read.
 pub turn-leads : TurnLeads
-turn-leads q after r t o =
+turn-leads q after w t o =
+    let r = w .held in
     let f = t .goes o in
     let k = length (q .left) in
     let e : k + (r .held - k) ≡ r .held = omega (arith, f .more) in
     let got = take (r .held - k) (drop k after) in
     let n : length got ≡ r .held - k = length-take-le (r .held - k) (drop k after) (rw length-drop (omega (arith, f .more, f .fits))) in
     record {
-      going = on (q .over) (λ v. absurd (true≢false (sym (t .ends v) ∙ o))) (λ v. v);
+      going = or-false (q .over) (not (w .whole)) (sym (t .over) ∙ o) .0;
       got = got;
       holds = rw (f .first) at (rw e at (take-add k (r .held - k) after));
       ended = f .ends ∙ same-none (r .held) k (length got) (f .more) n;
