@@ -1,6 +1,7 @@
 -- SPDX-License-Identifier: MPL-2.0
 -- The place in words is that of the part that is handed out: what the readers found lies in its buffer.
-use Rattle.laws.proofs.Kit.{ℕ, _+_, _≤_, _≡_, refl, sym, _∙_, Bool, true, false, cond, List, [], _∷_, length, take, drop, getD, le-ltb, eqb, eqb-false, arith}
+use Rattle.laws.proofs.Kit.{ℕ, _+_, _≤_, _≡_, refl, sym, _∙_, Bool, true, false, cond, List, [], _∷_, length, take, drop, getD, le-ltb}
+use Rattle.laws.proofs.Kit.{eqb, eqb-false, arith}
 use Rattle.laws.specs.Rows.{first}
 use Rattle.laws.proofs.Cases.{on}
 use Rattle.wire.specs.Answers.{foundHeader}
@@ -50,7 +51,8 @@ plain-place m keys room f s =
     on (eqb n 0) (λ z. rw (s, z) (λ e. refl)) (λ z. rw (s, z) (λ e. absurd (eqb-false n 0 z e)))
 
 place-plain : (m keys w : List ℕ) (a : HeaderRead) → readHeader m ≡ a → foundHeader a .sealed ≡ 0
-    → foundMessage (afterHeader a m keys (length w)) .refusal ≡ 0 → placeBy m w (foundHeader a) ≡ placeWords (placeOf (afterHeader a m keys (length w)))
+    → foundMessage (afterHeader a m keys (length w)) .refusal ≡ 0
+    → placeBy m w (foundHeader a) ≡ placeWords (placeOf (afterHeader a m keys (length w)))
 place-plain m keys w (head.Refused n) e z r = placed (length m) (length w) 0 0 false (omega arith)
 place-plain m keys w (head.Read f) e z r =
     let s = on (isSealed (f .header .flags)) (λ s. absurd (two-none (rw s at z))) (λ s. s) in

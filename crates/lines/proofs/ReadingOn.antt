@@ -1,6 +1,6 @@
 -- SPDX-License-Identifier: MPL-2.0
 -- A listing takes a byte of what it holds, or all that it holds is a part of one message.
-use Rattle.laws.proofs.Kit.{ℕ, zero, suc, _+_, _-_, _/_, _≤_, _<_, _≡_, refl, Bool, List, length, drop, length-drop, leb, le-ltb, leb-false}
+use Rattle.laws.proofs.Kit.{ℕ, zero, suc, _+_, _-_, _/_, _≤_, _<_, _≡_, refl, Bool, List, length, length-drop, leb, le-ltb, leb-false}
 use Rattle.laws.proofs.Kit.{zero-add, inl, inr, ⊎-elim, arith}
 use mathlib.Core.Logic.{_⊎_}
 use Rattle.laws.proofs.Cases.{on}

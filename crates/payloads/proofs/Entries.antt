@@ -1,8 +1,8 @@
 -- SPDX-License-Identifier: MPL-2.0
 -- What holds of an entry holds of entries that stand one after the other: what was written for each is read back from where it stands, and what is
 -- read from each is what the writer writes.
-use Rattle.laws.proofs.Kit.{ℕ, zero, suc, _+_, _*_, _≤_, _≡_, refl, sym, Bool, true, _&&_, List, [], _∷_, _++_, append-nil, append-assoc, length, drop}
-use Rattle.laws.proofs.Kit.{length-append, arith}
+use Rattle.laws.proofs.Kit.{ℕ, zero, suc, _+_, _*_, _≤_, _≡_, refl, sym, Bool, true, _&&_, List, [], _∷_, _++_, append-nil, append-assoc, length}
+use Rattle.laws.proofs.Kit.{drop, length-append, arith}
 use mathlib.Core.List.{flatMap}
 use Rattle.laws.proofs.Bools.{and-one, and-assoc, and-true}
 use Rattle.laws.specs.Runs.{gathered}

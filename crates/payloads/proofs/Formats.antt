@@ -158,8 +158,8 @@ module _ (p : List ℕ) where
         let k = and-true (leb n most && each (λ i. holdsFrom entry p (place i)) n) _ h in
         let c = and-true (leb n most) _ (k .0) .1 in
         let i = onward f (place n) in
-        let entries = entries-then (holdsFrom entry p) (readFrom entry p) p (write entry) (endsFrom entry p) (onward entry) (written-read entry) next n c
-        (omega (arith, i)) in
+        let entries = entries-then (holdsFrom entry p) (readFrom entry p) p (write entry) (endsFrom entry p) (onward entry) (written-read entry)
+        next n c (omega (arith, i)) in
         rw (append-assoc, append-assoc, written-read f (place n) (k .1) l, length-gathered (λ i. readFrom entry p (place i)) n, entries)
         (number-then p bytes w at (omega (arith, i, entries-onward (holdsFrom entry p) (endsFrom entry p) (onward entry) next n)))
 

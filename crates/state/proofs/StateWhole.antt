@@ -33,8 +33,13 @@ module _ (s : List ℕ) (bytes : AreBytes s) where
   progress-stand : Stand s expectedPlace (progressParts (progressAt s))
   unfolding mostPieces
   progress-stand =
-      rw (length-gathered (heardByte (heardAt s most)) heardSize)
-      (bytes-be32 s bytes expectedPlace, (heard-bytes, (bytes-be64 s bytes countPlace, (bytes-be64 s bytes channelPlace, (bytes-be16 s bytes lastPlace, tt)))))
+      rw (length-gathered (heardByte (heardAt s most)) heardSize) (
+        bytes-be32 s bytes expectedPlace,
+        (
+          heard-bytes,
+          (bytes-be64 s bytes countPlace, (bytes-be64 s bytes channelPlace, (bytes-be16 s bytes lastPlace, tt))),
+        ),
+      )
 
   parts-stand : Stand s 0 (allParts (connectionAt s))
   unfolding connectionAt bytesAt

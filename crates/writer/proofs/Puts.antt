@@ -33,7 +33,8 @@ module _ (at : ℕ) (l : List ℕ) (f : Format) (v : Values f) {m r : List ℕ} 
   put-after-number : (w : Width) (n : ℕ) (b : List ℕ) {k : List ℕ} → k ≡ sets l at (numberBytes w n) → m ≡ sets k (at + widthOf w) b
       → r ≡ sets m (at + widthOf w + length b) (write f v) → r ≡ sets l at (numberBytes w n ++ (b ++ write f v))
   put-after-number w n b {k} o p q =
-      stored-twice (numberBytes w n) _ l at (at + widthOf w) o (stored-twice b (write f v) k (at + widthOf w) _ p q refl) (rw (length-numberBytes w n))
+      let next = at + widthOf w in
+      stored-twice (numberBytes w n) _ l at next o (stored-twice b (write f v) k next _ p q refl) (rw (length-numberBytes w n))
 
   pub put-sized : (w : Width) (least most : ℕ) (b : List ℕ) {k : List ℕ} → k ≡ sets l at (numberBytes w (length b)) → m ≡ sets k (at + widthOf w) b
       → r ≡ sets m (at + widthOf w + length b) (write f v) → r ≡ sets l at (write (sized w least most f) (b and v))
