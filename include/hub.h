@@ -201,8 +201,8 @@ enum hub_place_word {
 enum hub_answer_word {
     HUB_ANSWER_KIND = 0,   /* a hub_kind */
     HUB_ANSWER_VALUE = 1,  /* Reply, Again: the Connect type to send; Taken, Repeat, Complete: how many different pieces have come; else 0 */
-    HUB_ANSWER_LENGTH = 2, /* Complete: the report's length; Reply and Again of type 7: the Status to send, which is 0; else 0 */
-    HUB_ANSWER_STATUS = 2  /* the same word, by its name in a Reply and an Again */
+    HUB_ANSWER_LENGTH = 2, /* Complete: the report's length; Reply, Again: see the next name; else 0 */
+    HUB_ANSWER_STATUS = 2  /* the same word. Reply, Again: the Status to send with type 7, which is 0; 0 with types 1 and 3 */
 };
 
 /* The kinds of a step's answers. */
@@ -210,7 +210,7 @@ enum hub_kind {
     HUB_REFUSED = 0, /* the step was refused, by the number that it returned */
     HUB_REPLY = 1,   /* send the Connect payload of this type: 1 (Connection Response; Result, nonce and key in it are the caller's),
                         3 (Device Authentication Response, with the hub's own certificate), 7 (Authentication Done Response, with
-                        Status 0) */
+                        the Status of HUB_ANSWER_STATUS) */
     HUB_AGAIN = 2,   /* the message came before and nothing has changed; send the same reply again */
     HUB_FAILURE = 3, /* the verdict was 0: send Authentication Failure, which the caller makes without hub_write */
     HUB_TAKEN = 4,   /* a new piece is in the report buffer; others are missing */
@@ -406,7 +406,7 @@ uint8_t hub_open(uint64_t fragment_size, uint8_t *state, size_t state_n);
  *           HUB_AGAIN and HUB_REPEAT state too. The first bytes of working hold the opened sealed part of a sealed message.
  * On refusal answer is 0, 0, 0 (HUB_REFUSED); state and report are as they were. So is working for 1 to 13, 24 and 25; for the others its first
  *           bytes hold the opened sealed part of a sealed message.
- * Proved    StepExact, LeavesAlone, WorkingBuffer, StepsByState, RepeatedStep, RepeatedBytes, OnlyByZero, HeardCount, DemandThree.
+ * Proved    StepExact, LeavesAlone, WorkingBuffer, ByHostStates, StepsByState, RepeatedStep, RepeatedBytes, OnlyByZero, HeardCount, DemandThree.
  */
 HUB_ANSWER_MATTERS
 uint8_t hub_step(uint8_t *state, size_t state_n, const uint8_t *message, size_t message_n, const uint8_t *keys, size_t keys_n, uint8_t *working,

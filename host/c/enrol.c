@@ -70,10 +70,9 @@ static uint8_t judge(const uint8_t *message, size_t message_n)
 static void take(const uint8_t *message, size_t message_n)
 {
     uint64_t answer[HUB_ANSWER];
-    uint8_t verdict = judge(message, message_n);
-    uint8_t refusal = hub_step(state, HUB_STATE, message, message_n, keys, HUB_KEYS, working, sizeof working, report, sizeof report, verdict, answer,
-                               HUB_ANSWER);
-    uint8_t done[4] = {0, 0, HUB_DONE_RESPONSE, (uint8_t)answer[HUB_ANSWER_STATUS]}, reply[HUB_MOST_MESSAGE];
+    uint8_t refusal = hub_step(state, HUB_STATE, message, message_n, keys, HUB_KEYS, working, sizeof working, report, sizeof report,
+                               judge(message, message_n), answer, HUB_ANSWER);
+    uint8_t done[4] = {0, 0, HUB_DONE_RESPONSE}, reply[HUB_MOST_MESSAGE];
 
     printf("%4u bytes: ", (unsigned)message_n);
     if (refusal != HUB_DONE) {
@@ -83,6 +82,7 @@ static void take(const uint8_t *message, size_t message_n)
     switch (answer[HUB_ANSWER_KIND]) {
     case HUB_REPLY:
     case HUB_AGAIN:
+        done[3] = (uint8_t)answer[HUB_ANSWER_STATUS];
         printf("reply of type %u", (unsigned)answer[HUB_ANSWER_VALUE]);
         if (answer[HUB_ANSWER_VALUE] == HUB_DONE_RESPONSE) /* a real hub writes the others likewise */
             printf(", %u bytes", (unsigned)write_message(HUB_TYPE_CONNECT, HUB_SEAL, 0, 1, done, sizeof done, reply, sizeof reply));

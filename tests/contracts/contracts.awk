@@ -79,12 +79,12 @@ function given(s, binder,    x) {
     return 1
 }
 
-# Whether a word outside brackets is none that could bind more loosely than ≡.
-function tight(word,    path) {
+# Whether the word at a place outside brackets is none that could bind more loosely than ≡. A module's name may be an operator's, unless it is first.
+function tight(word, at,    path) {
     if (word in operator || word == "≡") return 0
     if (word in meant || word in known || word in parameter) return 1
     if (word ~ /^(\(\)|[0-9]+|0x[0-9A-Fa-f]+|\.[A-Za-z0-9'-]+|now|record|tt)$/) return 1
-    return split(word, path, ".") == 2 && (path[1] in modules) && path[2] ~ /^[A-Za-z0-9'-]+$/
+    return at == 1 && split(word, path, ".") == 2 && (path[1] in modules) && path[2] ~ /^[A-Za-z0-9'-]+$/
 }
 
 # Whether a claim says by an equation what `left` is, of nothing but what was given.
@@ -92,7 +92,7 @@ function exact(claim, left, binder,    right, word, n, i) {
     if (!("≡" in meant) || ("≡" in operator) || index(claim, left " ≡ ") != 1) return 0
     right = substr(claim, length(left " ≡ ") + 1)
     n = split(outside(right), word, " ")
-    for (i = 1; i <= n; i++) if (!tight(word[i])) return 0
+    for (i = 1; i <= n; i++) if (!tight(word[i], i)) return 0
     return given(right, binder)
 }
 
@@ -143,6 +143,17 @@ function borrows(type,    word, n, i) {
     return 0
 }
 
+# Whether a type may do so: it does, or it has a word that is neither the language's own, a number or a constant (the length of an array), nor a type
+# of one of these sources.
+function may_borrow(type,    word, n, i) {
+    if (borrows(type)) return 1
+    gsub(/[A-Za-z0-9_]+::/, "", type)
+    gsub(/[^A-Za-z0-9_]+/, " ", type)
+    n = split(type, word, " ")
+    for (i = 1; i <= n; i++) if (word[i] !~ /^([iu](8|16|32|64|size)|f32|f64|bool|mut|Self|[0-9]+|[A-Z0-9_]+)$/ && !(word[i] in body)) return 1
+    return 0
+}
+
 # What a reference refers to: `mut` and the type, or the type.
 function referent(type) { sub(/^& ?('[A-Za-z0-9_]+ ?)?/, "", type); return type }
 function is_mut(type) { return type ~ /^&/ && referent(type) ~ /^mut([^A-Za-z0-9_]|$)/ }
@@ -156,7 +167,7 @@ function fields_of(type) {
 function judge_result(type,    field, n, i) {
     if (type == "" || type == "()") return
     if (is_mut(type)) { fault("result", "hands out a part that can be changed"); return }
-    if (borrows(referent(type))) { fault("result", "hands out a part within its result, which is not read here"); return }
+    if (may_borrow(referent(type))) { fault("result", "hands out a part within its result, which is not read here"); return }
     if (type ~ /^&/) {
         if (says("now @")) fault("place", "says what the part holds that it hands out, and not where it stands")
         else fault("result", "has no exact clause of its result")
@@ -190,7 +201,7 @@ function take_parameters(s,    part, n, i, x) {
 function judge_lent(n,    i, x) {
     for (i = 1; i <= n; i++) {
         x = name_of[i]
-        if (borrows(referent(type_of[i]))) fault(x, "has memory lent within the type of " x ", which is not read here")
+        if (may_borrow(referent(type_of[i]))) fault(x, "has memory lent within the type of " x ", which is not read here")
         else if (is_mut(type_of[i]) && !(x in parameter && says("now (" x " .exit)")) && !says("now («" x "» .exit)"))
             fault(x, "has no exact clause of what " x " holds at exit")
     }
@@ -339,6 +350,7 @@ END {
         module = crate (module == "lib" ? "" : "::" module)
         name = module
         if (text[files[i]] ~ /(^|[ \t\n\f])trait[ \t\n\f]/) fault("contract", "has a trait, whose methods are not read here")
+        if (text[files[i]] ~ /(^|[ \t\n\f])impl[^{;]*[ \t\n\f]for[ \t\n\f]/) fault("contract", "has a type's methods of a trait, which are not read here")
         if (text[files[i]] ~ /\/\*/) fault("contract", "has a comment of the other kind, which is not read here")
         find_uses(text[files[i]])
         find_functions(text[files[i]], module)

@@ -30,9 +30,12 @@ module _ (m w from size : ℕ) where
   unfolding placeIn
   unplaced = refl
 
--- A message that is still sealed has no part in either buffer.
+-- Still sealed, 2, is not plain, 0.
 two-none : _≡_ {A = ℕ} 2 0 → ⊥
 two-none e = omega arith
+
+unsealed : (f : FoundHeader) → foundHeader (head.Read f) .sealed ≡ 0 → isSealed (f .header .flags) ≡ false
+unsealed f z = on (isSealed (f .header .flags)) (λ s. absurd (two-none (rw s at z))) (λ s. s)
 
 pub place-handed : PlaceHanded
 place-handed m keys w = by (readMessage m keys (length w)) refl
@@ -50,20 +53,24 @@ plain-place m keys room f s =
     let n = first (payloadRows (f .header .kind) false (take (f .size) (drop (f .start) m))) in
     on (eqb n 0) (λ z. rw (s, z) (λ e. refl)) (λ z. rw (s, z) (λ e. absurd (eqb-false n 0 z e)))
 
+-- The payload of a plain message lies in it.
+place-named : (m w : List ℕ) (a : HeaderRead) → readHeader m ≡ a → let f = foundHeader a in f .sealed ≡ 0 → placeBy m w f ≡ 0 ∷ f .from ∷ f .size ∷ []
+place-named m w (head.Refused n) e z = placed (length m) (length w) 0 0 false (omega arith)
+place-named m w (head.Read f) e z =
+    let s = unsealed f z in
+    rw s (placed (length m) (length w) (f .start) (f .size) false (omega (arith, read-sound m f e .spans)))
+
 place-plain : (m keys w : List ℕ) (a : HeaderRead) → readHeader m ≡ a → foundHeader a .sealed ≡ 0
     → foundMessage (afterHeader a m keys (length w)) .refusal ≡ 0
     → placeBy m w (foundHeader a) ≡ placeWords (placeOf (afterHeader a m keys (length w)))
-place-plain m keys w (head.Refused n) e z r = placed (length m) (length w) 0 0 false (omega arith)
-place-plain m keys w (head.Read f) e z r =
-    let s = on (isSealed (f .header .flags)) (λ s. absurd (two-none (rw s at z))) (λ s. s) in
-    let here : placeBy m w (foundHeader (head.Read f)) ≡ 0 ∷ f .start ∷ f .size ∷ [] =
-    rw s (placed (length m) (length w) (f .start) (f .size) false (omega (arith, read-sound m f e .spans))) in
-    here ∙ sym (plain-place m keys (length w) f s r)
+place-plain m keys w (head.Refused n) e z r = place-named m w (head.Refused n) e z
+place-plain m keys w (head.Read f) e z r = place-named m w (head.Read f) e z ∙ sym (plain-place m keys (length w) f (unsealed f z) r)
 
 pub place-unopened : PlaceUnopened
 unfolding readMessage
 place-unopened =
     record {
+      named = λ m w z. place-named m w (readHeader m) refl z;
       plain = λ m keys w z r. place-plain m keys w (readHeader m) refl z r;
       sealed = λ m w z. let f = foundHeader (readHeader m) in rw z (unplaced (length m) (length w) (f .from) (f .size));
       refused = λ m w n e. rw e (placed (length m) (length w) 0 0 false (omega arith));

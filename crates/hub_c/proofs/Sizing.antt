@@ -11,7 +11,7 @@ use Rattle.wire.proofs.Sound.{read-sound}
 use Rattle.lines.specs.Listing.{headerLine, lineOf}
 use Rattle.joining.specs.declared.cut.Cutting.{Cutting}
 use Rattle.joining.specs.Cut.{cutRefusal, cutting, cutPiece}
-use Rattle.state.proofs.Gathered.{sets-whole}
+use Rattle.laws.proofs.Stores.{sets-whole}
 use Rattle.hub_c.specs.Pieces.{cutWords}
 use Rattle.hub_c.specs.Written.{tooWide}
 use Rattle.hub_c.specs.Line.{lineText}

@@ -54,9 +54,11 @@ PlaceHanded =
     (message keys working : List ℕ) → let read = readMessage message keys (length working) in
     placeBy message working (foundMessage read) ≡ placeWords (placeOf read)
 
--- Those that hub_read_header gave name the same part, of a plain message that the reader does not refuse. Of a sealed one, which nobody has opened,
--- and on a refusal, they name the empty part at the message's start.
+-- Those that hub_read_header gave name the payload of a plain message, and so, where hub_read does not refuse the message, the same part. Of a
+-- sealed one, which nobody has opened, and where hub_read_header refuses, they name the empty part at the message's start.
 pub record PlaceUnopened : Type 0 where
+  pub named : (message working : List ℕ) → let f = foundHeader (readHeader message) in
+      f .sealed ≡ 0 → placeBy message working f ≡ 0 ∷ f .from ∷ f .size ∷ []
   pub plain : (message keys working : List ℕ) → let f = foundHeader (readHeader message) in let read = readMessage message keys (length working) in
       f .sealed ≡ 0 → foundMessage read .refusal ≡ 0 → placeBy message working f ≡ placeWords (placeOf read)
   pub sealed : (message working : List ℕ) → let f = foundHeader (readHeader message) in

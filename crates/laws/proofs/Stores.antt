@@ -1,7 +1,7 @@
 -- SPDX-License-Identifier: MPL-2.0
 -- Runs of stores: two, the second where the first ends, are one; what is stored past the end is dropped.
 use Rattle.laws.proofs.Kit.{ℕ, zero, suc, _+_, _≤_, _≡_, refl, sym, _∙_, ap, List, [], _∷_, _++_, length, take, drop, set, length-append}
-use Rattle.laws.proofs.Kit.{length-set, sets, add-zero, zero-add, arith}
+use Rattle.laws.proofs.Kit.{append-nil, length-set, drop-length, sets, add-zero, zero-add, arith}
 use lib.Seq.{sets-eq, set-out}
 
 pub sets-sets : (a b l : List ℕ) (i j : ℕ) → j ≡ i + length a → sets (sets l i a) j b ≡ sets l i (a ++ b)
@@ -44,3 +44,9 @@ run i l = record { is = refl }
 
 pub then : (b : List ℕ) (j : ℕ) {i : ℕ} {l bs m n : List ℕ} → Run i l bs m → n ≡ sets m j b → j ≡ i + length bs → Run i l (bs ++ b) n
 then b j {i} {l} {bs} r q e = record { is = stored-twice bs b l i j (r .is) q e }
+
+-- Stores from the start over the whole of a list.
+pub sets-whole : (a l : List ℕ) → length l ≡ length a → sets l 0 a ≡ a
+sets-whole a l e =
+    let k : length a ≤ length l = omega arith in
+    rw (sets-start a l k, ← e, drop-length l, append-nil)

@@ -8,7 +8,7 @@ unfoldable pub run {ℓ} : {A : Type ℓ} → (ℕ → A) → ℕ → ℕ → Li
 run f i zero = []
 run f i (suc n) = f i ∷ run f (suc i) n
 
--- The first n values of f.
+-- The first n values of f: the list `run f 0 n`, from its end on, as a loop makes it.
 unfoldable pub gathered : {A : Type 0} (f : ℕ → A) (n : ℕ) → List A
 gathered f zero = []
 gathered f (suc n) = gathered f n ++ (f n ∷ [])

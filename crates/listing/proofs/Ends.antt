@@ -14,11 +14,11 @@ use Rattle.lines.specs.Listing.{lineRoom, list}
 use Rattle.lines.specs.Inputs.{NoState}
 use Rattle.lines.proofs.Inputs.{turn-takes}
 use Rattle.listing.specs.Turns.{turnOn, RunTo, RunEnds, ReadOf, RunStops, RunExists, RanLists}
-use Rattle.listing.proofs.Runs.{Reads, reads-next, run-lists}
+use Rattle.listing.proofs.Runs.{AllCame, reads-next, run-lists}
 
 module _ (test : Stand NoState → Bool) (room : ℕ) (roomy : lineRoom ≤ room) where
   -- Once the input has ended.
-  ended-stops : (reads : List (List ℕ)) (bytes : List ℕ) (ended : Bool) → ended ≡ true → RunTo test room bytes ended reads → Reads reads []
+  ended-stops : (reads : List (List ℕ)) (bytes : List ℕ) (ended : Bool) → ended ≡ true → RunTo test room bytes ended reads → AllCame reads []
       → length reads ≤ length bytes
   unfolding RunTo
   ended-stops [] bytes ended e r d = omega arith
@@ -31,12 +31,12 @@ module _ (test : Stand NoState → Bool) (room : ℕ) (roomy : lineRoom ≤ room
 
   -- A read that brings nothing is the last.
   no-more : (reads : List (List ℕ)) (left got rest : List ℕ) → eqb (length got) 0 ≡ true → rest ≡ []
-      → RunTo test room (left ++ got) (eqb (length got) 0) reads → Reads reads rest → length reads ≤ length left
+      → RunTo test room (left ++ got) (eqb (length got) 0) reads → AllCame reads rest → length reads ≤ length left
   no-more reads left got rest z e r d =
       omega (arith, eqb-true (length got) 0 z, ended-stops reads (left ++ got) (eqb (length got) 0) z r (rw e at d), length-append left got)
 
   -- From the bytes held on, while the input goes on.
-  stops : (reads : List (List ℕ)) (bytes input : List ℕ) → RunTo test room bytes false reads → Reads reads input
+  stops : (reads : List (List ℕ)) (bytes input : List ℕ) → RunTo test room bytes false reads → AllCame reads input
       → length reads ≤ 2 * length input + length bytes + 1
   unfolding RunTo
   stops [] bytes input r d = omega arith

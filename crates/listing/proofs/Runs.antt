@@ -15,20 +15,20 @@ use Rattle.lines.proofs.Inputs.{listed-in-turns}
 use Rattle.lines.proofs.ReadingOn.{room-to-read}
 use Rattle.listing.specs.Turns.{turnOn, runText, RunTo, RunEnds, ReadOf, RunLists, TurnLeads}
 
--- What a run needs of its reads: each brings the next bytes of the input, and one that brings none is the last that brings any.
-pub record Next (got input : List ℕ) (Later : List ℕ → Type 0) : Type 0 where
+-- What a run needs of its reads: each brings the next bytes of the input, and after one that brings none there are none.
+pub record Came (got input : List ℕ) (Later : List ℕ → Type 0) : Type 0 where
   pub rest : List ℕ
   pub is : got ++ rest ≡ input
   pub ends : length got ≡ 0 → rest ≡ []
   pub after : Later rest
 
-abbrev pub Reads : List (List ℕ) → List ℕ → Type 0
-Reads [] input = Unit
-Reads (got ∷ reads) input = Next got input (Reads reads)
+abbrev pub AllCame : List (List ℕ) → List ℕ → Type 0
+AllCame [] input = Unit
+AllCame (got ∷ reads) input = Came got input (AllCame reads)
 
 -- They do so, since there is room to read on after each turn.
 pub reads-next : (buffer room : ℕ) → longestMessage ≤ buffer → lineRoom ≤ room → (reads : List (List ℕ)) (bytes input : List ℕ) (ended : Bool)
-    → AreBytes bytes → length bytes ≤ buffer → AreBytes input → ReadOf buffer room bytes ended reads input → Reads reads input
+    → AreBytes bytes → length bytes ≤ buffer → AreBytes input → ReadOf buffer room bytes ended reads input → AllCame reads input
 unfolding ReadOf
 reads-next buffer room long roomy [] bytes input ended b h i d = tt
 reads-next buffer room long roomy (got ∷ reads) bytes input ended b h i d =
@@ -88,7 +88,7 @@ module _ (room : ℕ) where
   unfolding ending
   last-turn t bytes o = record { rooms = room ∷ []; over = o; says = refl }
 
-  last-turns : (reads : List (List ℕ)) (bytes : List ℕ) (ended : Bool) → ended ≡ true → RunEnds room bytes ended reads → Reads reads []
+  last-turns : (reads : List (List ℕ)) (bytes : List ℕ) (ended : Bool) → ended ≡ true → RunEnds room bytes ended reads → AllCame reads []
       → (t : List ℕ) → Last (at t bytes) (t ++ runText room bytes ended reads)
   unfolding runText RunTo
   last-turns [] bytes ended e r d t = rw e (last-turn t bytes (rw e at r))
@@ -132,12 +132,12 @@ module _ (room : ℕ) where
 
   -- What the turns come to, by what each read brings.
   abbrev Reached : List (List ℕ) → Type 0
-  Reached reads = (t left got rest : List ℕ) → RunEnds room (left ++ got) false reads → Reads reads rest
+  Reached reads = (t left got rest : List ℕ) → RunEnds room (left ++ got) false reads → AllCame reads rest
       → Done (at t left) (got ++ rest) (t ++ runText room (left ++ got) false reads)
 
   -- A read, and the turns after it: those after the end of the input, or others.
   read-more : (more : List ℕ) (reads : List (List ℕ)) → Reached reads → (u left rest : List ℕ)
-      → RunEnds room (left ++ more) (eqb (length more) 0) reads → Reads (more ∷ reads) rest
+      → RunEnds room (left ++ more) (eqb (length more) 0) reads → AllCame (more ∷ reads) rest
       → Done (at u left) rest (u ++ runText room (left ++ more) (eqb (length more) 0) reads)
   read-more more reads reach u left rest r d =
       on (eqb (length more) 0) (λ z.

@@ -86,14 +86,14 @@ RunStops = (test : Stand NoState → Bool) (buffer room : ℕ) (input : List ℕ
     → lineRoom ≤ room → ReadOf buffer room [] false reads input → RunTo test room [] false reads → length reads ≤ 2 * length input + 1
 
 -- Reads of an input by which a run ends.
-pub record Ending (buffer room : ℕ) (input : List ℕ) : Type 0 where
+pub record EndingReads (buffer room : ℕ) (input : List ℕ) : Type 0 where
   pub reads : List (List ℕ)
   pub brings : ReadOf buffer room [] false reads input
   pub ends : RunEnds room [] false reads
 
 -- Every input has such reads.
 abbrev pub RunExists : Type 0
-RunExists = (buffer room : ℕ) (input : List ℕ) → AreBytes input → longestMessage ≤ buffer → lineRoom ≤ room → Ending buffer room input
+RunExists = (buffer room : ℕ) (input : List ℕ) → AreBytes input → longestMessage ≤ buffer → lineRoom ≤ room → EndingReads buffer room input
 
 -- The run of the program lists its input, if what it listed was written and there are fewer than 2^63 - 1 bytes: then the run is over, and
 -- all that it writes is the listing of the input that its reads are of.

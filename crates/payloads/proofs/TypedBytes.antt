@@ -1,6 +1,6 @@
 -- SPDX-License-Identifier: MPL-2.0
 -- A format whose numbers have their widths is written in bytes, for values that fit and are as the types of a call have them; what is read from
--- bytes is such values.
+-- bytes is as these types have it.
 use Rattle.laws.proofs.Kit.{ℕ, zero, suc, _+_, _<_, _≡_, Bool, true, _&&_, List, [], _∷_, _++_, length, eqb, leb, ltb, leb-true, ltb-true, arith}
 use mathlib.Core.List.{flatMap}
 use Rattle.laws.specs.Bytes.{AreBytes}

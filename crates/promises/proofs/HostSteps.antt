@@ -1,8 +1,10 @@
 -- SPDX-License-Identifier: MPL-2.0
 -- A step whose message is read hears it, and the first row of "Host states" that applies is the one of the sentence.
-use Rattle.laws.proofs.Kit.{ℕ, _≤_, _≡_, _∙_, ap, false, and-false, List, eqb, ne-eqb, le-leb, arith}
+use Rattle.laws.proofs.Kit.{ℕ, _≤_, _≡_, _∙_, ap, Bool, true, false, _&&_, and-false, List, eqb, ne-eqb, le-leb, lt-leb, arith}
 use Rattle.laws.proofs.Cases.{on}
-use Rattle.laws.proofs.Sames.{same-refl}
+use Rattle.laws.specs.Same.{same}
+use Rattle.laws.proofs.Sames.{same-refl, same→eq}
+use Rattle.laws.proofs.Bools.{and-true}
 use Rattle.payloads.specs.Reading.{connectType, readRequest}
 use Rattle.payloads.specs.declared.reading.Request.{Request}
 use Rattle.sha256.specs.Digests.{digest}
@@ -12,13 +14,17 @@ use Rattle.hub.specs.declared.Connection.{Connection}
 use Rattle.hub.specs.declared.Stepped.{Stepped}
 use Rattle.hub.specs.declared.Answer.the-variants.{Refused, Reply, Again, Failure}
 use Rattle.hub.specs.Answers.{said}
-use Rattle.hub.specs.Host.{stepped, requested, withDigestAndState, host}
+use Rattle.hub.specs.Host.{stepped, requested, withDigestAndState, knows, host}
 use Rattle.hub.specs.Hear.{certificate, connect, pieceIn, joined, isForeign, hear}
 use Rattle.hub.specs.Calls.{Call, Standing}
 use Rattle.hub.proofs.Telling.{said-of}
 use Rattle.promises.specs.Enrolment.{Content}
-use Rattle.promises.specs.HostStates.{IsHeard, Does, IsConnect, ByHostStates}
+use Rattle.promises.specs.HostStates.{Admitted, Does, IsConnect, ByHostStates}
 use Rattle.promises.proofs.ReadBack.{step-hears}
+
+-- A test that does not hold.
+is-false : (t : Bool) → (t ≡ true → ⊥) → t ≡ false
+is-false t n = on t (λ e. absurd (n e)) (λ e. e)
 
 -- The rows of "Host states", each where its sentence says.
 module _ (c : Connection) (session : ℕ) (r : Request) (d : List ℕ) (v : ℕ) where
@@ -53,9 +59,39 @@ module _ (c : Connection) (session : ℕ) (r : Request) (d : List ℕ) (v : ℕ)
   unfolding host
   finishes-again s = rw s
 
-  ends : (type : ℕ) → c .state ≡ 4 → host c type session r d v ≡ stepped c (Refused 15)
+  -- No row applies.
+  another-request : 1 ≤ c .state → ((c .nonce ≡ r .nonce) × (c .x ≡ r .x) × (c .y ≡ r .y) → ⊥) → host c 0 session r d v ≡ stepped c (Refused 15)
   unfolding host
-  ends type s = rw s (simp and-false)
+  another-request low n =
+      let unlike : knows c r ≡ false = is-false (knows c r) λ e.
+      let a = and-true (same (c .nonce) (r .nonce) && same (c .x) (r .x)) (same (c .y) (r .y)) e in
+      let b = and-true (same (c .nonce) (r .nonce)) (same (c .x) (r .x)) (a .0) in
+      n (same→eq _ _ (b .0), same→eq _ _ (b .1), same→eq _ _ (a .1)) in
+      rw (ne-eqb (c .state) 0 (λ z. omega arith), unlike) (simp and-false)
+
+  another-certificate : 2 ≤ c .state → (c .digest ≡ d → ⊥) → host c 2 session r d v ≡ stepped c (Refused 15)
+  unfolding host
+  another-certificate low n =
+      let unlike : same (c .digest) d ≡ false = is-false (same (c .digest) d) (λ e. n (same→eq _ _ e)) in
+      rw (ne-eqb (c .state) 1 (λ z. omega arith), unlike) (simp and-false)
+
+  device-early : c .state ≡ 0 → host c 2 session r d v ≡ stepped c (Refused 15)
+  unfolding host
+  device-early s = rw s
+
+  done-early : c .state ≤ 1 → host c 6 session r d v ≡ stepped c (Refused 15)
+  unfolding host
+  done-early low = rw (ne-eqb (c .state) 2 (λ z. omega arith), ne-eqb (c .state) 3 (λ z. omega arith))
+
+  other-type : (t : ℕ) → (t ≡ 0 → ⊥) → (t ≡ 2 → ⊥) → (t ≡ 6 → ⊥) → host c t session r d v ≡ stepped c (Refused 15)
+  unfolding host
+  other-type t a b e = rw (ne-eqb t 0 a, ne-eqb t 2 b, ne-eqb t 6 e)
+
+  ends : (type : ℕ) → 4 ≤ c .state → host c type session r d v ≡ stepped c (Refused 15)
+  unfolding host
+  ends type high =
+      rw (ne-eqb (c .state) 0 (λ z. omega arith), ne-eqb (c .state) 1 (λ z. omega arith), ne-eqb (c .state) 2 (λ z. omega arith))
+      (rw (ne-eqb (c .state) 3 (λ z. omega arith), lt-leb (c .state) 3 (omega arith)) (simp and-false))
 
 -- A message that 16 does not refuse.
 module _ (c : Connection) (h : Header) (q report : List ℕ) (v : ℕ) (own : isForeign c h ≡ false) where
@@ -68,13 +104,21 @@ module _ (c : Connection) (h : Header) (q report : List ℕ) (v : ℕ) (own : is
   unfolding hear
   hears-session t s = rw (own, t, s)
 
-  hears-ended : c .state ≡ 4 → hear c h q report v ≡ stepped c (Refused 15)
-  unfolding hear connect
-  hears-ended s =
-      rw (own, ends c (h .session) (readRequest q) (digest (certificate q)) v (connectType q) s)
-      (on (eqb (h .kind) 2) (λ z. rw z) (λ z. rw (z, s, and-false)))
+  session-early : h .kind ≡ 4 → c .state ≤ 2 → hear c h q report v ≡ stepped c (Refused 15)
+  unfolding hear
+  session-early t low = rw (own, t, ne-eqb (c .state) 3 (λ z. omega arith))
 
-module _ (p : Standing) (x : Call) (h : IsHeard p x) where
+  discovery : h .kind ≡ 1 → hear c h q report v ≡ stepped c (Refused 15)
+  unfolding hear
+  discovery t = rw (own, t)
+
+  hears-ended : 4 ≤ c .state → hear c h q report v ≡ stepped c (Refused 15)
+  unfolding hear connect
+  hears-ended high =
+      rw (own, ends c (h .session) (readRequest q) (digest (certificate q)) v (connectType q) high)
+      (on (eqb (h .kind) 2) (λ z. rw z) (λ z. rw (z, ne-eqb (c .state) 3 (λ z. omega arith), and-false)))
+
+module _ (p : Standing) (x : Call) (h : Admitted p x) where
   abbrev k : Content x
   k = h .content
 
@@ -110,5 +154,12 @@ by-host-states p x h =
       done = λ t s. row 6 _ t (finishes c n r d v s);
       done-again = λ t s. row 6 _ t (finishes-again c n r d v s);
       session = λ t s. let q = so p x h _ (hears-session c (k .header) (k .payload) (p .report) v (h .own) t s) in (q .0 ∙ said-of (j .answer), q .1);
-      ended = λ s. so p x h _ (hears-ended c (k .header) (k .payload) (p .report) v (h .own) s);
+      another-request = λ t low n. row 0 _ t (another-request c _ r d v low n);
+      another-certificate = λ t low n. row 2 _ t (another-certificate c _ r d v low n);
+      device-early = λ t s. row 2 _ t (device-early c _ r d v s);
+      done-early = λ t low. row 6 _ t (done-early c _ r d v low);
+      session-early = λ t low. so p x h _ (session-early c (k .header) (k .payload) (p .report) v (h .own) t low);
+      other-type = λ n t a b e. row n _ t (other-type c _ r d v n a b e);
+      discovery = λ t. so p x h _ (discovery c (k .header) (k .payload) (p .report) v (h .own) t);
+      ended = λ high. so p x h _ (hears-ended c (k .header) (k .payload) (p .report) v (h .own) high);
     }

@@ -57,7 +57,7 @@ pub record FieldsBack : Type 0 where
 abbrev pub ValuesBack : Type 0
 ValuesBack = (f : Format) (v : Values f) (p : List ℕ) → WrotePayload f v p → (accepts f p ≡ true) × (read f p ≡ v)
 
--- Its premise can be met: a payload of any format is written for all values that fit, into an output that has just room for it.
+-- Its premise can be met: a payload of any format is written for all values that fit.
 abbrev pub CanBeWritten : Type 0
 CanBeWritten = (f : Format) (v : Values f) → fits f v ≡ true → WrotePayload f v (write f v)
 
@@ -67,7 +67,7 @@ abbrev pub OnlyWritten : Type 0
 OnlyWritten = (f : Format) (p : List ℕ) → AreBytes p → accepts f p ≡ true → WrotePayload f (read f p) p
 
 -- Formats and bytes: the numbers of each shape's format have room in their widths; such a format is written in bytes, for values that fit and are as
--- the types of a call have them; and what is read from bytes is such values.
+-- the types of a call have them; and what is read from bytes is as these types have it.
 pub record OfBytes : Type 0 where
   pub of-shapes : all (λ (row : Shape). hasWidths (row .2)) shapes ≡ true
   pub of-written : (f : Format) (v : Values f) → hasWidths f ≡ true → fits f v ≡ true → Typed f v → AreBytes (write f v)

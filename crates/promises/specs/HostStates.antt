@@ -17,8 +17,8 @@ use Rattle.hub.specs.Hear.{certificate, pieceIn, withProgress, isForeign}
 use Rattle.hub.specs.Calls.{Call, Standing, says, after}
 use Rattle.promises.specs.Enrolment.{Content}
 
--- A call whose message is heard: the reader reads it, and neither 25 nor 24 nor 16 applies.
-pub record IsHeard (p : Standing) (x : Call) : Type 0 where
+-- A call that comes as far as the states: the reader reads its message, and neither 25 nor 24 nor 16 applies.
+pub record Admitted (p : Standing) (x : Call) : Type 0 where
   pub content : Content x
   pub verdict : x .verdict ≤ 1
   pub size : badSize (p .connection .size) ≡ false
@@ -56,8 +56,22 @@ pub record HostStates (p : Standing) (x : Call) (k : Content x) : Type 0 where
   pub session : k .header .kind ≡ 4 → p .connection .state ≡ 3
       → let j = join (p .connection .size) (p .connection .progress) (pieceIn (k .header)) (k .payload) (p .report) in
       Does p x (arrived (j .answer)) (withProgress (p .connection) (j .progress))
-  -- "All else", which `StepExact` has as the row of 15, "and all of state 4: refusal 15."
-  pub ended : p .connection .state ≡ 4 → Does p x (refused 15) (p .connection)
+  -- "All else, and all of state 4: refusal 15." A Connection Request that is another one, or a certificate;
+  pub another-request : IsConnect k 0 → 1 ≤ p .connection .state
+      → ((p .connection .nonce ≡ readRequest (k .payload) .nonce) × (p .connection .x ≡ readRequest (k .payload) .x)
+      × (p .connection .y ≡ readRequest (k .payload) .y) → ⊥)
+      → Does p x (refused 15) (p .connection)
+  pub another-certificate : IsConnect k 2 → 2 ≤ p .connection .state → (p .connection .digest ≡ digest (certificate (k .payload)) → ⊥)
+      → Does p x (refused 15) (p .connection)
+  -- types 2 and 6 and Session before their states;
+  pub device-early : IsConnect k 2 → p .connection .state ≡ 0 → Does p x (refused 15) (p .connection)
+  pub done-early : IsConnect k 6 → p .connection .state ≤ 1 → Does p x (refused 15) (p .connection)
+  pub session-early : k .header .kind ≡ 4 → p .connection .state ≤ 2 → Does p x (refused 15) (p .connection)
+  -- every other Connect type, the replies among them, and Discovery;
+  pub other-type : (t : ℕ) → IsConnect k t → (t ≡ 0 → ⊥) → (t ≡ 2 → ⊥) → (t ≡ 6 → ⊥) → Does p x (refused 15) (p .connection)
+  pub discovery : k .header .kind ≡ 1 → Does p x (refused 15) (p .connection)
+  -- state 4, and a number that is no state.
+  pub ended : 4 ≤ p .connection .state → Does p x (refused 15) (p .connection)
 
 abbrev pub ByHostStates : Type 0
-ByHostStates = (p : Standing) (x : Call) (h : IsHeard p x) → HostStates p x (h .content)
+ByHostStates = (p : Standing) (x : Call) (h : Admitted p x) → HostStates p x (h .content)

@@ -6,7 +6,7 @@ use lib.ListN.{List·getD-append}
 use lib.Seq.{drop-cons, set-at, getD-at}
 use Rattle.laws.specs.Bytes.{be8, bytesAt}
 use Rattle.laws.proofs.Order.{lt-or-ge}
-use Rattle.laws.proofs.Stores.{sets-start, stored-twice}
+use Rattle.laws.proofs.Stores.{stored-twice}
 use Rattle.laws.specs.Runs.{gathered}
 use Rattle.laws.proofs.Runs.{length-gathered}
 
@@ -50,9 +50,3 @@ pub gathered-stored : (f : ℕ → ℕ) (l m n : List ℕ) (at i x : ℕ) → m 
     → n ≡ sets l at (gathered f (i + 1))
 unfolding gathered
 gathered-stored f l m n at i x p e q = rw (add-one, ← e) (stored-twice (gathered f i) (x ∷ []) l at (at + i) p q (rw (length-gathered f i)))
-
--- Stores from the start over the whole of a list.
-pub sets-whole : (a l : List ℕ) → length l ≡ length a → sets l 0 a ≡ a
-sets-whole a l e =
-    let k : length a ≤ length l = omega arith in
-    rw (sets-start a l k, ← e, drop-length l, append-nil)

@@ -30,7 +30,7 @@ fn unless_refused<const N: usize>(number: u8, words: [u64; N]) -> Result<[u64; N
     answer.map(|()| words)
 }
 
-/// The words of a header by hub.h's names, in its order.
+/// Words by hub.h's names, in the order of the names.
 pub fn by_name<const N: usize, const M: usize>(words: &[u64; N], names: [usize; M]) -> [u64; M] {
     names.map(|name| words[name])
 }

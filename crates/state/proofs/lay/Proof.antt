@@ -3,7 +3,7 @@
 use Rattle.laws.proofs.Kit.{sym, _∙_, needs}
 use Rattle.state.specs.Layout.{sizePlace}
 use Rattle.state.specs.State.{Fits, stateParts, stateBytes}
-use Rattle.state.proofs.Gathered.{sets-whole}
+use Rattle.laws.proofs.Stores.{sets-whole}
 use Rattle.state.proofs.Parted.{stored-joined}
 use Rattle.state.proofs.StateBack.{read-back}
 use Rattle.state.proofs.lay.Statement.{statement}

@@ -1,7 +1,7 @@
 -- SPDX-License-Identifier: MPL-2.0
 -- The fields and the part fill the words.
 use Rattle.laws.proofs.Kit.{ℕ, _≡_, refl, List, [], _∷_, length, sets, needs}
-use Rattle.state.proofs.Gathered.{sets-whole}
+use Rattle.laws.proofs.Stores.{sets-whole}
 use Rattle.wire.specs.declared.answers.Found.{Found}
 use Rattle.hub_c.specs.Headers.{fieldWords, foundWords}
 use Rattle.hub_c.proofs.reading.hand.Statement.{statement}
