@@ -1,12 +1,12 @@
 -- SPDX-License-Identifier: MPL-2.0
 -- The premises of `RepeatedStep` can be met: three messages, as the writer writes them, enrol a gateway, and three others ask for the same steps.
-use Rattle.laws.proofs.Kit.{ℕ, _≤_, _<_, _≡_, refl, sym, _∙_, ap, false, not, and-false, List, [], _∷_, _++_, length, replicate, eqb, eqb-false}
+use Rattle.laws.proofs.Kit.{ℕ, _≤_, _<_, _≡_, refl, sym, _∙_, ap, false, not, and-false, List, [], _∷_, length, replicate, eqb, eqb-false}
 use Rattle.laws.proofs.Kit.{le-ltb, arith}
 use Rattle.laws.specs.Bytes.{AreBytes, bytesAt}
 use Rattle.wire.specs.Fields.{badType, badFlags, badPiece, mostPieces, isSealed}
 use Rattle.wire.specs.Chain.{entryOf, chain, mostEntries, readChain, badChain}
-use Rattle.payloads.specs.Format.{endsFrom, holdsFrom, readFrom, acceptsFrom}
-use Rattle.payloads.specs.Shapes.{isShaped, badPayload}
+use Rattle.payloads.specs.Format.{_and_, write, endsFrom, holdsFrom, readFrom, acceptsFrom}
+use Rattle.payloads.specs.Shapes.{connectionRequest, deviceAuthentication, doneRequest, isShaped, badPayload}
 use Rattle.payloads.specs.Reading.{readRequest, certificateOf}
 use Rattle.wire.specs.declared.header.Header.{Header}
 use Rattle.sha256.specs.Digests.{digest}
@@ -45,24 +45,22 @@ unfolding badChain readChain mostEntries chain entryOf
 longer-allowed = refl
 
 -- A Connection Request, a Device Authentication Request with a certificate of one byte, and an Authentication Done Request, in this mode; the
--- second with this thumbprint, its size before it.
+-- second with this thumbprint.
 abbrev requestBytes : ℕ → List ℕ
-requestBytes mode =
-    0 ∷ mode ∷ 0 ∷ 0 ∷ 0 ∷ 32
-    ∷ (replicate 8 1 ++ (0 ∷ 0 ∷ 64 ∷ 0 ∷ 0 ∷ 32 ∷ (replicate 32 2 ++ (0 ∷ 32 ∷ replicate 32 3))))
+requestBytes mode = write connectionRequest (mode and replicate 8 1 and replicate 32 2 and replicate 32 3 and tt)
 
 abbrev deviceBytes : ℕ → List ℕ → List ℕ
-deviceBytes mode thumbprint = 0 ∷ mode ∷ 2 ∷ 0 ∷ 1 ∷ 5 ∷ thumbprint
+deviceBytes mode thumbprint = write deviceAuthentication (mode and 2 and (5 ∷ []) and thumbprint and tt)
 
 abbrev finishBytes : ℕ → List ℕ
-finishBytes mode = 0 ∷ mode ∷ 6 ∷ []
+finishBytes mode = write doneRequest (mode and tt)
 
 -- The connection after each of them, opened at fragment size F.
 abbrev waiting : ℕ → Connection
 waiting F = requested (blank F) 7 (readRequest (requestBytes 0))
 
 abbrev passed : ℕ → Connection
-passed F = withDigestAndState (waiting F) (digest (certificate (deviceBytes 0 end))) 2
+passed F = withDigestAndState (waiting F) (digest (certificate (deviceBytes 0 []))) 2
 
 abbrev ready : ℕ → Connection
 ready F = withDigestAndState (passed F) (passed F .digest) 3
@@ -81,37 +79,38 @@ unequal a b e p = absurd (eqb-false a b e p)
 
 -- Of each step a message and another one: another mode, another thumbprint.
 request-allowed : Allowed 0 (requestBytes 0) × Allowed 0 (requestBytes 1)
-unfolding badFlags isSealed badPayload isShaped acceptsFrom holdsFrom endsFrom padding sealedSize
+unfolding badFlags isSealed badPayload isShaped acceptsFrom holdsFrom endsFrom write padding sealedSize
 request-allowed = (
   record { low = omega arith; of-bytes = are-bytes _ refl; flagged = refl; shaped = refl; room = omega arith },
   record { low = omega arith; of-bytes = are-bytes _ refl; flagged = refl; shaped = refl; room = omega arith },
 )
 
 request-same : SameStep (requestBytes 0) (requestBytes 1)
-unfolding readRequest readFrom bytesAt
+unfolding readRequest readFrom write bytesAt
 request-same = record { type = refl; nonce = λ e. refl; x = λ e. refl; y = λ e. refl; digested = unequal 0 2 refl }
 
-device-allowed : Allowed 6 (deviceBytes 0 end) × Allowed 6 (deviceBytes 1 (0 ∷ 1 ∷ 7 ∷ []))
-unfolding badFlags isSealed badPayload isShaped acceptsFrom holdsFrom endsFrom padding sealedSize
+device-allowed : Allowed 6 (deviceBytes 0 []) × Allowed 6 (deviceBytes 1 (7 ∷ []))
+unfolding badFlags isSealed badPayload isShaped acceptsFrom holdsFrom endsFrom write padding sealedSize
 device-allowed = (
   record { low = omega arith; of-bytes = are-bytes _ refl; flagged = refl; shaped = refl; room = omega arith },
   record { low = omega arith; of-bytes = are-bytes _ refl; flagged = refl; shaped = refl; room = omega arith },
 )
 
-device-same : SameStep (deviceBytes 0 end) (deviceBytes 1 (0 ∷ 1 ∷ 7 ∷ []))
-unfolding certificateOf
+device-same : SameStep (deviceBytes 0 []) (deviceBytes 1 (7 ∷ []))
+unfolding certificateOf write
 device-same =
-    let c : certificate (deviceBytes 1 (0 ∷ 1 ∷ 7 ∷ [])) ≡ certificate (deviceBytes 0 end) = refl in
+    let c : certificate (deviceBytes 1 (7 ∷ [])) ≡ certificate (deviceBytes 0 []) = refl in
     record { type = refl; nonce = unequal 2 0 refl; x = unequal 2 0 refl; y = unequal 2 0 refl; digested = λ e. ap digest c }
 
 finish-allowed : Allowed 6 (finishBytes 0) × Allowed 6 (finishBytes 1)
-unfolding badFlags isSealed badPayload isShaped acceptsFrom holdsFrom endsFrom padding sealedSize
+unfolding badFlags isSealed badPayload isShaped acceptsFrom holdsFrom endsFrom write padding sealedSize
 finish-allowed = (
   record { low = omega arith; of-bytes = are-bytes _ refl; flagged = refl; shaped = refl; room = omega arith },
   record { low = omega arith; of-bytes = are-bytes _ refl; flagged = refl; shaped = refl; room = omega arith },
 )
 
 finish-same : SameStep (finishBytes 0) (finishBytes 1)
+unfolding write
 finish-same =
     record { type = refl; nonce = unequal 6 0 refl; x = unequal 6 0 refl; y = unequal 6 0 refl; digested = unequal 6 2 refl }
 
@@ -190,20 +189,20 @@ module _ (F : ℕ) (keys report : List ℕ) (sized : badSize F ≡ false) (of-ke
       }
 
   requests : Steps (blank F) (waiting F) 0 (requestBytes 0) 1
-  unfolding hear connect host
+  unfolding hear connect host write
   requests = steps (blank F) (waiting F) 0 (requestBytes 0) 1 sized (request-allowed .0) refl
 
-  authenticates : Steps (waiting F) (passed F) 6 (deviceBytes 0 end) 3
-  unfolding hear connect host
-  authenticates = steps (waiting F) (passed F) 6 (deviceBytes 0 end) 3 sized (device-allowed .0) refl
+  authenticates : Steps (waiting F) (passed F) 6 (deviceBytes 0 []) 3
+  unfolding hear connect host write
+  authenticates = steps (waiting F) (passed F) 6 (deviceBytes 0 []) 3 sized (device-allowed .0) refl
 
   finishes : Steps (passed F) (ready F) 6 (finishBytes 0) 7
-  unfolding hear connect host
+  unfolding hear connect host write
   finishes = steps (passed F) (ready F) 6 (finishBytes 0) 7 sized (finish-allowed .0) refl
 
   enrolled : Enrolled F keys report
   enrolled =
-      let y = once 6 (deviceBytes 0 end) in
+      let y = once 6 (deviceBytes 0 []) in
       let z = once 6 (finishBytes 0) in
       record {
         request = once 0 (requestBytes 0);
