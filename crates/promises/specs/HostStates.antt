@@ -32,6 +32,7 @@ Does p x s c = (says p x ≡ s) × (after p x .connection ≡ c)
 abbrev pub IsConnect : {x : Call} → Content x → ℕ → Type 0
 IsConnect k type = (k .header .kind ≡ 2) × (connectType (k .payload) ≡ type)
 
+-- What the step does, one field a sentence.
 pub record HostStates (p : Standing) (x : Call) (k : Content x) : Type 0 where
   -- "State 0, type 0: remember SessionID, nonce, X, Y; go to 1; reply Connection Response."
   pub request : IsConnect k 0 → p .connection .state ≡ 0
@@ -56,7 +57,7 @@ pub record HostStates (p : Standing) (x : Call) (k : Content x) : Type 0 where
   pub session : k .header .kind ≡ 4 → p .connection .state ≡ 3
       → let j = join (p .connection .size) (p .connection .progress) (pieceIn (k .header)) (k .payload) (p .report) in
       Does p x (arrived (j .answer)) (withProgress (p .connection) (j .progress))
-  -- "All else, and all of state 4: refusal 15." A Connection Request that is another one, or a certificate;
+  -- "All else, and all of state 4: refusal 15." Another Connection Request, another certificate;
   pub another-request : IsConnect k 0 → 1 ≤ p .connection .state
       → ((p .connection .nonce ≡ readRequest (k .payload) .nonce) × (p .connection .x ≡ readRequest (k .payload) .x)
       × (p .connection .y ≡ readRequest (k .payload) .y) → ⊥)
@@ -73,5 +74,6 @@ pub record HostStates (p : Standing) (x : Call) (k : Content x) : Type 0 where
   -- state 4, and a number that is no state.
   pub ended : 4 ≤ p .connection .state → Does p x (refused 15) (p .connection)
 
+-- Of every call that comes so far.
 abbrev pub ByHostStates : Type 0
 ByHostStates = (p : Standing) (x : Call) (h : Admitted p x) → HostStates p x (h .content)
