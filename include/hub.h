@@ -5,7 +5,8 @@
  * The library enrols gateways and joins their reports, over the Connected Devices Platform protocol (MS-CDP) as docs/01-scope.md, here called
  * document 01, describes it. Every function below is proved to do exactly what its contract in crates/hub_c says, on every input; the
  * sentences of this header are those contracts in words. What "proved" rests on is in docs/TRUST.md. This header itself is not proved: that
- * it fits the library is tested (tests/boundary), over a million steps against an independent second implementation.
+ * it fits the library is tested (tests/boundary), over a million steps against an independent second implementation. What stands under docs/ in
+ * the project is installed under share/doc/hlidunsk. The library is for x86-64 Linux.
  *
  *
  * MESSAGES, PIECES, REPORTS
@@ -15,15 +16,63 @@
  * key). A gateway enrols by three Connect messages, each of which the hub replies to. Then it sends reports. A report is cut into 1 to 64
  * pieces of F bytes (the last has the rest), each in a Session message of its own; they may come in any order, twice, or damaged.
  *
- * A caller of the hub's side does this:
+ * The hub's side, for each gateway:
  *
- *     hub_open      once for each gateway: makes a connection of fragment size F
+ *     hub_open      once: makes a connection of fragment size F
+ *     hub_wanted    says where in a stream the next message ends
  *     hub_step      for each message that comes in: judges it, changes the connection, writes a piece into the report buffer, and answers
  *                   what to do: reply, reply again, name a failure, wait for more pieces, or take the report, which is complete
- *     hub_write     makes the bytes of a reply
+ *     hub_write_connection_response, hub_write_device_authentication, hub_write_done_response
+ *                   make the payload of a reply, and hub_write its message
  *
- * and a gateway's side hub_cut and hub_write. The rest looks at messages without a connection. The library opens no socket, keeps no time,
- * agrees on no key and judges no certificate: the caller says by the verdict whether it accepts the certificate that a message shows.
+ * The gateway's side:
+ *
+ *     hub_write_connection_request, hub_write_device_authentication, hub_write_done_request
+ *                   make the payload of a request, and hub_write its message
+ *     hub_read, hub_payload, hub_read_connect
+ *                   open a reply and take it apart
+ *     hub_cut       cuts a report, and hub_write makes the message of each piece
+ *
+ * host/c has both, hub.c and gateway.c, as two programs that talk over a bad link; enrol.c is both in one page. The library opens no socket, keeps
+ * no time, agrees on no key and judges no certificate: the caller says by the verdict whether it accepts the certificate that a message shows.
+ *
+ *
+ * WHAT THE MAKER OF A HUB MUST KNOW
+ *
+ * Keys. The 64 key bytes come from a key agreement outside this library, and are new for each connection. Under old keys and an old SessionID a
+ * new connection takes old messages once more; so does an old copy of a connection that is put back from a backup: store the newest copy alone, and
+ * open anew, with new keys, where it is lost. Until there are keys give a step none (a null pointer, 0). Each call sets up its keys anew: there is
+ * nothing to prepare, and nothing to keep or to erase between calls but the key bytes themselves.
+ *
+ * Vectors. A sealed message's vector is made of SessionID, SequenceNumber, FragmentIndex and FragmentCount. Under one set of keys no two sealed
+ * messages of different content may have the same four, in neither direction. Reports are numbered from 0 on, one number each. The hub does not look
+ * at the SequenceNumber of a Connect message, so give those numbers that no report has, and hub and gateway a range each: host/c counts the
+ * gateway's Connect messages from 0x80000000 on, the hub's from 0xC0000000.
+ *
+ * Fragment size. F, the bytes of a piece, is agreed on outside the protocol, and both sides use the same. It is not the fragment size of a
+ * Connection Request, which document 01 fixes at 16,384 and which nothing here looks at.
+ *
+ * Replies. On HUB_REPLY the caller writes the reply, sends it, and keeps its bytes. On HUB_AGAIN the gateway has not heard it: send the same bytes
+ * again. Writing them anew is as good if every field, the payload and the keys are the same, for then the bytes are too; a Connection Response
+ * with another nonce, or another payload under numbers that were used, is not. The replies of one connection are three messages of at most
+ * HUB_MOST_REPLY bytes each.
+ *
+ * Failure. On HUB_FAILURE the verdict was 0. MS-CDP (2.2.2.3.10) says: "If the authentication process itself fails to complete, an empty payload is
+ * returned", and gives this message the type number 8, HUB_CONNECT_FAILURE. How it is sent is the caller's: hub_write refuses it with 14, since
+ * document 01 has no such payload. The connection is in state HUB_FAILED from then on, where every message is refused: only hub_open helps.
+ *
+ * Verdicts. The verdict matters for one message alone, a Device Authentication Request, which is sealed, in state HUB_WAITING_FOR_AUTHENTICATION. Only there need a caller
+ * read the message before the step: hub_read_header says whether it is sealed, hub_read opens it, hub_read_connect says where its certificate lies. Compare
+ * the length of a certificate as well as its bytes. For every other message any verdict of 0 or 1 gives the same.
+ *
+ * Reports. Lend a connection the same report buffer at each step, and leave it alone, until the report is complete; then take the report before the
+ * next step. A connection comes from hub_open and goes through hub_step alone. Then the first answer[HUB_ANSWER_LENGTH] bytes of report are, at
+ * HUB_COMPLETE, the report as it was sent (DemandThree). Whatever is lent, that number is never more than report_n (WithinReport).
+ *
+ * Refusals. Most are harmless, and a hub drops the message and goes on: connection and report buffer are as they were. 17 is what late copies of a
+ * report that is complete get, 11 what damaged or foreign bytes do, 15 and 16 what strangers and old requests do, 18 a report that comes too early (it is
+ * sent again, or lost). 10, 12, 22, 24, 25 and 255 are the caller's own: keys, a buffer, F or a verdict are not as they should be. After
+ * 19 no report can follow: number 2^32 - 1 is never one, so open a new connection, with new keys, in time. hub_text has a sentence for each.
  *
  *
  * WHO OWNS WHICH MEMORY
@@ -50,19 +99,22 @@
  *               matter.
  *     report    where a report is put together: 64 times F bytes are enough for every report. Leave it alone between steps until the report is
  *               complete: what is in it is compared with pieces that come twice.
- *     out       where a message is written: HUB_MOST_MESSAGE bytes are enough for every message that hub_write makes.
+ *     chain     additional headers with their end: HUB_NO_ENTRIES where there are none. Bytes after the end are refused with 8.
+ *     payload   what a message carries. HUB_MOST_PAYLOAD bytes are enough for every payload of Discovery and Connect.
+ *     out       where a message or a payload is written: HUB_MOST_MESSAGE bytes are enough for every message that hub_write makes.
  *
  *
  * WHAT A CALL ANSWERS
  *
- * Each call returns a number: HUB_DONE (0); or the number of a refusal in document 01 (1 to 25), which is the first row of document 01's table
- * that applies, in the order given with the call; or HUB_WRONG_BUFFER (255). (hub_same_tag and hub_version return what is said there.)
+ * Each call returns a number of 32 bits: HUB_DONE (0); or the number of a refusal in document 01 (1 to 25), which is the first row of document 01's
+ * table that applies, in the order given with the call; or HUB_WRONG_BUFFER (255). (hub_same_tag, hub_wanted and hub_version return what is said
+ * there.) All 32 bits are defined. A later version may return further numbers: treat one that you do not know as a refusal.
  *
  * On a refusal, 1 to 25, every byte of every buffer is exactly as it was before, and every word that the call hands out (header, length, answer,
- * piece) is 0. What a call does otherwise its "On refusal" names. No call that is done hands out zeros
- * alone, but for hub_payload.
+ * piece, connect) is 0. What a call does otherwise its "On refusal" names. No call that is done hands out zeros alone, but for hub_payload.
  *
- * On HUB_WRONG_BUFFER every buffer is exactly as it was before, each byte and each word of it.
+ * On HUB_WRONG_BUFFER every buffer is exactly as it was before, each byte and each word of it. It is answered where a buffer of fixed size has another
+ * size, where a word is too wide for its field, and where hub_step is lent a report buffer that is shorter than the report.
  *
  * A buffer declared const is never changed. What is not named as written is not written.
  *
@@ -70,11 +122,22 @@
  * answer and every byte of every buffer: OneResult and OneOutcome.
  *
  *
- * SECRETS AND TIME
+ * SECRETS, TIME, STACK
  *
  * hub_hmac and hub_same_tag make no branch and no memory access that depends on the bytes they are given; this is tested with valgrind
  * (tests/memory) and not proved. AES reads tables at places that depend on keys and data, so hub_read, hub_write and hub_step are NOT
- * constant-time: see docs/SECURITY.md. Copies on the stack are not erased. Stack: see the table in docs/PERFORMANCE.md.
+ * constant-time: see docs/SECURITY.md. Copies on the stack are not erased.
+ *
+ * The stack that a call takes, in bytes, measured (tests/memory, which fails where a call takes more) and not proved:
+ *
+ * STACK TABLE
+ *
+ *
+ * VERSIONS
+ *
+ * HUB_VERSION is the header's, hub_version the library's. The first number rises where a caller has to change something: a name or a declaration here,
+ * or the meaning of the 151 bytes of a connection. So connections that were stored under one first number may be read under another only where
+ * docs/CHANGES.md says how; under the same first number all are read. The second number rises where something is added.
  */
 #ifndef HLIDUNSK_HUB_H
 #define HLIDUNSK_HUB_H
@@ -107,6 +170,9 @@ extern "C" {
 #define HUB_DIGEST 32  /* a SHA-256 digest, and a tag */
 #define HUB_KEYS 64    /* keys */
 #define HUB_LINE 64    /* a line of the listing */
+#define HUB_CONNECT 13 /* words: what a Connect payload says */
+#define HUB_NONCE 8    /* a nonce */
+#define HUB_COORDINATE 32 /* X, and Y, of a public key */
 
 /* Bounds of document 01. */
 #define HUB_LEAST_MESSAGE 42         /* the shortest message */
@@ -115,6 +181,14 @@ extern "C" {
 #define HUB_MOST_SEALED 65456        /* the longest sealed part of a message that is read */
 #define HUB_MOST_PIECES 64           /* the most pieces of a report */
 #define HUB_MOST_FRAGMENT_SIZE 16384 /* the largest F, and the longest Session payload that hub_write takes */
+#define HUB_MOST_CERTIFICATE 2048    /* the longest certificate; the shortest has one byte */
+#define HUB_MOST_THUMBPRINT 512      /* the longest thumbprint; it may be empty */
+#define HUB_MOST_PAYLOAD 2567        /* the longest payload of Discovery and Connect */
+#define HUB_MOST_REPLY 2650          /* the longest Connect message without entries in its chain */
+
+/* The chain that has no entries: the two bytes of its end. */
+#define HUB_NO_ENTRIES ((const uint8_t *)"\0")
+#define HUB_NO_ENTRIES_N 2
 
 /* What a call returns: document 01's table "Refusal numbers". */
 enum hub_refusal {
@@ -148,9 +222,74 @@ enum hub_refusal {
     HUB_WRONG_FRAGMENT_SIZE = 24, /* F outside 1 to 16,384 */
     HUB_WRONG_VERDICT = 25,       /* verdict not 0 or 1 */
     /* tests/refusals/write: end */
-    HUB_WRONG_BUFFER = 255        /* a buffer of fixed size has another size, or a word given to hub_write is
-                                     too wide for its field; not a number of document 01 */
+    HUB_WRONG_BUFFER = 255        /* a buffer of fixed size has another size, a word is too wide for its field, or
+                                     the report buffer shorter than the report; not a number of document 01 */
 };
+
+/* A sentence for each number that a call returns, in English: document 01's. */
+static inline const char *hub_text(uint32_t number)
+{
+    switch (number) {
+    case HUB_DONE:
+        return "done";
+    /* tests/refusals/write: texts */
+    case HUB_TOO_SHORT:
+        return "fewer than 42 bytes";
+    case HUB_WRONG_SIGNATURE:
+        return "wrong signature";
+    case HUB_WRONG_LENGTH:
+        return "MessageLength under 42 or not the bytes given";
+    case HUB_WRONG_VERSION:
+        return "version not 3";
+    case HUB_WRONG_TYPE:
+        return "type not 1, 2, 4";
+    case HUB_WRONG_FLAGS:
+        return "a flag above 8; flags 2 and 4 not alike; sealed Discovery; plain Session";
+    case HUB_WRONG_PIECE:
+        return "count 0 or over 64; index not under count; count not 1 outside Session";
+    case HUB_WRONG_CHAIN:
+        return "chain leaves its room, unknown type, type 0 with a size, over 8 entries";
+    case HUB_WRONG_SEALED_SIZE:
+        return "sealed part empty or no multiple of 16";
+    case HUB_WRONG_KEYS:
+        return "keys not 64 bytes";
+    case HUB_WRONG_TAG:
+        return "tag differs";
+    case HUB_SHORT_WORKING:
+        return "working buffer shorter than the sealed part";
+    case HUB_WRONG_PADDING:
+        return "size or padding not as the rule gives";
+    case HUB_WRONG_PAYLOAD:
+        return "Discovery or Connect payload not as document 01 says";
+    case HUB_NOT_ALLOWED:
+        return "message not allowed in this state";
+    case HUB_OTHER_SESSION:
+        return "state not 0 and another SessionID";
+    case HUB_PAST_SEQUENCE:
+        return "SequenceNumber below the expected one";
+    case HUB_FUTURE_SEQUENCE:
+        return "SequenceNumber above the expected one";
+    case HUB_LAST_SEQUENCE:
+        return "SequenceNumber is 2^32 - 1";
+    case HUB_WRONG_PIECE_SIZE:
+        return "piece not F bytes and not last; last over F; last empty with count over 1; in hub_write: Session payload over 16,384";
+    case HUB_UNLIKE_FIRST_PIECE:
+        return "count or channel unlike the first piece taken of this message";
+    case HUB_NO_ROOM:
+        return "F times index + piece length exceeds the report buffer; or out too small";
+    case HUB_UNLIKE_REPEAT:
+        return "index already heard, and the bytes differ from the report buffer's there, or the length from the one taken";
+    case HUB_WRONG_FRAGMENT_SIZE:
+        return "F outside 1 to 16,384";
+    case HUB_WRONG_VERDICT:
+        return "verdict not 0 or 1";
+    /* tests/refusals/write: end */
+    case HUB_WRONG_BUFFER:
+        return "a buffer of fixed size has another size, a word is too wide for its field, or the report buffer is shorter than the report";
+    default:
+        return "a number that this version of hub.h does not know";
+    }
+}
 
 /* Places of the words of a header: HUB_FIELDS of them are given to hub_write, HUB_HEADER come from hub_read_header and hub_read. */
 enum hub_header_word {
@@ -180,14 +319,44 @@ enum hub_type { HUB_TYPE_DISCOVERY = 1, HUB_TYPE_CONNECT = 2, HUB_TYPE_SESSION =
 /* MessageFlags. A message is sealed where both bits of HUB_SEAL are set. */
 enum hub_flag { HUB_FLAG_ACKNOWLEDGE = 1, HUB_FLAG_HMAC = 2, HUB_FLAG_ENCRYPTED = 4, HUB_SEAL = 6, HUB_FLAG_WAKE = 8 };
 
-/* The types of Connect payloads: the byte after ConnectionMode. */
+/* The types of Connect payloads: the byte after ConnectionMode. Types 0 and 1 are plain, the others sealed; the other way is 14. */
 enum hub_connect {
     HUB_CONNECTION_REQUEST = 0,
     HUB_CONNECTION_RESPONSE = 1,
-    HUB_AUTHENTICATION_REQUEST = 2,
-    HUB_AUTHENTICATION_RESPONSE = 3,
-    HUB_DONE_REQUEST = 6,
-    HUB_DONE_RESPONSE = 7
+    HUB_AUTHENTICATION_REQUEST = 2,  /* Device Authentication Request */
+    HUB_AUTHENTICATION_RESPONSE = 3, /* Device Authentication Response */
+    HUB_DONE_REQUEST = 6,            /* Authentication Done Request */
+    HUB_DONE_RESPONSE = 7,           /* Authentication Done Response */
+    HUB_CONNECT_FAILURE = 8          /* Authentication Failure: see Failure above; no call here reads or writes it */
+};
+
+/* ConnectionMode of a Connect payload, by MS-CDP's names. Document 01 takes 0 to 2 and makes nothing of it. */
+enum hub_mode { HUB_MODE_NONE = 0, HUB_MODE_PROXIMAL = 1, HUB_MODE_LEGACY = 2 };
+
+/* The Result of a Connection Response (0 to 3) and the Status of an Authentication Done Response (0 to 4), by MS-CDP's names. */
+enum hub_code {
+    HUB_SUCCESS = 0,
+    HUB_PENDING = 1, /* as a Result: nonce, X and Y follow */
+    HUB_FAILURE_AUTHENTICATION = 2,
+    HUB_FAILURE_NOT_ALLOWED = 3,
+    HUB_FAILURE_UNKNOWN = 4 /* a Status only */
+};
+
+/* Places of the words that hub_read_connect writes. A part of the payload is two words: where it starts, and how many bytes it has. */
+enum hub_connect_word {
+    HUB_CONNECT_TYPE = 0, /* a hub_connect */
+    HUB_CONNECT_MODE = 1, /* ConnectionMode, a hub_mode */
+    HUB_CONNECT_CODE = 2, /* a hub_code: type 1, the Result; type 7, the Status; else 0 */
+    HUB_NONCE_FROM = 3,   /* types 0, and 1 where it is Pending: nonce, X and Y; else 0 */
+    HUB_NONCE_SIZE = 4,
+    HUB_X_FROM = 5,
+    HUB_X_SIZE = 6,
+    HUB_Y_FROM = 7,
+    HUB_Y_SIZE = 8,
+    HUB_CERTIFICATE_FROM = 9, /* types 2 and 3: certificate and thumbprint; else 0 */
+    HUB_CERTIFICATE_SIZE = 10,
+    HUB_THUMBPRINT_FROM = 11,
+    HUB_THUMBPRINT_SIZE = 12
 };
 
 /* Places of the words that hub_payload writes. */
@@ -201,7 +370,7 @@ enum hub_place_word {
 enum hub_answer_word {
     HUB_ANSWER_KIND = 0,   /* a hub_kind */
     HUB_ANSWER_VALUE = 1,  /* Reply, Again: the Connect type to send; Taken, Repeat, Complete: how many different pieces have come; else 0 */
-    HUB_ANSWER_LENGTH = 2, /* Complete: the report's length; Reply, Again: see the next name; else 0 */
+    HUB_ANSWER_LENGTH = 2, /* Complete: the report's length, at most report_n; Reply, Again: see the next name; else 0 */
     HUB_ANSWER_STATUS = 2  /* the same word. Reply, Again: the Status to send with type 7, which is 0; 0 with types 1 and 3 */
 };
 
@@ -211,8 +380,8 @@ enum hub_kind {
     HUB_REPLY = 1,   /* send the Connect payload of this type: 1 (Connection Response; Result, nonce and key in it are the caller's),
                         3 (Device Authentication Response, with the hub's own certificate), 7 (Authentication Done Response, with
                         the Status of HUB_ANSWER_STATUS) */
-    HUB_AGAIN = 2,   /* the message came before and nothing has changed; send the same reply again */
-    HUB_FAILURE = 3, /* the verdict was 0: send Authentication Failure, which the caller makes without hub_write */
+    HUB_AGAIN = 2,   /* the message came before and nothing has changed; send the same reply again (see Replies above) */
+    HUB_FAILURE = 3, /* the verdict was 0: send Authentication Failure, which the caller makes without hub_write (see Failure above) */
     HUB_TAKEN = 4,   /* a new piece is in the report buffer; others are missing */
     HUB_REPEAT = 5,  /* a piece that had come, with the same bytes; nothing has changed */
     HUB_COMPLETE = 6 /* the last missing piece: the report is the report buffer's first bytes */
@@ -233,7 +402,7 @@ enum hub_piece_word {
  */
 enum hub_state_place {
     HUB_STATE_FRAGMENT_SIZE = 0, /* 8 bytes: F */
-    HUB_STATE_STATE = 8,         /* 1 byte: 0 waiting for a request, 1 waiting for authentication, 2 passed, 3 Ready, 4 Failed */
+    HUB_STATE_STATE = 8,         /* 1 byte: a hub_state */
     HUB_STATE_SESSION = 9,       /* 8 bytes: SessionID */
     HUB_STATE_NONCE = 17,        /* 8 bytes: the nonce of the Connection Request */
     HUB_STATE_X = 25,            /* 32 bytes: its X */
@@ -246,6 +415,15 @@ enum hub_state_place {
     HUB_STATE_LAST = 149         /* 2 bytes: the length of the piece with the last index, once taken */
 };
 
+/* The states of a connection: state[HUB_STATE_STATE]. */
+enum hub_state {
+    HUB_WAITING_FOR_REQUEST = 0,
+    HUB_WAITING_FOR_AUTHENTICATION = 1, /* the only state in which a step looks at the verdict */
+    HUB_PASSED = 2,
+    HUB_READY = 3, /* reports are taken */
+    HUB_FAILED = 4 /* every message is refused with 15 or 16; only hub_open helps */
+};
+
 /*
  * The library's version, as HUB_VERSION is this header's.
  *
@@ -256,7 +434,7 @@ uint32_t hub_version(void);
 /*
  * SHA-256 (FIPS 180-4).
  *
- * bytes     what is hashed; any size.
+ * bytes     what is hashed; any size. FIPS 180-4 ends below 2^61 bytes, which is more than a machine has: from there on out is all zero.
  * out       HUB_DIGEST bytes.
  *
  * Returns   HUB_DONE, HUB_WRONG_BUFFER (out).
@@ -264,13 +442,13 @@ uint32_t hub_version(void);
  * Proved    the contract: out is `digest` of the bytes (crates/sha256/specs/Digests.antt).
  */
 HUB_ANSWER_MATTERS
-uint8_t hub_digest(const uint8_t *bytes, size_t bytes_n, uint8_t *out, size_t out_n);
+uint32_t hub_digest(const uint8_t *bytes, size_t bytes_n, uint8_t *out, size_t out_n);
 
 /*
  * HMAC-SHA-256 (RFC 2104).
  *
  * key       the key; any size. (A key over 64 bytes is hashed first, as RFC 2104 says.)
- * message   what is tagged; any bytes and any size: it need not be a message of document 01.
+ * message   what is tagged; any bytes and any size: it need not be a message of document 01. (2^61 bytes: see hub_digest.)
  * out       HUB_DIGEST bytes.
  *
  * Returns   HUB_DONE, HUB_WRONG_BUFFER (out).
@@ -278,7 +456,7 @@ uint8_t hub_digest(const uint8_t *bytes, size_t bytes_n, uint8_t *out, size_t ou
  * Proved    the contract: out is `hmac` of key and message (crates/sha256/specs/Macs.antt).
  */
 HUB_ANSWER_MATTERS
-uint8_t hub_hmac(const uint8_t *key, size_t key_n, const uint8_t *message, size_t message_n, uint8_t *out, size_t out_n);
+uint32_t hub_hmac(const uint8_t *key, size_t key_n, const uint8_t *message, size_t message_n, uint8_t *out, size_t out_n);
 
 /*
  * Compares two tags. All bytes of both are read, wherever they differ.
@@ -289,7 +467,21 @@ uint8_t hub_hmac(const uint8_t *key, size_t key_n, const uint8_t *message, size_
  * Proved    the contract: 0 exactly where the bytes are the same.
  */
 HUB_ANSWER_MATTERS
-uint8_t hub_same_tag(const uint8_t *a, size_t a_n, const uint8_t *b, size_t b_n);
+uint32_t hub_same_tag(const uint8_t *a, size_t a_n, const uint8_t *b, size_t b_n);
+
+/*
+ * Says where a stream of messages that come back to back has its next message: how many bytes it has, by its first bytes.
+ *
+ * bytes     what has come of the message, from its first byte on, and maybe more; any number of bytes.
+ *
+ * Returns   the number of bytes: MessageLength, and at least 42. Of fewer than four bytes it is 42, since MessageLength is not there yet. So read
+ *           until there are as many bytes as it says, asking again when more have come; then these are the next message. From four bytes on it does
+ *           not change with the bytes that come after. It judges nothing: the message may be refused, and where the stream is out of step the next
+ *           one is too. How many to wait for, and for how long, is the caller's to bound: 65,535 is the most.
+ * Proved    NextMessage: of a message that hub_read_header does not refuse, with any bytes after it, any first four or more give its length.
+ */
+HUB_ANSWER_MATTERS
+uint32_t hub_wanted(const uint8_t *bytes, size_t bytes_n);
 
 /*
  * Reads the header of a message and its chain. It needs no keys.
@@ -305,7 +497,7 @@ uint8_t hub_same_tag(const uint8_t *a, size_t a_n, const uint8_t *b, size_t b_n)
  *           crates/wire/specs/Answers.antt).
  */
 HUB_ANSWER_MATTERS
-uint8_t hub_read_header(const uint8_t *message, size_t message_n, uint64_t *header, size_t header_n);
+uint32_t hub_read_header(const uint8_t *message, size_t message_n, uint64_t *header, size_t header_n);
 
 /*
  * Reads a message; a sealed one is opened into the working buffer.
@@ -324,7 +516,7 @@ uint8_t hub_read_header(const uint8_t *message, size_t message_n, uint64_t *head
  * Proved    ReaderExact, ReadsBack, PayloadHanded; what working holds is the contract (`workingAfter` in crates/message/specs/Reading.antt).
  */
 HUB_ANSWER_MATTERS
-uint8_t hub_read(const uint8_t *message, size_t message_n, const uint8_t *keys, size_t keys_n, uint8_t *working, size_t working_n, uint64_t *header,
+uint32_t hub_read(const uint8_t *message, size_t message_n, const uint8_t *keys, size_t keys_n, uint8_t *working, size_t working_n, uint64_t *header,
                  size_t header_n);
 
 /*
@@ -344,7 +536,7 @@ uint8_t hub_read(const uint8_t *message, size_t message_n, const uint8_t *keys, 
  *           crates/message/specs/Handed.antt). PlaceUnopened: what it is by the words of hub_read_header.
  */
 HUB_ANSWER_MATTERS
-uint8_t hub_payload(const uint8_t *message, size_t message_n, const uint8_t *working, size_t working_n, const uint64_t *header, size_t header_n,
+uint32_t hub_payload(const uint8_t *message, size_t message_n, const uint8_t *working, size_t working_n, const uint64_t *header, size_t header_n,
                     uint64_t *place, size_t place_n);
 
 /*
@@ -352,9 +544,9 @@ uint8_t hub_payload(const uint8_t *message, size_t message_n, const uint8_t *wor
  *
  * fields    HUB_FIELDS words, see hub_header_word. A word too wide for its field is HUB_WRONG_BUFFER, for every field alike: a type over 255;
  *           flags, an index or a count over 65,535; a SequenceNumber over 2^32 - 1. The vector is made of SessionID, SequenceNumber, index and
- *           count: never give a sender two sealed messages with the same four under the same keys.
- * chain     the additional headers with their end: the two bytes 0, 0 where there are none.
- * payload   the payload. A Session message's is any 0 to 16,384 bytes; the others' have the shapes of document 01.
+ *           count: never write two sealed messages with the same four under the same keys (see Vectors above).
+ * chain     the additional headers with their end: HUB_NO_ENTRIES, HUB_NO_ENTRIES_N where there are none. Bytes after the end are 8.
+ * payload   the payload. A Session message's is any 0 to 16,384 bytes; the others' have the shapes of document 01, which the calls below write.
  * keys      the 64 key bytes; a plain message does not look at them.
  * out       at least as long as the message: 42 + entries of the chain + payload where it is plain, else 74 + entries +
  *           (payload + 4 rounded up to a multiple of 16). It may overlap no other buffer.
@@ -367,8 +559,72 @@ uint8_t hub_payload(const uint8_t *message, size_t message_n, const uint8_t *wor
  * Proved    WriterExact; ReadsBack: hub_read gives the same fields and payload back.
  */
 HUB_ANSWER_MATTERS
-uint8_t hub_write(const uint64_t *fields, size_t fields_n, const uint8_t *chain, size_t chain_n, const uint8_t *payload, size_t payload_n,
+uint32_t hub_write(const uint64_t *fields, size_t fields_n, const uint8_t *chain, size_t chain_n, const uint8_t *payload, size_t payload_n,
                   const uint8_t *keys, size_t keys_n, uint8_t *out, size_t out_n, uint64_t *length, size_t length_n);
+
+/*
+ * The payloads of Discovery and Connect: six writers, and a reader of Connect payloads. A writer puts its payload at the start of out, for hub_write.
+ *
+ * mode      ConnectionMode, 0 to 2: see hub_mode.
+ * nonce     HUB_NONCE bytes, random and new for each request, and for each response that is not sent again.
+ * x, y      HUB_COORDINATE bytes each: the public key of the sender's half of the key agreement.
+ * out       at least as long as the payload: HUB_MOST_PAYLOAD bytes are enough for all. It may overlap no other buffer.
+ * length    HUB_LENGTH words.
+ *
+ * Returns   HUB_DONE, HUB_WRONG_BUFFER (length; nonce, x or y; a word too wide for its field: a mode over 65,535, another over 255), then 14 where
+ *           a value is not as document 01 says, then 22 where out is too short.
+ * On done   the first length[0] bytes of out are the payload; the rest of out is unchanged.
+ * On refusal length is 0, and out is as it was.
+ * Proved    FieldsBack: 14 refuses nothing that was written, and what was written reads back. ConnectBack: by hub_read_connect.
+ */
+
+/* The payload of a Presence Request, which is plain: one byte. */
+HUB_ANSWER_MATTERS
+uint32_t hub_write_presence_request(uint8_t *out, size_t out_n, uint64_t *length, size_t length_n);
+
+/* The payload of a Connection Request, which is plain: 86 bytes. */
+HUB_ANSWER_MATTERS
+uint32_t hub_write_connection_request(uint64_t mode, const uint8_t *nonce, size_t nonce_n, const uint8_t *x, size_t x_n, const uint8_t *y, size_t y_n,
+                                      uint8_t *out, size_t out_n, uint64_t *length, size_t length_n);
+
+/*
+ * The payload of a Connection Response, which is plain. The result is a hub_code, 0 to 3. One that is HUB_PENDING carries nonce, X and Y and has 86
+ * bytes; any other has 4, and does not look at nonce, x and y, which may then have any size.
+ */
+HUB_ANSWER_MATTERS
+uint32_t hub_write_connection_response(uint64_t mode, uint64_t result, const uint8_t *nonce, size_t nonce_n, const uint8_t *x, size_t x_n,
+                                       const uint8_t *y, size_t y_n, uint8_t *out, size_t out_n, uint64_t *length, size_t length_n);
+
+/*
+ * The payload of a Device Authentication Request or Response, which is sealed, by its type: HUB_AUTHENTICATION_REQUEST or
+ * HUB_AUTHENTICATION_RESPONSE. The certificate has 1 to HUB_MOST_CERTIFICATE bytes, the thumbprint at most HUB_MOST_THUMBPRINT; the payload has 7 more.
+ */
+HUB_ANSWER_MATTERS
+uint32_t hub_write_device_authentication(uint64_t type, uint64_t mode, const uint8_t *certificate, size_t certificate_n, const uint8_t *thumbprint,
+                                         size_t thumbprint_n, uint8_t *out, size_t out_n, uint64_t *length, size_t length_n);
+
+/* The payload of an Authentication Done Request, which is sealed: 3 bytes. */
+HUB_ANSWER_MATTERS
+uint32_t hub_write_done_request(uint64_t mode, uint8_t *out, size_t out_n, uint64_t *length, size_t length_n);
+
+/* The payload of an Authentication Done Response, which is sealed: 4 bytes. The status is a hub_code, 0 to 4; a hub replies with HUB_ANSWER_STATUS. */
+HUB_ANSWER_MATTERS
+uint32_t hub_write_done_response(uint64_t mode, uint64_t status, uint8_t *out, size_t out_n, uint64_t *length, size_t length_n);
+
+/*
+ * Reads a Connect payload: its type, and what stands in it.
+ *
+ * payload   the payload, as hub_payload says where it lies; any bytes.
+ * connect   HUB_CONNECT words.
+ *
+ * Returns   HUB_DONE, HUB_WRONG_BUFFER (connect), then 14 where the payload is none of the six of document 01, plain or sealed.
+ * On done   connect holds the words of hub_connect_word. Each part that it names lies in the payload; those that this type has not are 0, 0.
+ * On refusal connect is all zero: every part is empty.
+ * Proved    ConnectBack: of a payload that the calls above wrote, the words are what was given, and the bytes at the places. ConnectLies: the parts lie
+ *           in the payload, on every payload.
+ */
+HUB_ANSWER_MATTERS
+uint32_t hub_read_connect(const uint8_t *payload, size_t payload_n, uint64_t *connect, size_t connect_n);
 
 /*
  * Opens a connection: state 0, expecting the report of SequenceNumber 0.
@@ -382,7 +638,7 @@ uint8_t hub_write(const uint64_t *fields, size_t fields_n, const uint8_t *chain,
  * Proved    OpenerExact, Opens.
  */
 HUB_ANSWER_MATTERS
-uint8_t hub_open(uint64_t fragment_size, uint8_t *state, size_t state_n);
+uint32_t hub_open(uint64_t fragment_size, uint8_t *state, size_t state_n);
 
 /*
  * Takes one message that has come in.
@@ -392,25 +648,29 @@ uint8_t hub_open(uint64_t fragment_size, uint8_t *state, size_t state_n);
  * keys      the 64 key bytes of this gateway. Until they are agreed on give none (a null pointer, 0): a plain message does not look at
  *           them, and a sealed one is refused with 10.
  * working   at least as long as the message's sealed part.
- * report    the report buffer of this connection.
- * verdict   1 if the certificate that this message may show is accepted, else 0. Only a Device Authentication Request in state 1 looks at
- *           it; the caller reads that message beforehand with hub_read.
+ * report    the report buffer of this connection: the same at each step (see Reports above). Once the piece with the last index has come the
+ *           report's length is known, and from then on, until it is complete, a shorter buffer is HUB_WRONG_BUFFER, whatever the message.
+ * verdict   1 if the certificate that this message may show is accepted, else 0. Only a Device Authentication Request in state
+ *           HUB_WAITING_FOR_AUTHENTICATION looks at it (see Verdicts above). Every other number is refused with 25.
  * answer    HUB_ANSWER words.
  *
- * Returns   HUB_DONE, HUB_WRONG_BUFFER (state or answer), then the first that applies of 25; 24; 1 to 9; 10 to 13 (sealed messages); 14; 16; 15;
- *           19, 17, 18, 21, 20, 22, 23.
+ * Returns   HUB_DONE, HUB_WRONG_BUFFER (state, answer, or a report that is too short), then the first that applies of 25; 24; 1 to 9; 10 to 13
+ *           (sealed messages); 14; 16; 15; 19, 17, 18, 21, 20, 22, 23.
  * On done   answer holds what to do (see hub_kind; words that a kind does not use are 0), state the next connection. HUB_TAKEN, HUB_REPEAT and
  *           HUB_COMPLETE tell how many of the indexes below the message's FragmentCount are heard, its own with them. HUB_TAKEN and HUB_COMPLETE:
- *           the piece is in report from F times its index on, no other byte of it changed. HUB_COMPLETE: the first answer[HUB_ANSWER_LENGTH] bytes
- *           of report are the report, whose SequenceNumber was the expected one before this step. The other kinds leave report unchanged;
+ *           the piece is in report from F times its index on, no other byte of it changed. HUB_COMPLETE: the report has
+ *           answer[HUB_ANSWER_LENGTH] bytes, never more than report_n; its SequenceNumber was the expected one before this step; and where the
+ *           connection came from hub_open and hub_step alone, and the report buffer was the same and left alone since the report's first piece, it is
+ *           the first bytes of report. The other kinds leave report unchanged;
  *           HUB_AGAIN and HUB_REPEAT state too. The first bytes of working hold the opened sealed part of a sealed message.
  * On refusal answer is 0, 0, 0 (HUB_REFUSED); state and report are as they were. So is working for 1 to 13, 24 and 25; for the others its first
  *           bytes hold the opened sealed part of a sealed message.
- * Proved    StepExact, LeavesAlone, WorkingBuffer, ByHostStates, StepsByState, RepeatedStep, RepeatedBytes, OnlyByZero, HeardCount, DemandThree.
+ * Proved    StepExact, LeavesAlone, WorkingBuffer, ByHostStates, StepsByState, RepeatedStep, RepeatedBytes, OnlyByZero, HeardCount, DemandThree,
+ *           WithinReport.
  */
 HUB_ANSWER_MATTERS
-uint8_t hub_step(uint8_t *state, size_t state_n, const uint8_t *message, size_t message_n, const uint8_t *keys, size_t keys_n, uint8_t *working,
-                 size_t working_n, uint8_t *report, size_t report_n, uint8_t verdict, uint64_t *answer, size_t answer_n);
+uint32_t hub_step(uint8_t *state, size_t state_n, const uint8_t *message, size_t message_n, const uint8_t *keys, size_t keys_n, uint8_t *working,
+                 size_t working_n, uint8_t *report, size_t report_n, uint64_t verdict, uint64_t *answer, size_t answer_n);
 
 /*
  * Cuts a report: says where its piece lies.
@@ -426,7 +686,7 @@ uint8_t hub_step(uint8_t *state, size_t state_n, const uint8_t *message, size_t 
  * Proved    CutterExact.
  */
 HUB_ANSWER_MATTERS
-uint8_t hub_cut(const uint8_t *report, size_t report_n, uint64_t fragment_size, uint64_t index, uint64_t *piece, size_t piece_n);
+uint32_t hub_cut(const uint8_t *report, size_t report_n, uint64_t fragment_size, uint64_t index, uint64_t *piece, size_t piece_n);
 
 /*
  * Writes the line that the listing has for a message: type, sequence, index, count and length in decimal with single blanks between, or
@@ -442,7 +702,7 @@ uint8_t hub_cut(const uint8_t *report, size_t report_n, uint64_t fragment_size, 
  * Proved    the contract (`lineOf` in crates/lines/specs/Listing.antt).
  */
 HUB_ANSWER_MATTERS
-uint8_t hub_list(const uint8_t *message, size_t message_n, uint8_t *line, size_t line_n, uint64_t *length, size_t length_n);
+uint32_t hub_list(const uint8_t *message, size_t message_n, uint8_t *line, size_t line_n, uint64_t *length, size_t length_n);
 
 #ifdef __cplusplus
 }

@@ -34,6 +34,8 @@ function block(kind,    i, width, name) {
             width = length(names[i])
     if (kind == "all")
         printf "const ALL: [Refusal; %d] = [\n", rows
+    if (kind == "sentences")
+        printf "const SENTENCES: [&str; %d] = [\n", rows
     for (i = 1; i <= rows; i++) {
         name = camel(names[i])
         if (kind == "constants")
@@ -42,16 +44,20 @@ function block(kind,    i, width, name) {
             printf "-- %s\nabbrev pub %s : ℕ\n%s = %d\n\n", document[i], low(name), low(name), i
         else if (kind == "header")
             broken(sprintf("    %-" (width + 11) "s/*", "HUB_" upper(names[i]) " = " i ","), header[i] " */")
+        else if (kind == "texts")
+            printf "    case HUB_%s:\n        return \"%s\";\n", upper(names[i]), header[i]
         else if (kind == "variants")
             printf "    /// %s.\n    %s = %d,\n", capital(rust[i]), name, i
         else if (kind == "all")
             printf "    %s,\n", name
+        else if (kind == "sentences")
+            printf "    \"%s\",\n", header[i]
         else {
             print "lists.awk: no list of kind " kind > "/dev/stderr"
             exit 1
         }
     }
-    if (kind == "all")
+    if (kind == "all" || kind == "sentences")
         print "];"
 }
 
