@@ -3,3 +3,4 @@ pub mod Sizing
 pub mod Placing
 pub mod Giving
 pub mod Within
+pub mod Framing
