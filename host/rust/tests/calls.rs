@@ -121,10 +121,26 @@ fn any_bytes_are_a_connection() {
 
 #[test]
 fn refusals_and_their_numbers() {
-    for number in 0..=255 {
+    for number in (0..=1000).chain([u32::MAX]) {
         let refusal = Refusal::from_number(number);
-        assert_eq!(refusal.is_some(), (1..=25).contains(&number));
+        assert_eq!(refusal.is_some(), matches!(number, 1..=25 | 254 | 255));
         assert!(refusal.is_none_or(|refusal| refusal.number() == number));
     }
-    assert_eq!(Refusal::UnlikeRepeat.to_string(), "refused 23");
+}
+
+#[test]
+fn a_text_for_each_refusal() {
+    assert_eq!(Refusal::WrongTag.to_string(), "refused 11: tag differs");
+    let text = "refused 255: the report buffer is shorter than the report";
+    assert_eq!(Refusal::WrongBuffer.to_string(), text);
+    let texts: Vec<_> = (0..=255).filter_map(Refusal::from_number).map(Refusal::text).collect();
+    assert_eq!(
+        (texts.len(), texts[0], texts[24]),
+        (27, "fewer than 42 bytes", "verdict not 0 or 1")
+    );
+    for (place, text) in texts.iter().enumerate() {
+        assert!(!text.is_empty() && !texts[..place].contains(text));
+    }
+    let error: &dyn std::error::Error = &Refusal::WrongTag;
+    assert!(error.source().is_none());
 }

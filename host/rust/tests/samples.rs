@@ -33,7 +33,7 @@ fn messages(stream: &[u8]) -> Vec<&[u8]> {
 
 fn said(answer: Result<Answer, Refusal>) -> String {
     match answer {
-        Err(refusal) => refusal.to_string(),
+        Err(refusal) => format!("refused {}", refusal.number()),
         Ok(Answer::Reply { connect, status: 0 }) => format!("reply {connect}"),
         Ok(Answer::Again { connect, status: 0 }) => format!("again {connect}"),
         Ok(Answer::Reply { status, .. } | Answer::Again { status, .. }) => {
@@ -88,7 +88,7 @@ fn the_listings() {
             match list(message) {
                 Ok(line) => lines += &format!("{line}\n"),
                 Err(refusal) => {
-                    lines += &format!("{refusal}\n");
+                    lines += &format!("refused {}\n", refusal.number());
                     break;
                 }
             }
