@@ -1,7 +1,7 @@
 // SPDX-License-Identifier: MPL-2.0
 //! The hub's side of one gateway's connection, and cutting reports for a gateway's side.
 
-use std::fmt;
+use core::fmt;
 
 use crate::message::key_bytes;
 use crate::{ffi, Keys, Refusal};

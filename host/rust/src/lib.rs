@@ -5,8 +5,8 @@
 //! The calls are those of include/hub.h, with types for what C can only ask for: keys are 64 bytes
 //! or none, a connection is a value, fields have their width, a payload is a part of the buffer in
 //! which it lies and a sealed part is no payload, and a refusal is an error with document 01's number.
-//! All memory is the caller's; nothing is allocated but the [`list`]ing's line. Every input is defined
-//! behaviour: no call here panics.
+//! All memory is the caller's, nothing is allocated, and nothing of `std` is needed. Every input is
+//! defined behaviour: no call here panics.
 //!
 //! ```
 //! use hlidunsk::{cut, write, Answer, Connection, Header, Refusal, MOST_PIECES, NO_ENTRIES};
@@ -48,18 +48,21 @@
 //! # Ok::<(), Refusal>(())
 //! ```
 
+#![no_std]
 #![deny(unsafe_op_in_unsafe_fn)]
 #![warn(missing_docs)]
 
 mod connection;
 mod ffi;
 mod hash;
+mod listing;
 mod message;
 mod refusal;
 
 pub use connection::{cut, Answer, Connection, Piece, MOST_PIECES};
 pub use hash::{digest, hmac, same_tag};
-pub use message::{list, read, read_header, write, Body, Framed, Header, Keys, Message};
+pub use listing::{list, Line};
+pub use message::{read, read_header, write, Body, Framed, Header, Keys, Message};
 pub use message::{MOST_MESSAGE, MOST_SEALED, NO_ENTRIES};
 pub use refusal::Refusal;
 

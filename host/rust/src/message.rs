@@ -1,5 +1,5 @@
 // SPDX-License-Identifier: MPL-2.0
-//! Messages: reading, writing, listing.
+//! Messages: reading and writing.
 
 use crate::{ffi, Refusal};
 
@@ -208,22 +208,4 @@ pub fn write(
         )
     })?;
     Ok(length[0] as usize)
-}
-
-/// What the listing says of a message: its line, without the newline; refusals 1 to 9.
-pub fn list(message: &[u8]) -> Result<String, Refusal> {
-    let (mut line, mut length) = ([0; 64], [0]);
-    // SAFETY: pointers and lengths are those of slices; the mutable ones overlap no other.
-    Refusal::of(unsafe {
-        ffi::hub_list(
-            message.as_ptr(),
-            message.len(),
-            line.as_mut_ptr(),
-            line.len(),
-            length.as_mut_ptr(),
-            length.len(),
-        )
-    })?;
-    let text = &line[..length[0] as usize];
-    Ok(String::from_utf8_lossy(text).trim_end().to_owned())
 }

@@ -1,8 +1,8 @@
 // SPDX-License-Identifier: MPL-2.0
 //! Why something is refused.
 
-use std::error::Error;
-use std::fmt;
+use core::error::Error;
+use core::fmt;
 
 /// A row of document 01's table "Refusal numbers"; its value is the row's number.
 #[derive(Clone, Copy, Debug, PartialEq, Eq, PartialOrd, Ord, Hash)]

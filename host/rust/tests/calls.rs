@@ -56,6 +56,18 @@ fn document_01s_first_examples() {
 }
 
 #[test]
+fn a_line_is_a_text() {
+    let line = list(&p1()).unwrap();
+    assert_eq!((line.as_str(), line.as_ref(), &*line), ("1 0 0 1 43", "1 0 0 1 43", "1 0 0 1 43"));
+    assert_eq!(
+        format!("{line}, {line:>12}, {line:?}"),
+        r#"1 0 0 1 43,   1 0 0 1 43, "1 0 0 1 43""#
+    );
+    assert_eq!(line.split(' ').count(), 5);
+    assert_eq!(line, line.clone());
+}
+
+#[test]
 fn a_written_message_is_read_back() {
     let header = Header {
         message_type: Header::SESSION,
