@@ -58,6 +58,7 @@ mod hash;
 mod listing;
 mod message;
 mod refusal;
+mod stream;
 
 pub use connection::{cut, Answer, Connection, Piece, MOST_PIECES};
 pub use hash::{digest, hmac, same_tag};
@@ -65,6 +66,7 @@ pub use listing::{list, Line};
 pub use message::{read, read_header, write, Body, Framed, Header, Keys, Message};
 pub use message::{MOST_MESSAGE, MOST_SEALED, NO_ENTRIES};
 pub use refusal::Refusal;
+pub use stream::{wanted, MOST_READ};
 
 /// The library's version: major × 65,536 + minor × 256 + patch.
 pub fn version() -> u32 {

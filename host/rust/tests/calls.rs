@@ -1,8 +1,8 @@
 // SPDX-License-Identifier: MPL-2.0
 //! Each call of the wrapper by itself.
 
-use hlidunsk::{cut, digest, hmac, list, read, read_header, same_tag, version, write};
-use hlidunsk::{Body, Connection, Header, Refusal, NO_ENTRIES};
+use hlidunsk::{cut, digest, hmac, list, read, read_header, same_tag, version, wanted, write};
+use hlidunsk::{Body, Connection, Header, Refusal, MOST_READ, NO_ENTRIES};
 
 /// Document 01's P1.
 fn p1() -> Vec<u8> {
@@ -65,6 +65,20 @@ fn a_line_is_a_text() {
     );
     assert_eq!(line.split(' ').count(), 5);
     assert_eq!(line, line.clone());
+}
+
+#[test]
+fn how_many_bytes_are_wanted() {
+    let message = p1();
+    let more = [&message[..], &message].concat();
+    for length in 0..=86 {
+        assert_eq!(wanted(&more[..length]), if length < 4 { 42 } else { 43 });
+    }
+    for length in 0..=u16::MAX {
+        let [high, low] = length.to_be_bytes();
+        assert_eq!(wanted(&[0xFF, 0xFF, high, low]), usize::from(length).max(42));
+    }
+    assert_eq!(wanted(&[0xFF; 65_536]), MOST_READ);
 }
 
 #[test]

@@ -4,7 +4,7 @@
 use std::fs;
 use std::path::{Path, PathBuf};
 
-use hlidunsk::{list, read, read_header, write, Answer, Body, Connection, Keys, Refusal};
+use hlidunsk::{list, read, read_header, wanted, write, Answer, Body, Connection, Keys, Refusal};
 use hlidunsk::{MOST_MESSAGE, MOST_PIECES, MOST_SEALED};
 
 fn folder() -> PathBuf {
@@ -19,12 +19,11 @@ fn keys() -> Keys {
     sample("keys.bin").try_into().expect("64 bytes")
 }
 
-/// The messages of a stream: MessageLength bytes at a time, at least 42, or what is left.
+/// The messages of a stream, as many bytes as are wanted at a time, or what is left.
 fn messages(stream: &[u8]) -> Vec<&[u8]> {
     let (mut messages, mut rest) = (Vec::new(), stream);
     while !rest.is_empty() {
-        let length = rest.get(2..4).map_or(42, |two| u16::from_be_bytes([two[0], two[1]]).max(42));
-        let (message, behind) = rest.split_at(rest.len().min(length.into()));
+        let (message, behind) = rest.split_at(rest.len().min(wanted(rest)));
         messages.push(message);
         rest = behind;
     }
