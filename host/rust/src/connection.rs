@@ -1,5 +1,5 @@
 // SPDX-License-Identifier: MPL-2.0
-//! The hub's side of one gateway's connection, and cutting reports for a gateway's side.
+//! The hub's side of one gateway's connection.
 
 use core::fmt;
 
@@ -73,10 +73,11 @@ impl Connection {
     pub const SIZE: usize = 151;
 
     /// Opens a connection of fragment size F; outside 1 to 16,384 it is refused with 24.
-    pub fn open(fragment_size: u64) -> Result<Connection, Refusal> {
+    pub fn open(fragment_size: usize) -> Result<Connection, Refusal> {
         let mut state = [0; Connection::SIZE];
+        let (bytes, bytes_n) = (state.as_mut_ptr(), state.len());
         // SAFETY: pointer and length are those of an array.
-        Refusal::of(unsafe { ffi::hub_open(fragment_size, state.as_mut_ptr(), state.len()) })?;
+        Refusal::of(unsafe { ffi::hub_open(fragment_size as u64, bytes, bytes_n) })?;
         Ok(Connection(state))
     }
 
@@ -160,32 +161,4 @@ impl fmt::Debug for Connection {
             .field("expected", &self.expected())
             .finish_non_exhaustive()
     }
-}
-
-/// A piece of a report.
-#[derive(Clone, Copy, Debug, PartialEq, Eq)]
-pub struct Piece<'a> {
-    /// How many pieces the report makes: FragmentCount.
-    pub count: u16,
-    /// The piece's bytes.
-    pub bytes: &'a [u8],
-}
-
-/// Piece `index` of a report that is cut by F: refused with 24, then with 7 where the report is
-/// longer than 64 times F or has no such piece.
-pub fn cut(report: &[u8], fragment_size: u64, index: u64) -> Result<Piece<'_>, Refusal> {
-    let mut piece = [0; 3];
-    // SAFETY: pointers and lengths are those of slices; the two do not overlap.
-    Refusal::of(unsafe {
-        ffi::hub_cut(
-            report.as_ptr(),
-            report.len(),
-            fragment_size,
-            index,
-            piece.as_mut_ptr(),
-            piece.len(),
-        )
-    })?;
-    let [count, from, size] = piece;
-    Ok(Piece { count: count as u16, bytes: &report[from as usize..][..size as usize] })
 }

@@ -1,5 +1,6 @@
 // SPDX-License-Identifier: MPL-2.0
-//! The functions of include/hub.h, declared once more. A slice is a pointer and a number of elements.
+//! The functions of include/hub.h, declared once more. A slice is a pointer and a number of
+//! elements.
 
 unsafe extern "C" {
     pub fn hub_version() -> u32;
@@ -53,6 +54,72 @@ unsafe extern "C" {
         out_n: usize,
         length: *mut u64,
         length_n: usize,
+    ) -> u32;
+    pub fn hub_write_presence_request(
+        out: *mut u8,
+        out_n: usize,
+        length: *mut u64,
+        length_n: usize,
+    ) -> u32;
+    pub fn hub_write_connection_request(
+        mode: u64,
+        nonce: *const u8,
+        nonce_n: usize,
+        x: *const u8,
+        x_n: usize,
+        y: *const u8,
+        y_n: usize,
+        out: *mut u8,
+        out_n: usize,
+        length: *mut u64,
+        length_n: usize,
+    ) -> u32;
+    pub fn hub_write_connection_response(
+        mode: u64,
+        result: u64,
+        nonce: *const u8,
+        nonce_n: usize,
+        x: *const u8,
+        x_n: usize,
+        y: *const u8,
+        y_n: usize,
+        out: *mut u8,
+        out_n: usize,
+        length: *mut u64,
+        length_n: usize,
+    ) -> u32;
+    pub fn hub_write_device_authentication(
+        connect: u64,
+        mode: u64,
+        certificate: *const u8,
+        certificate_n: usize,
+        thumbprint: *const u8,
+        thumbprint_n: usize,
+        out: *mut u8,
+        out_n: usize,
+        length: *mut u64,
+        length_n: usize,
+    ) -> u32;
+    pub fn hub_write_done_request(
+        mode: u64,
+        out: *mut u8,
+        out_n: usize,
+        length: *mut u64,
+        length_n: usize,
+    ) -> u32;
+    pub fn hub_write_done_response(
+        mode: u64,
+        status: u64,
+        out: *mut u8,
+        out_n: usize,
+        length: *mut u64,
+        length_n: usize,
+    ) -> u32;
+    pub fn hub_read_connect(
+        payload: *const u8,
+        payload_n: usize,
+        connect: *mut u64,
+        connect_n: usize,
     ) -> u32;
     pub fn hub_open(fragment_size: u64, state: *mut u8, state_n: usize) -> u32;
     pub fn hub_step(

@@ -9,41 +9,43 @@
 //! defined behaviour: no call here panics.
 //!
 //! ```
+//! use hlidunsk::payload::{Connect, Exchange, Mode, MOST_PAYLOAD};
 //! use hlidunsk::{cut, write, Answer, Connection, Header, Refusal, MOST_PIECES, NO_ENTRIES};
 //!
 //! const F: usize = 16;
 //! let keys = [7; 64];
-//! let mut hub = Connection::open(F as u64)?;
+//! let mut hub = Connection::open(F)?;
 //! let (mut working, mut report) = ([0; 256], [0; MOST_PIECES * F]);
-//! let mut message = [0; 256];
+//! let (mut room, mut message) = ([0; MOST_PAYLOAD], [0; 256]);
 //! let mut take = |header: Header, payload: &[u8], hub: &mut Connection| {
 //!     let length = write(&header, NO_ENTRIES, payload, Some(&keys), &mut message)?;
 //!     hub.step(&message[..length], Some(&keys), &mut working, &mut report, true)
 //! };
 //!
 //! // A gateway enrols by three requests.
-//! let plain = Header { message_type: Header::CONNECT, count: 1, session: 42, ..Header::default() };
-//! let sealed = Header { flags: Header::SEALED, ..plain };
-//! let mut request = [0; 86];
-//! request[..20].copy_from_slice(b"\0\0\0\0\0\x20a nonce!\0\0\x40\0\0\x20");
-//! request[53] = 32;
-//! let reply = |connect| Answer::Reply { connect, status: 0 };
-//! assert_eq!(take(plain, &request, &mut hub)?, reply(1));
-//! assert_eq!(take(plain, &request, &mut hub)?, Answer::Again { connect: 1, status: 0 });
-//! assert_eq!(take(sealed, b"\0\0\x02\0\x0ba gateway's\0\0", &mut hub)?, reply(3));
-//! assert_eq!(take(sealed, b"\0\0\x06", &mut hub)?, reply(7));
+//! let mode = Mode::Proximal;
+//! let exchange = Exchange { nonce: *b"a nonce!", x: [1; 32], y: [2; 32] };
+//! let (certificate, thumbprint) = (&b"a gateway's"[..], &b""[..]);
+//! let requests = [
+//!     (1, Connect::ConnectionRequest { mode, exchange }),
+//!     (3, Connect::DeviceAuthenticationRequest { mode, certificate, thumbprint }),
+//!     (7, Connect::DoneRequest { mode }),
+//! ];
+//! for ((connect, request), sequence) in requests.iter().zip(0x8000_0000..) {
+//!     let length = request.write(&mut room)?;
+//!     let (header, payload, connect) = (request.header(42, sequence), &room[..length], *connect);
+//!     assert_eq!(take(header, payload, &mut hub)?, Answer::Reply { connect, status: 0 });
+//!     assert_eq!(take(header, payload, &mut hub)?, Answer::Again { connect, status: 0 });
+//! }
 //!
 //! // It sends a report of two pieces, the second one first.
 //! let sent = b"pump 7: 1,204 litres";
-//! let session = Header { message_type: Header::SESSION, count: 2, ..sealed };
-//! let first = cut(sent, F as u64, 0)?;
-//! let second = cut(sent, F as u64, 1)?;
-//! assert_eq!((first.count, second.count), (2, 2));
-//! let answer = take(Header { index: 1, ..session }, second.bytes, &mut hub)?;
+//! let (first, second) = (cut(sent, F, 0)?, cut(sent, F, 1)?);
+//! let answer = take(second.header(42, 0), second.bytes, &mut hub)?;
 //! assert_eq!(answer, Answer::Taken { heard: 1 });
-//! let answer = take(session, first.bytes, &mut hub)?;
+//! let answer = take(first.header(42, 0), first.bytes, &mut hub)?;
 //! assert_eq!(answer, Answer::Complete { heard: 2, length: sent.len() });
-//! assert_eq!(take(session, first.bytes, &mut hub), Err(Refusal::PastSequence));
+//! assert_eq!(take(first.header(42, 0), first.bytes, &mut hub), Err(Refusal::PastSequence));
 //! assert_eq!(&report[..sent.len()], sent);
 //! # Ok::<(), Refusal>(())
 //! ```
@@ -53,18 +55,21 @@
 #![warn(missing_docs)]
 
 mod connection;
+mod cutting;
 mod ffi;
 mod hash;
 mod listing;
 mod message;
+pub mod payload;
 mod refusal;
 mod stream;
 
-pub use connection::{cut, Answer, Connection, Piece, MOST_PIECES};
+pub use connection::{Answer, Connection, MOST_PIECES};
+pub use cutting::{cut, Piece};
 pub use hash::{digest, hmac, same_tag};
 pub use listing::{list, Line};
-pub use message::{read, read_header, write, Body, Framed, Header, Keys, Message};
-pub use message::{MOST_MESSAGE, MOST_SEALED, NO_ENTRIES};
+pub use message::{read, read_header, write, Body, Framed, Header, Keys, Message, MessageType};
+pub use message::{MOST_MESSAGE, MOST_REPLY, MOST_SEALED, NO_ENTRIES};
 pub use refusal::Refusal;
 pub use stream::{wanted, MOST_READ};
 

@@ -64,17 +64,19 @@ impl PartialEq<&str> for Line {
 
 /// What the listing says of a message: type, sequence, index, count and length, in decimal.
 ///
-/// Refused with 1 to 9, for which the listing has the line `refused N`.
-///
 /// ```
-/// # use hlidunsk::{list, write, Header, Refusal, NO_ENTRIES};
-/// # let presence = Header { message_type: 1, count: 1, ..Header::default() };
+/// # use hlidunsk::payload::PresenceRequest;
+/// # use hlidunsk::{list, write, Refusal, NO_ENTRIES};
 /// # let mut message = [0; 43];
-/// # write(&presence, NO_ENTRIES, &[0], None, &mut message)?;
+/// # write(&PresenceRequest.header(), NO_ENTRIES, &[0], None, &mut message)?;
 /// assert_eq!(list(&message)?, "1 0 0 1 43");
 /// assert_eq!(list(&message[..42]), Err(Refusal::WrongLength));
 /// # Ok::<(), Refusal>(())
 /// ```
+///
+/// # Errors
+///
+/// Refusals 1 to 9, in this order. The listing's own line for one is `refused N`.
 pub fn list(message: &[u8]) -> Result<Line, Refusal> {
     let (mut bytes, mut length) = ([0; 64], [0]);
     // SAFETY: pointers and lengths are those of slices; the mutable ones overlap no other.

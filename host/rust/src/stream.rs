@@ -19,7 +19,7 @@ pub const MOST_READ: usize = 65_535;
 /// use std::io::{self, Read};
 ///
 /// /// The next message of a stream; none where the stream is over.
-/// fn next<'a>(stream: &mut impl Read, room: &'a mut [u8; MOST_READ]) -> io::Result<Option<&'a [u8]>> {
+/// fn next<'a>(stream: &mut impl Read, room: &'a mut [u8]) -> io::Result<Option<&'a [u8]>> {
 ///     let mut held = 0;
 ///     while held < wanted(&room[..held]) {
 ///         let end = wanted(&room[..held]);
@@ -31,13 +31,14 @@ pub const MOST_READ: usize = 65_535;
 ///     Ok(Some(&room[..held]))
 /// }
 /// #
-/// # use hlidunsk::{write, Header, NO_ENTRIES};
-/// # let header = Header { message_type: Header::SESSION, flags: Header::SEALED, count: 1, ..Header::default() };
+/// # use hlidunsk::{cut, write, NO_ENTRIES};
 /// # let (mut first, mut second) = ([0; 90], [0; 106]);
-/// # write(&header, NO_ENTRIES, b"one", Some(&[7; 64]), &mut first).unwrap();
-/// # write(&header, NO_ENTRIES, b"another message", Some(&[7; 64]), &mut second).unwrap();
+/// # for (report, out) in [(&b"one"[..], &mut first[..]), (b"another report", &mut second)] {
+/// #     let piece = cut(report, 16, 0).unwrap();
+/// #     write(&piece.header(42, 0), NO_ENTRIES, piece.bytes, Some(&[7; 64]), out).unwrap();
+/// # }
 ///
-/// // Two messages back to back, the rest of a third one after them.
+/// // Two messages back to back, and the start of a third.
 /// let mut stream: &[u8] = &[&first[..], &second, &first[..50]].concat();
 /// let mut room = [0; MOST_READ];
 /// assert_eq!(next(&mut stream, &mut room)?, Some(&first[..]));

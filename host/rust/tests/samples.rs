@@ -4,8 +4,9 @@
 use std::fs;
 use std::path::{Path, PathBuf};
 
+use hlidunsk::payload::{Connect, PresenceRequest, MOST_PAYLOAD};
 use hlidunsk::{list, read, read_header, wanted, write, Answer, Body, Connection, Keys, Refusal};
-use hlidunsk::{MOST_MESSAGE, MOST_PIECES, MOST_SEALED};
+use hlidunsk::{MessageType, MOST_MESSAGE, MOST_PIECES, MOST_SEALED};
 
 fn folder() -> PathBuf {
     Path::new(env!("CARGO_MANIFEST_DIR")).join("../../samples")
@@ -96,6 +97,19 @@ fn the_listings() {
     }
 }
 
+/// The payload that types write anew, by the message's type.
+fn written_anew(message_type: MessageType, payload: &[u8]) -> Vec<u8> {
+    let mut out = vec![0xEE; MOST_PAYLOAD];
+    let length = match message_type {
+        MessageType::Discovery => PresenceRequest.write(&mut out),
+        MessageType::Connect => Connect::read(payload).unwrap().write(&mut out),
+        _ => return payload.to_vec(),
+    };
+    let behind = out.split_off(length.unwrap());
+    assert!(behind.iter().all(|byte| *byte == 0xEE));
+    out
+}
+
 /// Every sample message is read, and what was read is written again to the same bytes.
 #[test]
 fn what_is_read_is_written_to_the_same_bytes() {
@@ -111,8 +125,10 @@ fn what_is_read_is_written_to_the_same_bytes() {
         assert_eq!(matches!(framed.body, Body::Sealed(_)), framed.header.is_sealed());
         let read = read(&message, Some(&keys), &mut working).unwrap();
         assert_eq!(read.header, framed.header);
+        let payload = written_anew(read.header.message_type, read.payload);
+        assert_eq!(payload, read.payload, "{}", path.display());
         let mut out = vec![0xEE; MOST_MESSAGE];
-        let length = write(&read.header, chain, read.payload, Some(&keys), &mut out).unwrap();
+        let length = write(&read.header, chain, &payload, Some(&keys), &mut out).unwrap();
         assert_eq!(out[..length], message[..], "{}", path.display());
         assert!(out[length..].iter().all(|byte| *byte == 0xEE));
         count += 1;
