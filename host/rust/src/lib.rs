@@ -10,7 +10,7 @@
 //!
 //! ```
 //! use hlidunsk::payload::{Connect, Exchange, Mode, MOST_PAYLOAD};
-//! use hlidunsk::{cut, write, Answer, Connection, Header, Refusal, MOST_PIECES, NO_ENTRIES};
+//! use hlidunsk::{cut, write, Connection, Header, Refusal, State, MOST_PIECES, NO_ENTRIES};
 //!
 //! const F: usize = 16;
 //! let keys = [7; 64];
@@ -19,7 +19,8 @@
 //! let (mut room, mut message) = ([0; MOST_PAYLOAD], [0; 256]);
 //! let mut take = |header: Header, payload: &[u8], hub: &mut Connection| {
 //!     let length = write(&header, NO_ENTRIES, payload, Some(&keys), &mut message)?;
-//!     hub.step(&message[..length], Some(&keys), &mut working, &mut report, true)
+//!     let answer = hub.step(&message[..length], Some(&keys), &mut working, &mut report, true)?;
+//!     Ok(format!("{answer:?}"))
 //! };
 //!
 //! // A gateway enrols by three requests.
@@ -27,24 +28,23 @@
 //! let exchange = Exchange { nonce: *b"a nonce!", x: [1; 32], y: [2; 32] };
 //! let (certificate, thumbprint) = (&b"a gateway's"[..], &b""[..]);
 //! let requests = [
-//!     (1, Connect::ConnectionRequest { mode, exchange }),
-//!     (3, Connect::DeviceAuthenticationRequest { mode, certificate, thumbprint }),
-//!     (7, Connect::DoneRequest { mode }),
+//!     Connect::ConnectionRequest { mode, exchange },
+//!     Connect::DeviceAuthenticationRequest { mode, certificate, thumbprint },
+//!     Connect::DoneRequest { mode },
 //! ];
-//! for ((connect, request), sequence) in requests.iter().zip(0x8000_0000..) {
+//! for (request, sequence) in requests.iter().zip(0x8000_0000..) {
 //!     let length = request.write(&mut room)?;
-//!     let (header, payload, connect) = (request.header(42, sequence), &room[..length], *connect);
-//!     assert_eq!(take(header, payload, &mut hub)?, Answer::Reply { connect, status: 0 });
-//!     assert_eq!(take(header, payload, &mut hub)?, Answer::Again { connect, status: 0 });
+//!     let (header, payload) = (request.header(42, sequence), &room[..length]);
+//!     assert!(take(header, payload, &mut hub)?.starts_with("Reply("));
+//!     assert!(take(header, payload, &mut hub)?.starts_with("Again("));
 //! }
+//! assert_eq!(hub.state(), State::Ready);
 //!
 //! // It sends a report of two pieces, the second one first.
 //! let sent = b"pump 7: 1,204 litres";
 //! let (first, second) = (cut(sent, F, 0)?, cut(sent, F, 1)?);
-//! let answer = take(second.header(42, 0), second.bytes, &mut hub)?;
-//! assert_eq!(answer, Answer::Taken { heard: 1 });
-//! let answer = take(first.header(42, 0), first.bytes, &mut hub)?;
-//! assert_eq!(answer, Answer::Complete { heard: 2, length: sent.len() });
+//! assert_eq!(take(second.header(42, 0), second.bytes, &mut hub)?, "Taken { heard: 1 }");
+//! assert!(take(first.header(42, 0), first.bytes, &mut hub)?.starts_with("Complete {"));
 //! assert_eq!(take(first.header(42, 0), first.bytes, &mut hub), Err(Refusal::PastSequence));
 //! assert_eq!(&report[..sent.len()], sent);
 //! # Ok::<(), Refusal>(())
@@ -54,6 +54,7 @@
 #![deny(unsafe_op_in_unsafe_fn)]
 #![warn(missing_docs)]
 
+mod answer;
 mod connection;
 mod cutting;
 mod ffi;
@@ -64,7 +65,8 @@ pub mod payload;
 mod refusal;
 mod stream;
 
-pub use connection::{Answer, Connection, MOST_PIECES};
+pub use answer::{Answer, Reply};
+pub use connection::{Connection, State, MOST_FRAGMENT_SIZE, MOST_PIECES};
 pub use cutting::{cut, Piece};
 pub use hash::{digest, hmac, same_tag};
 pub use listing::{list, Line};

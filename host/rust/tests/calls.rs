@@ -3,9 +3,7 @@
 
 use hlidunsk::payload::{Connect, Mode, PresenceRequest};
 use hlidunsk::{cut, digest, hmac, list, read, read_header, same_tag, version, wanted, write};
-use hlidunsk::{
-    Body, Connection, Header, MessageType, Refusal, MOST_MESSAGE, MOST_READ, NO_ENTRIES,
-};
+use hlidunsk::{Body, Header, MessageType, Refusal, MOST_MESSAGE, MOST_READ, NO_ENTRIES};
 
 /// Document 01's P1.
 fn p1() -> Vec<u8> {
@@ -158,33 +156,6 @@ fn types_and_their_numbers() {
         let known = MessageType::from_number(number);
         assert_eq!(known.is_some(), matches!(number, 1 | 2 | 4));
         assert!(known.is_none_or(|known| known.number() == number));
-    }
-}
-
-#[test]
-fn opening() {
-    let hub = Connection::open(16_384).unwrap();
-    assert_eq!(
-        (hub.fragment_size(), hub.state(), hub.session(), hub.expected()),
-        (16_384, 0, 0, 0)
-    );
-    assert_eq!(Connection::open(0), Err(Refusal::WrongFragmentSize));
-    assert_eq!(Connection::open(16_385), Err(Refusal::WrongFragmentSize));
-    assert_eq!(Connection::open(1 << 32), Err(Refusal::WrongFragmentSize));
-    assert_eq!(
-        format!("{hub:?}"),
-        "Connection { fragment_size: 16384, state: 0, session: 0, expected: 0, .. }"
-    );
-}
-
-/// Any bytes are a connection: a step on them answers and, refused, changes nothing.
-#[test]
-fn any_bytes_are_a_connection() {
-    for byte in 0..=255 {
-        let mut hub = Connection::from_bytes([byte; Connection::SIZE]);
-        let answer = hub.step(&p1(), None, &mut [], &mut [], true);
-        assert_eq!(answer, Err(Refusal::WrongFragmentSize));
-        assert_eq!(hub.as_bytes(), &[byte; Connection::SIZE]);
     }
 }
 

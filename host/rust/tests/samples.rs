@@ -4,9 +4,9 @@
 use std::fs;
 use std::path::{Path, PathBuf};
 
-use hlidunsk::payload::{Connect, PresenceRequest, MOST_PAYLOAD};
+use hlidunsk::payload::{Connect, PresenceRequest, Status, MOST_PAYLOAD};
 use hlidunsk::{list, read, read_header, wanted, write, Answer, Body, Connection, Keys, Refusal};
-use hlidunsk::{MessageType, MOST_MESSAGE, MOST_PIECES, MOST_SEALED};
+use hlidunsk::{MessageType, Reply, MOST_MESSAGE, MOST_PIECES, MOST_SEALED};
 
 fn folder() -> PathBuf {
     Path::new(env!("CARGO_MANIFEST_DIR")).join("../../samples")
@@ -31,18 +31,26 @@ fn messages(stream: &[u8]) -> Vec<&[u8]> {
     messages
 }
 
-fn said(answer: Result<Answer, Refusal>) -> String {
+fn connect(reply: Reply) -> u8 {
+    match reply {
+        Reply::ConnectionResponse => 1,
+        Reply::DeviceAuthenticationResponse => 3,
+        Reply::DoneResponse(status) => {
+            assert_eq!(status, Status::Success);
+            7
+        }
+    }
+}
+
+fn said(answer: Result<Answer<'_>, Refusal>) -> String {
     match answer {
         Err(refusal) => format!("refused {}", refusal.number()),
-        Ok(Answer::Reply { connect, status: 0 }) => format!("reply {connect}"),
-        Ok(Answer::Again { connect, status: 0 }) => format!("again {connect}"),
-        Ok(Answer::Reply { status, .. } | Answer::Again { status, .. }) => {
-            format!("status {status}")
-        }
+        Ok(Answer::Reply(reply)) => format!("reply {}", connect(reply)),
+        Ok(Answer::Again(reply)) => format!("again {}", connect(reply)),
         Ok(Answer::Failure) => "failure".to_owned(),
         Ok(Answer::Taken { heard }) => format!("taken {heard}"),
         Ok(Answer::Repeat { heard }) => format!("repeat {heard}"),
-        Ok(Answer::Complete { length, .. }) => format!("complete {length}"),
+        Ok(Answer::Complete { report, .. }) => format!("complete {}", report.len()),
     }
 }
 
@@ -54,9 +62,9 @@ fn play(accepted: bool) -> (String, Vec<Vec<u8>>) {
     for message in messages(&sample("capture.bin")) {
         let before = hub;
         let answer = hub.step(message, Some(&keys()), &mut working, &mut report, accepted);
-        if let Ok(Answer::Complete { length, .. }) = answer {
+        if let Ok(Answer::Complete { report, .. }) = answer {
             assert_eq!(before.expected() as usize, reports.len());
-            reports.push(report[..length].to_vec());
+            reports.push(report.to_vec());
         }
         assert!(answer.is_ok() || hub == before, "a refusal changes nothing");
         hub = Connection::from_bytes(*hub.as_bytes());
