@@ -3,7 +3,12 @@
 
 use crate::ffi;
 
-/// SHA-256.
+/// SHA-256 (FIPS 180-4).
+///
+/// ```
+/// # use hlidunsk::digest;
+/// assert_eq!(digest(b"abc")[..4], [0xBA, 0x78, 0x16, 0xBF]);
+/// ```
 pub fn digest(bytes: &[u8]) -> [u8; 32] {
     let mut out = [0; 32];
     // SAFETY: pointers and lengths are those of slices; the two do not overlap.
@@ -13,7 +18,14 @@ pub fn digest(bytes: &[u8]) -> [u8; 32] {
     out
 }
 
-/// HMAC-SHA-256 under a key of any length.
+/// HMAC-SHA-256 (RFC 2104) under a key of any length, of any bytes.
+///
+/// ```
+/// # use hlidunsk::{hmac, same_tag};
+/// let tag = hmac(b"Jefe", b"what do ya want for nothing?");
+/// assert!(same_tag(&tag, &hmac(b"Jefe", b"what do ya want for nothing?")));
+/// assert!(!same_tag(&tag, &hmac(b"Jefe", b"nothing")));
+/// ```
 pub fn hmac(key: &[u8], message: &[u8]) -> [u8; 32] {
     let mut out = [0; 32];
     // SAFETY: pointers and lengths are those of slices; `out` overlaps no other.

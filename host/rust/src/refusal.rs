@@ -4,7 +4,29 @@
 use core::error::Error;
 use core::fmt;
 
-/// A row of document 01's table "Refusal numbers"; its value is the row's number.
+/// Why a call refuses: a row of document 01's table "Refusal numbers", the first that applies.
+///
+/// A later version may have further ones: treat one that you do not know as a refusal.
+///
+/// ```
+/// # use hlidunsk::{read_header, Refusal};
+/// let refusal = read_header(b"too short").unwrap_err();
+/// assert_eq!(refusal, Refusal::TooShort);
+/// assert_eq!(refusal.number(), 1);
+/// assert_eq!(refusal.to_string(), "refused 1: fewer than 42 bytes");
+/// ```
+///
+/// Most refusals of a step are harmless: a hub drops the message and goes on, for connection and
+/// report buffer are as they were.
+///
+/// | Number | What it says to a hub |
+/// |---|---|
+/// | 17 | a late copy of a report that is complete |
+/// | 11 | damaged or foreign bytes |
+/// | 15, 16 | a stranger, or an old request |
+/// | 18 | a report that comes too early: it is sent again, or lost |
+/// | 10, 12, 22, 24, 255 | the caller's own: keys, a buffer or F are not as they should be |
+/// | 19 | no report has this number: after 2^32 - 2 none can follow, so open anew, with new keys, in time |
 #[derive(Clone, Copy, Debug, PartialEq, Eq, PartialOrd, Ord, Hash)]
 #[non_exhaustive]
 #[repr(u8)]
@@ -132,7 +154,7 @@ const SENTENCES: [&str; 25] = [
 // tests/refusals/write: end
 
 impl Refusal {
-    /// Its number: 1 to 25 are rows of document 01.
+    /// Its number: 1 to 25 are the rows of document 01.
     pub fn number(self) -> u32 {
         self as u32
     }
@@ -146,7 +168,7 @@ impl Refusal {
         }
     }
 
-    /// Why, in English: document 01's sentence.
+    /// Why, in English: document 01's sentence. `Display` has the number before it.
     pub fn text(self) -> &'static str {
         match self {
             Unknown => "an answer that this version of the crate does not know",
