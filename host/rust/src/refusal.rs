@@ -144,7 +144,7 @@ const SENTENCES: [&str; 25] = [
     "SequenceNumber below the expected one",
     "SequenceNumber above the expected one",
     "SequenceNumber is 2^32 - 1",
-    "piece not F bytes and not last; last over F; last empty with count over 1; in hub_write: Session payload over 16,384",
+    "piece not F bytes and not last; last over F; last empty with count over 1; in the writer: Session payload over 16,384",
     "count or channel unlike the first piece taken of this message",
     "F times index + piece length exceeds the report buffer; or out too small",
     "index already heard, and the bytes differ from the report buffer's there, or the length from the one taken",
