@@ -44,8 +44,8 @@
  * open anew, with new keys, where it is lost. Until there are keys give a step none (a null pointer, 0). Each call sets up its keys anew: there is
  * nothing to prepare, and nothing to keep or to erase between calls but the key bytes themselves.
  *
- * Vectors. A sealed message's vector is made of SessionID, SequenceNumber, FragmentIndex and FragmentCount. Under one set of keys no two sealed
- * messages of different content may have the same four, in neither direction. Reports are numbered from 0 on, one number each. The hub does not look
+ * Vectors. A sealed message's vector is made of SessionID, SequenceNumber, FragmentIndex and FragmentCount. Under one set of keys two sealed
+ * messages of different content never have the same four, whichever side sends them. Reports are numbered from 0 on, one number each. The hub does not look
  * at the SequenceNumber of a Connect message, so give those numbers that no report has, and hub and gateway a range each: host/c counts the
  * gateway's Connect messages from 0x80000000 on, the hub's from 0xC0000000.
  *
@@ -71,8 +71,8 @@
  *
  * Refusals. Most are harmless, and a hub drops the message and goes on: connection and report buffer are as they were. 17 is what late copies of a
  * report that is complete get, 11 what damaged or foreign bytes do, 15 and 16 what strangers and old requests do, 18 a report that comes too early (it is
- * sent again, or lost). 10, 12, 22, 24, 25 and 255 are the caller's own: keys, a buffer, F or a verdict are not as they should be. After
- * 19 no report can follow: number 2^32 - 1 is never one, so open a new connection, with new keys, in time. hub_text has a sentence for each.
+ * sent again, or lost). 10, 12, 22, 24, 25 and 255 are the caller's own: keys, a buffer, F or a verdict are not as they should be. 19
+ * is for a number that no report has, 2^32 - 1: after report 2^32 - 2 open a new connection, with new keys. hub_text has a sentence for each.
  *
  *
  * WHO OWNS WHICH MEMORY
@@ -214,7 +214,7 @@ enum hub_refusal {
     HUB_FUTURE_SEQUENCE = 18,     /* SequenceNumber above the expected one */
     HUB_LAST_SEQUENCE = 19,       /* SequenceNumber is 2^32 - 1 */
     HUB_WRONG_PIECE_SIZE = 20,    /* piece not F bytes and not last; last over F; last empty with count over 1;
-                                     in hub_write: Session payload over 16,384 */
+                                     in the writer: Session payload over 16,384 */
     HUB_UNLIKE_FIRST_PIECE = 21,  /* count or channel unlike the first piece taken of this message */
     HUB_NO_ROOM = 22,             /* F times index + piece length exceeds the report buffer; or out too small */
     HUB_UNLIKE_REPEAT = 23,       /* index already heard, and the bytes differ from the report buffer's there, or
@@ -272,7 +272,7 @@ static inline const char *hub_text(uint32_t number)
     case HUB_LAST_SEQUENCE:
         return "SequenceNumber is 2^32 - 1";
     case HUB_WRONG_PIECE_SIZE:
-        return "piece not F bytes and not last; last over F; last empty with count over 1; in hub_write: Session payload over 16,384";
+        return "piece not F bytes and not last; last over F; last empty with count over 1; in the writer: Session payload over 16,384";
     case HUB_UNLIKE_FIRST_PIECE:
         return "count or channel unlike the first piece taken of this message";
     case HUB_NO_ROOM:

@@ -6,3 +6,6 @@ pub mod Written
 pub mod Pieces
 pub mod Line
 pub mod Answered
+pub mod Stream
+pub mod Connect
+pub mod Payload

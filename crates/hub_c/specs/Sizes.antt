@@ -34,6 +34,10 @@ answerSize = 3
 abbrev pub pieceSize : ℕ
 pieceSize = 3
 
+-- The words of what a Connect payload says.
+abbrev pub connectSize : ℕ
+connectSize = 13
+
 -- The bytes of a line.
 abbrev pub lineSize : ℕ
 lineSize = 64

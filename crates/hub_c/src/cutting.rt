@@ -12,7 +12,7 @@ ghost use Rattle.hub_c.specs.Pieces.{cutWords};
 // Asked for piece i of a report: the count of pieces, from where the piece lies in the report, and how many bytes it has. Refused with 24 or 7
 // they are 0, 0, 0: no piece, and the empty part at the report's start.
 #[no_mangle]
-pub extern "C" fn hub_cut(report: &[u8], fragment_size: u64, index: u64, piece: &mut [u64]) -> u8
+pub extern "C" fn hub_cut(report: &[u8], fragment_size: u64, index: u64, piece: &mut [u64]) -> u32
     ensures { λ r. ⌜ r ≡ sized pieceSize (now (piece .entry)) (cutRefusal «fragment_size» (length (now (report .entry))) index) ⌝ }
     ensures { λ _. ⌜ now (piece .exit) ≡ kept pieceSize (now (piece .entry)) (cutWords «fragment_size» (now (report .entry)) index)
         (now (piece .entry)) ⌝ }
@@ -25,7 +25,7 @@ pub extern "C" fn hub_cut(report: &[u8], fragment_size: u64, index: u64, piece: 
     let cutting = joining::cut::cut(report, size, i);
     if cutting.refusal != 0 {
         put_triple(piece, 0, 0, 0);
-        return cutting.refusal;
+        return cutting.refusal as u32;
     }
     let from = fragment_size * index;
     let bytes = joining::cut::cut_piece(report, size, i).len();

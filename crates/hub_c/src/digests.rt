@@ -13,7 +13,7 @@ const DIGEST: usize = 32;
 
 // The SHA-256 digest of bytes, into an output of 32.
 #[no_mangle]
-pub extern "C" fn hub_digest(bytes: &[u8], out: &mut [u8]) -> u8
+pub extern "C" fn hub_digest(bytes: &[u8], out: &mut [u8]) -> u32
     ensures { λ r. ⌜ r ≡ sized digestSize (now (out .entry)) 0 ⌝ }
     ensures { λ _. ⌜ now (out .exit) ≡ filled (digest (now (bytes .entry))) (now (out .entry)) ⌝ }
 {
@@ -27,7 +27,7 @@ pub extern "C" fn hub_digest(bytes: &[u8], out: &mut [u8]) -> u8
 
 // The HMAC-SHA-256 of a message under a key of any length, into an output of 32.
 #[no_mangle]
-pub extern "C" fn hub_hmac(key: &[u8], message: &[u8], out: &mut [u8]) -> u8
+pub extern "C" fn hub_hmac(key: &[u8], message: &[u8], out: &mut [u8]) -> u32
     ensures { λ r. ⌜ r ≡ sized digestSize (now (out .entry)) 0 ⌝ }
     ensures { λ _. ⌜ now (out .exit) ≡ filled (hmac (now (key .entry)) (now (message .entry))) (now (out .entry)) ⌝ }
 {
@@ -41,7 +41,7 @@ pub extern "C" fn hub_hmac(key: &[u8], message: &[u8], out: &mut [u8]) -> u8
 
 // Whether two tags are alike: 0 if they are, 1 if not. The comparison reads every byte.
 #[no_mangle]
-pub extern "C" fn hub_same_tag(ours: &[u8], theirs: &[u8]) -> u8
+pub extern "C" fn hub_same_tag(ours: &[u8], theirs: &[u8]) -> u32
     ensures { λ r. ⌜ r ≡ sameTag (now (ours .entry)) (now (theirs .entry)) ⌝ }
 {
     if (ours.len() != DIGEST) | (theirs.len() != DIGEST) {

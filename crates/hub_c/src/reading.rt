@@ -39,7 +39,7 @@ fn put_fields(h: Header, out: &mut [u64])
 }
 
 // Hands out what was read: its words, and the refusal's number. Beside a refusal all words are 0.
-fn hand(found: Found, out: &mut [u64]) -> u8
+fn hand(found: Found, out: &mut [u64]) -> u32
     requires { ⌜ length (now out) ≡ headerSize ⌝ }
     ensures { λ r. ⌜ r ≡ found .refusal ⌝ }
     ensures { λ _. ⌜ now (out .exit) ≡ foundWords found ⌝ }
@@ -53,13 +53,13 @@ fn hand(found: Found, out: &mut [u64]) -> u8
         found.from as u64,
         found.size as u64,
     );
-    found.refusal
+    found.refusal as u32
 }
 
 // Reads a message as far as it goes without keys: refusals 1 to 9, and the header's words, all 0 beside a refusal. The place is that of the payload
 // in the message (sealed is 0), for a sealed message that of its sealed part (sealed is 2, so hub_payload hands out nothing by these words).
 #[no_mangle]
-pub extern "C" fn hub_read_header(message: &[u8], header: &mut [u64]) -> u8
+pub extern "C" fn hub_read_header(message: &[u8], header: &mut [u64]) -> u32
     ensures { λ r. ⌜ r ≡ sized headerSize (now (header .entry)) (foundHeader (readHeader (now (message .entry))) .refusal) ⌝ }
     ensures { λ _. ⌜ now (header .exit) ≡ kept headerSize (now (header .entry))
         (foundWords (foundHeader (readHeader (now (message .entry))))) (now (header .entry)) ⌝ }
@@ -78,7 +78,7 @@ pub extern "C" fn hub_read(
     keys: &[u8],
     working: &mut [u8],
     header: &mut [u64],
-) -> u8
+) -> u32
     ensures { λ r. ⌜ r ≡ sized headerSize (now (header .entry)) (foundMessage
         (readMessage (now (message .entry)) (now (keys .entry)) (length (now (working .entry)))) .refusal) ⌝ }
     ensures { λ _. ⌜ now (working .exit) ≡ kept headerSize (now (header .entry))
@@ -136,7 +136,7 @@ pub extern "C" fn hub_payload(
     working: &[u8],
     header: &[u64],
     place: &mut [u64],
-) -> u8
+) -> u32
     ensures { λ r. ⌜ r ≡ cond (wrongPlace (now (header .entry)) (now (place .entry))) wrongBuffer 0 ⌝ }
     ensures { λ _. ⌜ now (place .exit) ≡ cond (wrongPlace (now (header .entry)) (now (place .entry))) (now (place .entry))
         (placeIn (length (now (message .entry))) (length (now (working .entry))) (getD (now (header .entry)) 8 0)

@@ -1,12 +1,14 @@
 // SPDX-License-Identifier: MPL-2.0
 // Answers of several numbers, written as words of 64 bits.
+use writer::Written;
 ghost use mathlib.Core.Path.{_≡_};
 ghost use mathlib.Core.List.{_∷_, []};
 ghost use lib.ListN.{getD, length};
 ghost use lib.Seq.{sets};
+ghost use Rattle.writer.specs.Answers.{wrote};
 
 // The number of a call that was lent a buffer of the wrong size, or a word too wide for its field.
-pub(crate) const WRONG_BUFFER: u8 = 255;
+pub(crate) const WRONG_BUFFER: u32 = 255;
 
 // The words of a place, of an answer and of a piece.
 pub(crate) const PLACE: usize = 3;
@@ -47,6 +49,17 @@ pub(crate) fn put_length(out: &mut [u64], x: u64)
     put_word(out, 0, x);
 }
 
+// Hands out what a writer answers: the length, and the refusal's number.
+pub(crate) fn hand_length(written: Written, out: &mut [u64]) -> u32
+    requires { ⌜ length (now out) ≡ 1 ⌝ }
+    ensures { λ r. ⌜ r ≡ wrote written .refusal ⌝ }
+    ensures { λ _. ⌜ now (out .exit) ≡ wrote written .size ∷ [] ⌝ }
+{
+    let answer = written.wrote();
+    put_length(out, answer.size as u64);
+    answer.refusal as u32
+}
+
 // Puts three words from a place on.
 pub(crate) fn put_three(out: &mut [u64], at: u32, a: u64, b: u64, c: u64)
     ensures { λ _. ⌜ now (out .exit) ≡ sets (now (out .entry)) at (a ∷ b ∷ c ∷ []) ⌝ }
@@ -55,6 +68,15 @@ pub(crate) fn put_three(out: &mut [u64], at: u32, a: u64, b: u64, c: u64)
     put_word(out, from, a);
     put_word(out, from + 1, b);
     put_word(out, from + 2, c);
+}
+
+// Puts two words from a place on.
+pub(crate) fn put_two(out: &mut [u64], at: u32, a: u64, b: u64)
+    ensures { λ _. ⌜ now (out .exit) ≡ sets (now (out .entry)) at (a ∷ b ∷ []) ⌝ }
+{
+    let from = at as usize;
+    put_word(out, from, a);
+    put_word(out, from + 1, b);
 }
 
 // Puts the three words of a buffer that has no more.

@@ -1,7 +1,7 @@
 // SPDX-License-Identifier: MPL-2.0
 // Writing a message whose fields are given in words: type, flags, sequence, request, index, count, session, channel.
 use super::words::WRONG_BUFFER;
-use super::words::put_length;
+use super::words::hand_length;
 use super::words::word;
 use wire::header::Header;
 ghost use mathlib.Core.Path.{_≡_};
@@ -62,7 +62,7 @@ pub extern "C" fn hub_write(
     keys: &[u8],
     out: &mut [u8],
     size: &mut [u64],
-) -> u8
+) -> u32
     ensures { λ r. ⌜ r ≡ cond (wrongFields (now (fields .entry)) (now (size .entry))) wrongBuffer
         (wrote (writeAnswer (fieldsOf (now (fields .entry))) (now (chain .entry)) (now (payload .entry)) (length (now (keys .entry)))
         (length (now (out .entry)))) .refusal) ⌝ }
@@ -77,8 +77,8 @@ pub extern "C" fn hub_write(
         return WRONG_BUFFER;
     }
     let header = header_of(fields);
-    let written = message::writing::write(header, chain, payload, keys, out);
-    let answer = written.wrote();
-    put_length(size, answer.size as u64);
-    answer.refusal
+    hand_length(
+        message::writing::write(header, chain, payload, keys, out),
+        size,
+    )
 }

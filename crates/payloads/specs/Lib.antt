@@ -4,3 +4,4 @@ pub mod Format
 pub mod Typed
 pub mod Shapes
 pub mod Reading
+pub mod Connect

@@ -8,6 +8,7 @@
 //
 //     3                 4          6       14              18         20  52         54  86
 //     | curve or Result | HMACSize | Nonce | fragment size | X length | X | Y length | Y |
+pub mod connect;
 pub mod reading;
 pub mod shapes;
 

@@ -20,3 +20,4 @@ pub mod Determined
 pub mod Witness
 pub mod Enrols
 pub mod HostSteps
+pub mod ConnectBack

@@ -3,6 +3,7 @@ pub mod Examples
 pub mod Refusals
 pub mod Written
 pub mod Fields
+pub mod Connects
 pub mod Handed
 pub mod Reports
 pub mod Enrolment

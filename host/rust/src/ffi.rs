@@ -1,9 +1,10 @@
 // SPDX-License-Identifier: MPL-2.0
-//! The functions of include/hub.h, declared once more. A slice is a pointer and a number of elements.
+//! The functions of include/hub.h, declared once more. A slice is a pointer and a number of
+//! elements.
 
 unsafe extern "C" {
     pub fn hub_version() -> u32;
-    pub fn hub_digest(bytes: *const u8, bytes_n: usize, out: *mut u8, out_n: usize) -> u8;
+    pub fn hub_digest(bytes: *const u8, bytes_n: usize, out: *mut u8, out_n: usize) -> u32;
     pub fn hub_hmac(
         key: *const u8,
         key_n: usize,
@@ -11,14 +12,15 @@ unsafe extern "C" {
         message_n: usize,
         out: *mut u8,
         out_n: usize,
-    ) -> u8;
-    pub fn hub_same_tag(a: *const u8, a_n: usize, b: *const u8, b_n: usize) -> u8;
+    ) -> u32;
+    pub fn hub_same_tag(a: *const u8, a_n: usize, b: *const u8, b_n: usize) -> u32;
+    pub fn hub_wanted(bytes: *const u8, bytes_n: usize) -> u32;
     pub fn hub_read_header(
         message: *const u8,
         message_n: usize,
         header: *mut u64,
         header_n: usize,
-    ) -> u8;
+    ) -> u32;
     pub fn hub_read(
         message: *const u8,
         message_n: usize,
@@ -28,7 +30,7 @@ unsafe extern "C" {
         working_n: usize,
         header: *mut u64,
         header_n: usize,
-    ) -> u8;
+    ) -> u32;
     pub fn hub_payload(
         message: *const u8,
         message_n: usize,
@@ -38,7 +40,7 @@ unsafe extern "C" {
         header_n: usize,
         place: *mut u64,
         place_n: usize,
-    ) -> u8;
+    ) -> u32;
     pub fn hub_write(
         fields: *const u64,
         fields_n: usize,
@@ -52,8 +54,74 @@ unsafe extern "C" {
         out_n: usize,
         length: *mut u64,
         length_n: usize,
-    ) -> u8;
-    pub fn hub_open(fragment_size: u64, state: *mut u8, state_n: usize) -> u8;
+    ) -> u32;
+    pub fn hub_write_presence_request(
+        out: *mut u8,
+        out_n: usize,
+        length: *mut u64,
+        length_n: usize,
+    ) -> u32;
+    pub fn hub_write_connection_request(
+        mode: u64,
+        nonce: *const u8,
+        nonce_n: usize,
+        x: *const u8,
+        x_n: usize,
+        y: *const u8,
+        y_n: usize,
+        out: *mut u8,
+        out_n: usize,
+        length: *mut u64,
+        length_n: usize,
+    ) -> u32;
+    pub fn hub_write_connection_response(
+        mode: u64,
+        result: u64,
+        nonce: *const u8,
+        nonce_n: usize,
+        x: *const u8,
+        x_n: usize,
+        y: *const u8,
+        y_n: usize,
+        out: *mut u8,
+        out_n: usize,
+        length: *mut u64,
+        length_n: usize,
+    ) -> u32;
+    pub fn hub_write_device_authentication(
+        connect: u64,
+        mode: u64,
+        certificate: *const u8,
+        certificate_n: usize,
+        thumbprint: *const u8,
+        thumbprint_n: usize,
+        out: *mut u8,
+        out_n: usize,
+        length: *mut u64,
+        length_n: usize,
+    ) -> u32;
+    pub fn hub_write_done_request(
+        mode: u64,
+        out: *mut u8,
+        out_n: usize,
+        length: *mut u64,
+        length_n: usize,
+    ) -> u32;
+    pub fn hub_write_done_response(
+        mode: u64,
+        status: u64,
+        out: *mut u8,
+        out_n: usize,
+        length: *mut u64,
+        length_n: usize,
+    ) -> u32;
+    pub fn hub_read_connect(
+        payload: *const u8,
+        payload_n: usize,
+        connect: *mut u64,
+        connect_n: usize,
+    ) -> u32;
+    pub fn hub_open(fragment_size: u64, state: *mut u8, state_n: usize) -> u32;
     pub fn hub_step(
         state: *mut u8,
         state_n: usize,
@@ -65,10 +133,10 @@ unsafe extern "C" {
         working_n: usize,
         report: *mut u8,
         report_n: usize,
-        verdict: u8,
+        verdict: u64,
         answer: *mut u64,
         answer_n: usize,
-    ) -> u8;
+    ) -> u32;
     pub fn hub_cut(
         report: *const u8,
         report_n: usize,
@@ -76,7 +144,7 @@ unsafe extern "C" {
         index: u64,
         piece: *mut u64,
         piece_n: usize,
-    ) -> u8;
+    ) -> u32;
     pub fn hub_list(
         message: *const u8,
         message_n: usize,
@@ -84,5 +152,5 @@ unsafe extern "C" {
         line_n: usize,
         length: *mut u64,
         length_n: usize,
-    ) -> u8;
+    ) -> u32;
 }

@@ -3,17 +3,29 @@
 
 use crate::ffi;
 
-/// SHA-256.
+/// SHA-256 (FIPS 180-4).
+///
+/// ```
+/// # use hlidunsk::digest;
+/// assert_eq!(digest(b"abc")[..4], [0xBA, 0x78, 0x16, 0xBF]);
+/// ```
 pub fn digest(bytes: &[u8]) -> [u8; 32] {
     let mut out = [0; 32];
     // SAFETY: pointers and lengths are those of slices; the two do not overlap.
     let number =
         unsafe { ffi::hub_digest(bytes.as_ptr(), bytes.len(), out.as_mut_ptr(), out.len()) };
-    assert_eq!(number, 0, "an output of 32 bytes");
+    debug_assert_eq!(number, 0, "an output of 32 bytes");
     out
 }
 
-/// HMAC-SHA-256 under a key of any length.
+/// HMAC-SHA-256 (RFC 2104) under a key of any length, of any bytes.
+///
+/// ```
+/// # use hlidunsk::{hmac, same_tag};
+/// let tag = hmac(b"Jefe", b"what do ya want for nothing?");
+/// assert!(same_tag(&tag, &hmac(b"Jefe", b"what do ya want for nothing?")));
+/// assert!(!same_tag(&tag, &hmac(b"Jefe", b"nothing")));
+/// ```
 pub fn hmac(key: &[u8], message: &[u8]) -> [u8; 32] {
     let mut out = [0; 32];
     // SAFETY: pointers and lengths are those of slices; `out` overlaps no other.
@@ -22,7 +34,7 @@ pub fn hmac(key: &[u8], message: &[u8]) -> [u8; 32] {
         let (message, message_n) = (message.as_ptr(), message.len());
         ffi::hub_hmac(key, key_n, message, message_n, out.as_mut_ptr(), out.len())
     };
-    assert_eq!(number, 0, "an output of 32 bytes");
+    debug_assert_eq!(number, 0, "an output of 32 bytes");
     out
 }
 

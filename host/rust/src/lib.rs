@@ -1,67 +1,300 @@
 // SPDX-License-Identifier: MPL-2.0
 //! A proved hub library for Rust: it enrols gateways and joins their reports over the Connected
-//! Devices Platform protocol (MS-CDP), as the project's document 01 describes it.
+//! Devices Platform protocol (MS-CDP), as the project's document 01 (docs/01-scope.md) describes
+//! it.
 //!
 //! The calls are those of include/hub.h, with types for what C can only ask for: keys are 64 bytes
-//! or none, a connection is a value, fields have their width, a payload is a part of the buffer in
-//! which it lies and a sealed part is no payload, and a refusal is an error with document 01's number.
-//! All memory is the caller's; nothing is allocated but the [`list`]ing's line. Every input is defined
-//! behaviour: no call here panics.
+//! or none, a connection is a value, fields have their width, payloads are types, a report is a
+//! part of the buffer in which it lies, and a refusal is an error with document 01's number and
+//! sentence.
+//!
+//! The functions behind the calls are proved to do exactly what their contracts say, on every
+//! input; docs/TRUST.md says what that rests on. This crate itself is not proved but tested: it
+//! hands pointers and sizes to the library, and makes types of its numbers. It needs nothing of
+//! `std`.
+//!
+//! # Messages, pieces, reports
+//!
+//! A message is 42 to 65,535 bytes: a header of 40, a chain of additional headers that ends with
+//! two zero bytes, a payload, and, where it is sealed, a tag of 32. Sealed means encrypted and
+//! tagged under 64 key bytes that the caller brings. A gateway enrols by three Connect messages,
+//! each of which the hub replies to. Then it sends reports. A report is cut into 1 to 64 pieces of
+//! F bytes (the last has the rest), each in a Session message of its own; they may come in any
+//! order, twice, or damaged.
+//!
+//! The hub's side, for each gateway:
+//!
+//! | Call | What it does |
+//! |---|---|
+//! | [`Connection::open`] | once: makes a connection of fragment size F |
+//! | [`wanted`] | says where in a stream the next message ends |
+//! | [`Connection::step`] | takes a message that came in, and answers what to do: reply, reply again, name a failure, wait for more pieces, or take the report, which is complete |
+//! | [`Connect::write`], [`write()`] | make the payload of a reply, and its message |
+//!
+//! The gateway's side:
+//!
+//! | Call | What it does |
+//! |---|---|
+//! | [`Connect::write`], [`write()`] | make the payload of a request, and its message |
+//! | [`read`], [`Connect::read`] | open a reply, and take it apart |
+//! | [`cut`] | cuts a report; [`write()`] makes the message of each piece |
+//!
+//! The library opens no socket, keeps no time, agrees on no key and judges no certificate: the
+//! caller says by the verdict whether it accepts the certificate that a message shows.
+//!
+//! # Both sides in one page
+//!
+//! A gateway enrols over a link that loses each reply once, and sends a report whose second piece
+//! comes first.
 //!
 //! ```
-//! use hlidunsk::{cut, write, Answer, Connection, Header, Refusal, MOST_PIECES, NO_ENTRIES};
+//! use hlidunsk::payload::{Connect, ConnectionResult, Exchange, Mode, Status, MOST_PAYLOAD};
+//! use hlidunsk::{cut, read, write, Answer, Connection, Keys, Refusal, Reply, State};
+//! use hlidunsk::{MOST_MESSAGE, MOST_PIECES, MOST_REPLY, MOST_SEALED, NO_ENTRIES};
 //!
-//! const F: usize = 16;
-//! let keys = [7; 64];
-//! let mut hub = Connection::open(F as u64)?;
-//! let (mut working, mut report) = ([0; 256], [0; MOST_PIECES * F]);
-//! let mut message = [0; 256];
-//! let mut take = |header: Header, payload: &[u8], hub: &mut Connection| {
-//!     let length = write(&header, NO_ENTRIES, payload, Some(&keys), &mut message)?;
-//!     hub.step(&message[..length], Some(&keys), &mut working, &mut report, true)
+//! const F: usize = 16; // the bytes of a piece
+//! const SESSION: u64 = 42;
+//! const MODE: Mode = Mode::Proximal;
+//! const GATEWAY: &[u8] = b"gateway 7, block 12, Merlot"; // stands for its certificate
+//! const HUB: &[u8] = b"the cooperative's hub"; // likewise
+//!
+//! /// Stands for the key agreement: our half, and the keys that both halves lead to.
+//! fn agree(_theirs: Exchange) -> (Exchange, Keys) {
+//!     (Exchange { nonce: *b"nonce  2", x: [3; 32], y: [4; 32] }, [7; 64])
+//! }
+//!
+//! /// Writes a Connect message: its payload, then the message with the header that goes with it.
+//! fn message(
+//!     connect: &Connect,
+//!     sequence: u32,
+//!     keys: Option<&Keys>,
+//!     out: &mut [u8],
+//! ) -> Result<usize, Refusal> {
+//!     let mut payload = [0; MOST_PAYLOAD];
+//!     let length = connect.write(&mut payload)?;
+//!     write(&connect.header(SESSION, sequence), NO_ENTRIES, &payload[..length], keys, out)
+//! }
+//!
+//! /// All that the hub has of one gateway.
+//! struct Hub {
+//!     connection: Connection,
+//!     keys: Option<Keys>,
+//!     working: [u8; MOST_SEALED],
+//!     report: [u8; MOST_PIECES * F],
+//!     reply: [u8; MOST_REPLY],
+//!     reply_n: usize,
+//!     sequence: u32, // of its next Connect message
+//! }
+//!
+//! impl Hub {
+//!     /// The verdict: whether a message shows a certificate that is accepted.
+//!     fn accepts(&mut self, message: &[u8]) -> bool {
+//!         let message = read(message, self.keys.as_ref(), &mut self.working);
+//!         let shown = message.and_then(|message| Connect::read(message.payload));
+//!         matches!(shown, Ok(Connect::DeviceAuthenticationRequest { certificate: GATEWAY, .. }))
+//!     }
+//!
+//!     /// Takes a message, and leaves in `reply` what is to be sent on `Reply` and on `Again`.
+//!     fn take(&mut self, came: &[u8]) -> Result<Answer<'_>, Refusal> {
+//!         let asked = self.connection.state() == State::WaitingForAuthentication;
+//!         let accepted = asked && self.accepts(came);
+//!         let (keys, working) = (self.keys.as_ref(), &mut self.working);
+//!         let answer = self.connection.step(came, keys, working, &mut self.report, accepted)?;
+//!         if let Answer::Reply(reply) = answer {
+//!             let reply = match reply {
+//!                 Reply::ConnectionResponse => {
+//!                     let (ours, keys) = agree(self.connection.exchange());
+//!                     self.keys = Some(keys);
+//!                     let result = ConnectionResult::Pending(ours);
+//!                     Connect::ConnectionResponse { mode: MODE, result }
+//!                 }
+//!                 Reply::DeviceAuthenticationResponse => Connect::DeviceAuthenticationResponse {
+//!                     mode: MODE,
+//!                     certificate: HUB,
+//!                     thumbprint: &[],
+//!                 },
+//!                 Reply::DoneResponse(status) => Connect::DoneResponse { mode: MODE, status },
+//!             };
+//!             self.reply_n = message(&reply, self.sequence, self.keys.as_ref(), &mut self.reply)?;
+//!             self.sequence += 1;
+//!         }
+//!         Ok(answer)
+//!     }
+//! }
+//!
+//! let mut hub = Hub {
+//!     connection: Connection::open(F)?,
+//!     keys: None,
+//!     working: [0; MOST_SEALED],
+//!     report: [0; MOST_PIECES * F],
+//!     reply: [0; MOST_REPLY],
+//!     reply_n: 0,
+//!     sequence: 0xC000_0000,
 //! };
 //!
-//! // A gateway enrols by three requests.
-//! let plain = Header { message_type: Header::CONNECT, count: 1, session: 42, ..Header::default() };
-//! let sealed = Header { flags: Header::SEALED, ..plain };
-//! let mut request = [0; 86];
-//! request[..20].copy_from_slice(b"\0\0\0\0\0\x20a nonce!\0\0\x40\0\0\x20");
-//! request[53] = 32;
-//! let reply = |connect| Answer::Reply { connect, status: 0 };
-//! assert_eq!(take(plain, &request, &mut hub)?, reply(1));
-//! assert_eq!(take(plain, &request, &mut hub)?, Answer::Again { connect: 1, status: 0 });
-//! assert_eq!(take(sealed, b"\0\0\x02\0\x0ba gateway's\0\0", &mut hub)?, reply(3));
-//! assert_eq!(take(sealed, b"\0\0\x06", &mut hub)?, reply(7));
+//! // The gateway enrols by three requests. It hears no reply to the first copy of each.
+//! let exchange = Exchange { nonce: *b"nonce  1", x: [1; 32], y: [2; 32] };
+//! let (certificate, thumbprint) = (GATEWAY, &b""[..]);
+//! let requests = [
+//!     Connect::ConnectionRequest { mode: MODE, exchange },
+//!     Connect::DeviceAuthenticationRequest { mode: MODE, certificate, thumbprint },
+//!     Connect::DoneRequest { mode: MODE },
+//! ];
+//! let mut keys = None;
+//! let (mut sent, mut working) = ([0; MOST_MESSAGE], [0; MOST_SEALED]);
+//! for (request, sequence) in requests.iter().zip(0x8000_0000..) {
+//!     let length = message(request, sequence, keys.as_ref(), &mut sent)?;
+//!     assert!(matches!(hub.take(&sent[..length])?, Answer::Reply(_)));
+//!     assert!(matches!(hub.take(&sent[..length])?, Answer::Again(_)));
+//!     let reply = read(&hub.reply[..hub.reply_n], keys.as_ref(), &mut working)?;
+//!     match Connect::read(reply.payload)? {
+//!         Connect::ConnectionResponse { result: ConnectionResult::Pending(theirs), .. } => {
+//!             keys = Some(agree(theirs).1);
+//!         }
+//!         Connect::DeviceAuthenticationResponse { certificate: HUB, .. } => {}
+//!         Connect::DoneResponse { status: Status::Success, .. } => {}
+//!         other => panic!("{other:?}"),
+//!     }
+//! }
+//! assert_eq!(hub.connection.state(), State::Ready);
 //!
-//! // It sends a report of two pieces, the second one first.
-//! let sent = b"pump 7: 1,204 litres";
-//! let session = Header { message_type: Header::SESSION, count: 2, ..sealed };
-//! let first = cut(sent, F as u64, 0)?;
-//! let second = cut(sent, F as u64, 1)?;
-//! assert_eq!((first.count, second.count), (2, 2));
-//! let answer = take(Header { index: 1, ..session }, second.bytes, &mut hub)?;
-//! assert_eq!(answer, Answer::Taken { heard: 1 });
-//! let answer = take(session, first.bytes, &mut hub)?;
-//! assert_eq!(answer, Answer::Complete { heard: 2, length: sent.len() });
-//! assert_eq!(take(session, first.bytes, &mut hub), Err(Refusal::PastSequence));
-//! assert_eq!(&report[..sent.len()], sent);
+//! // It sends its first report, in two pieces.
+//! let report = b"pump 7: 1,204 litres";
+//! for index in [1, 0] {
+//!     let piece = cut(report, F, index)?;
+//!     let header = piece.header(SESSION, 0);
+//!     let length = write(&header, NO_ENTRIES, piece.bytes, keys.as_ref(), &mut sent)?;
+//!     match hub.take(&sent[..length])? {
+//!         Answer::Taken { heard } => assert_eq!((index, heard), (1, 1)),
+//!         Answer::Complete { report: whole, .. } => assert_eq!((index, whole), (0, &report[..])),
+//!         other => panic!("{other:?}"),
+//!     }
+//!     // What is damaged on the way is refused, and changes nothing.
+//!     sent[50] ^= 1;
+//!     assert_eq!(hub.take(&sent[..length]), Err(Refusal::WrongTag));
+//! }
 //! # Ok::<(), Refusal>(())
 //! ```
+//!
+//! # What the maker of a hub must know
+//!
+//! **Keys.** The 64 key bytes come from a key agreement outside this library, and are new for each
+//! connection. Under old keys and an old SessionID a new connection takes old messages once more;
+//! so does an old copy of a connection that is put back from a backup: store the newest copy alone,
+//! and open anew, with new keys, where it is lost. Until there are keys give a step `None`: a
+//! sealed message is then refused with 10. Keys of zeros would be keys that anybody knows.
+//!
+//! **Vectors.** A sealed message's vector is made of SessionID, SequenceNumber, FragmentIndex and
+//! FragmentCount. Under one set of keys no two sealed messages of different content may have the
+//! same four, whichever way they go. Reports are numbered from 0 on, one number each. The hub does
+//! not look at the SequenceNumber of a Connect message, so give those numbers that no report has,
+//! and hub and gateway a range each: the page above counts the gateway's from 0x8000_0000 on, the
+//! hub's from 0xC000_0000.
+//!
+//! **Fragment size.** F, the bytes of a piece, is agreed on outside the protocol, and both sides
+//! use the same. It is not the fragment size of a Connection Request, which document 01 fixes at
+//! 16,384.
+//!
+//! **Replies and Again.** On [`Answer::Reply`] write the reply, send it, and keep its bytes. On
+//! [`Answer::Again`] the gateway has not heard it: send the same bytes again. Writing them anew is
+//! as good if every field, the payload and the keys are the same, for then the bytes are too; a
+//! Connection Response with another nonce, or another payload under numbers that were used, is not.
+//! The replies of one connection are three messages of at most [`MOST_REPLY`] bytes each.
+//!
+//! **Failure.** On [`Answer::Failure`] the verdict was no. MS-CDP (2.2.2.3.10) says: "If the
+//! authentication process itself fails to complete, an empty payload is returned", and gives this
+//! message the type number 8. How it is sent is the caller's: [`write()`] refuses it with 14, since
+//! document 01 has no such payload. The connection is in [`State::Failed`] from then on, where
+//! every message is refused: only [`Connection::open`] helps.
+//!
+//! **Verdicts.** The verdict matters for one message alone, a Device Authentication Request, which
+//! is sealed, in [`State::WaitingForAuthentication`]. Only there need a caller read the message
+//! before the step, as `accepts` does above. For every other message any verdict gives the same.
+//!
+//! **Reports and their buffer.** Lend a connection the same report buffer at each step, of 64 times
+//! F bytes or as many as the longest report has, and leave it alone until the report is complete:
+//! what is in it is compared with pieces that come twice. Where this is done, and the connection
+//! came from [`Connection::open`] and [`Connection::step`] alone, [`Answer::Complete`] has the
+//! report as it was sent. It borrows the report from the buffer, and the compiler does not let it
+//! be used after the next step. Once the piece with the last index has come the report's length is
+//! known; a buffer that is shorter is then refused with 255, [`Refusal::WrongBuffer`].
+//!
+//! **Refusals.** Most are harmless, and a hub drops the message and goes on: connection and report
+//! buffer are as they were. [`Refusal`] says which are not.
+//!
+//! **Stored connections.** A [`Connection`] is 151 bytes in the layout of hub.h:
+//! [`Connection::as_bytes`] gives them, to be stored, and [`Connection::from_bytes`] takes them
+//! when the hub starts again. The report buffer goes with them where a report is under way.
+//!
+//! # Memory
+//!
+//! All memory is the caller's. Nothing is allocated, no pointer is kept after a call, and the
+//! library has no state of its own, so any calls may run at the same time in different threads.
+//! Every input is defined behaviour, random bytes in place of a connection, a message or a payload
+//! too: no call here panics.
+//!
+//! | Buffer | What it is |
+//! |---|---|
+//! | `message` | one whole message |
+//! | `keys` | the 64 key bytes, or none; a plain message does not look at them |
+//! | `working` | room into which a sealed message is opened: [`MOST_SEALED`] bytes are enough for every message, F + 19 for a piece of F bytes, 2,576 for an enrolment. It holds secrets afterwards: erase it if you must. Its content before a call does not matter |
+//! | `report` | where a report is put together: 64 times F bytes are enough for every report |
+//! | `chain` | additional headers with their end: [`NO_ENTRIES`] where there are none |
+//! | `payload` | what a message carries: [`MOST_PAYLOAD`] bytes are enough for every payload of Discovery and Connect |
+//! | `out` | where a message or a payload is written: [`MOST_MESSAGE`] bytes are enough for every message that [`write()`] makes |
+//!
+//! A call that is refused leaves every buffer as it was, but for one: where a sealed message was
+//! opened, and is refused for what it says or when it comes, the first bytes of the working buffer
+//! hold what was opened.
+//!
+//! # Secrets and time
+//!
+//! [`hmac`] and [`same_tag`] make no branch and no memory access that depends on the bytes they are
+//! given; this is tested and not proved. AES reads tables at places that depend on keys and data,
+//! so [`read`], [`write()`] and [`Connection::step`] are not constant-time: docs/SECURITY.md has
+//! more. Copies on the stack are not erased.
+//!
+//! # Versions
+//!
+//! This crate has the version of hub.h and of the library, which [`version`] tells. The first
+//! number rises where a caller has to change something, or the meaning of the 151 bytes of a
+//! connection changes. So connections that were stored under one first number may be read under
+//! another only where docs/CHANGES.md says how; under the same first number all are read. The
+//! second number rises where something is added.
+//!
+//! The library is for x86-64 Linux. The build script looks for it in the folder that `HLIDUNSK_LIB`
+//! names.
+//!
+//! [`Connect::read`]: payload::Connect::read
+//! [`Connect::write`]: payload::Connect::write
+//! [`MOST_PAYLOAD`]: payload::MOST_PAYLOAD
 
+#![no_std]
 #![deny(unsafe_op_in_unsafe_fn)]
 #![warn(missing_docs)]
+// No call panics.
+#![warn(clippy::expect_used, clippy::indexing_slicing, clippy::panic, clippy::unwrap_used)]
 
+mod answer;
 mod connection;
+mod cutting;
 mod ffi;
 mod hash;
+mod listing;
 mod message;
+pub mod payload;
 mod refusal;
+mod stream;
 
-pub use connection::{cut, Answer, Connection, Piece, MOST_PIECES};
+pub use answer::{Answer, Reply};
+pub use connection::{Connection, State, MOST_FRAGMENT_SIZE, MOST_PIECES};
+pub use cutting::{cut, Piece};
 pub use hash::{digest, hmac, same_tag};
-pub use message::{list, read, read_header, write, Body, Framed, Header, Keys, Message};
-pub use message::{MOST_MESSAGE, MOST_SEALED, NO_ENTRIES};
+pub use listing::{list, Line};
+pub use message::{read, read_header, write, Body, Framed, Header, Keys, Message, MessageType};
+pub use message::{MOST_MESSAGE, MOST_REPLY, MOST_SEALED, NO_ENTRIES};
 pub use refusal::Refusal;
+pub use stream::{wanted, MOST_READ};
 
 /// The library's version: major × 65,536 + minor × 256 + patch.
 pub fn version() -> u32 {

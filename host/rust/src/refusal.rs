@@ -1,11 +1,34 @@
 // SPDX-License-Identifier: MPL-2.0
 //! Why something is refused.
 
-use std::error::Error;
-use std::fmt;
+use core::error::Error;
+use core::fmt;
 
-/// A row of document 01's table "Refusal numbers"; its value is the row's number.
+/// Why a call refuses: a row of document 01's table "Refusal numbers", the first that applies.
+///
+/// A later version may have further ones: treat one that you do not know as a refusal.
+///
+/// ```
+/// # use hlidunsk::{read_header, Refusal};
+/// let refusal = read_header(b"too short").unwrap_err();
+/// assert_eq!(refusal, Refusal::TooShort);
+/// assert_eq!(refusal.number(), 1);
+/// assert_eq!(refusal.to_string(), "refused 1: fewer than 42 bytes");
+/// ```
+///
+/// Most refusals of a step are harmless: a hub drops the message and goes on, for connection and
+/// report buffer are as they were.
+///
+/// | Number | What it says to a hub |
+/// |---|---|
+/// | 17 | a late copy of a report that is complete |
+/// | 11 | damaged or foreign bytes |
+/// | 15, 16 | a stranger, or an old request |
+/// | 18 | a report that comes too early: it is sent again, or lost |
+/// | 10, 12, 22, 24, 255 | the caller's own: keys, a buffer or F are not as they should be |
+/// | 19 | no report has this number: after 2^32 - 2 none can follow, so open anew, with new keys, in time |
 #[derive(Clone, Copy, Debug, PartialEq, Eq, PartialOrd, Ord, Hash)]
+#[non_exhaustive]
 #[repr(u8)]
 pub enum Refusal {
     // tests/refusals/write: variants
@@ -60,6 +83,12 @@ pub enum Refusal {
     /// Verdict not 0 or 1. The types of this crate rule it out.
     WrongVerdict = 25,
     // tests/refusals/write: end
+    /// The library's answer has no meaning in this version of the crate. No call of a library of
+    /// the same version gives one. Not a number of document 01, nor of hub.h.
+    Unknown = 254,
+    /// The report buffer is shorter than the report. Not a number of document 01: it is hub.h's
+    /// `HUB_WRONG_BUFFER`, the other grounds of which the types of this crate rule out.
+    WrongBuffer = 255,
 }
 
 use Refusal::*;
@@ -94,30 +123,72 @@ const ALL: [Refusal; 25] = [
 ];
 // tests/refusals/write: end
 
+// tests/refusals/write: sentences
+const SENTENCES: [&str; 25] = [
+    "fewer than 42 bytes",
+    "wrong signature",
+    "MessageLength under 42 or not the bytes given",
+    "version not 3",
+    "type not 1, 2, 4",
+    "a flag above 8; flags 2 and 4 not alike; sealed Discovery; plain Session",
+    "count 0 or over 64; index not under count; count not 1 outside Session",
+    "chain leaves its room, unknown type, type 0 with a size, over 8 entries",
+    "sealed part empty or no multiple of 16",
+    "keys not 64 bytes",
+    "tag differs",
+    "working buffer shorter than the sealed part",
+    "size or padding not as the rule gives",
+    "Discovery or Connect payload not as document 01 says",
+    "message not allowed in this state",
+    "state not 0 and another SessionID",
+    "SequenceNumber below the expected one",
+    "SequenceNumber above the expected one",
+    "SequenceNumber is 2^32 - 1",
+    "piece not F bytes and not last; last over F; last empty with count over 1; in the writer: Session payload over 16,384",
+    "count or channel unlike the first piece taken of this message",
+    "F times index + piece length exceeds the report buffer; or out too small",
+    "index already heard, and the bytes differ from the report buffer's there, or the length from the one taken",
+    "F outside 1 to 16,384",
+    "verdict not 0 or 1",
+];
+// tests/refusals/write: end
+
 impl Refusal {
-    /// The row's number in document 01.
-    pub fn number(self) -> u8 {
-        self as u8
+    /// Its number: 1 to 25 are the rows of document 01.
+    pub fn number(self) -> u32 {
+        self as u32
     }
 
-    /// The row with this number.
-    pub fn from_number(number: u8) -> Option<Refusal> {
-        ALL.get(usize::from(number).checked_sub(1)?).copied()
+    /// The refusal with this number.
+    pub fn from_number(number: u32) -> Option<Refusal> {
+        match number {
+            254 => Some(Unknown),
+            255 => Some(WrongBuffer),
+            _ => ALL.get((number as usize).checked_sub(1)?).copied(),
+        }
     }
 
-    /// What a call returned. Buffers have the size that it asks for and words fit their fields, so
-    /// there is no other number.
-    pub(crate) fn of(number: u8) -> Result<(), Refusal> {
+    /// Why, in English: document 01's sentence. `Display` has the number before it.
+    pub fn text(self) -> &'static str {
+        match self {
+            Unknown => "an answer that this version of the crate does not know",
+            WrongBuffer => "the report buffer is shorter than the report",
+            row => SENTENCES.get(row as usize - 1).copied().unwrap_or_default(),
+        }
+    }
+
+    /// What a call returned. A number that is not known is a refusal too.
+    pub(crate) fn of(number: u32) -> Result<(), Refusal> {
         match number {
             0 => Ok(()),
-            _ => Err(Refusal::from_number(number).expect("a number of document 01")),
+            _ => Err(Refusal::from_number(number).unwrap_or(Unknown)),
         }
     }
 }
 
 impl fmt::Display for Refusal {
     fn fmt(&self, f: &mut fmt::Formatter<'_>) -> fmt::Result {
-        write!(f, "refused {}", self.number())
+        write!(f, "refused {}: {}", self.number(), self.text())
     }
 }
 

@@ -1,8 +1,9 @@
 // SPDX-License-Identifier: MPL-2.0
 //! Each call of the wrapper by itself.
 
-use hlidunsk::{cut, digest, hmac, list, read, read_header, same_tag, version, write};
-use hlidunsk::{Body, Connection, Header, Refusal, NO_ENTRIES};
+use hlidunsk::payload::{Connect, Mode, PresenceRequest};
+use hlidunsk::{cut, digest, hmac, list, read, read_header, same_tag, version, wanted, write};
+use hlidunsk::{Body, Header, MessageType, Refusal, MOST_MESSAGE, MOST_READ, NO_ENTRIES};
 
 /// Document 01's P1.
 fn p1() -> Vec<u8> {
@@ -46,7 +47,7 @@ fn published_digests_and_tags() {
 fn document_01s_first_examples() {
     let message = p1();
     let framed = read_header(&message).unwrap();
-    assert_eq!((framed.header.message_type, framed.header.count), (1, 1));
+    assert_eq!(framed.header, PresenceRequest.header());
     assert_eq!(framed.body, Body::Payload(&[0]));
     assert_eq!(list(&message).unwrap(), "1 0 0 1 43");
     assert_eq!(read(&message, None, &mut []).unwrap().payload, [0]);
@@ -56,9 +57,35 @@ fn document_01s_first_examples() {
 }
 
 #[test]
+fn a_line_is_a_text() {
+    let line = list(&p1()).unwrap();
+    assert_eq!((line.as_str(), line.as_ref(), &*line), ("1 0 0 1 43", "1 0 0 1 43", "1 0 0 1 43"));
+    assert_eq!(
+        format!("{line}, {line:>12}, {line:?}"),
+        r#"1 0 0 1 43,   1 0 0 1 43, "1 0 0 1 43""#
+    );
+    assert_eq!(line.split(' ').count(), 5);
+    assert_eq!(line, line.clone());
+}
+
+#[test]
+fn how_many_bytes_are_wanted() {
+    let message = p1();
+    let more = [&message[..], &message].concat();
+    for length in 0..=86 {
+        assert_eq!(wanted(&more[..length]), if length < 4 { 42 } else { 43 });
+    }
+    for length in 0..=u16::MAX {
+        let [high, low] = length.to_be_bytes();
+        assert_eq!(wanted(&[0xFF, 0xFF, high, low]), usize::from(length).max(42));
+    }
+    assert_eq!(wanted(&[0xFF; 65_536]), MOST_READ);
+}
+
+#[test]
 fn a_written_message_is_read_back() {
     let header = Header {
-        message_type: Header::SESSION,
+        message_type: MessageType::Session,
         flags: Header::SEALED,
         sequence: 7,
         request: u64::MAX,
@@ -86,45 +113,74 @@ fn pieces_of_a_report() {
     let pieces: Vec<_> = (0..3).map(|i| cut(b"ten bytes.", 4, i).unwrap()).collect();
     assert_eq!(pieces.iter().map(|piece| piece.bytes.len()).collect::<Vec<_>>(), [4, 4, 2]);
     assert_eq!(pieces.iter().map(|piece| piece.count).collect::<Vec<_>>(), [3, 3, 3]);
+    assert_eq!(pieces.iter().map(|piece| piece.index).collect::<Vec<_>>(), [0, 1, 2]);
     assert_eq!(pieces[2].bytes, b"s.");
     assert_eq!(cut(b"", 4, 0).map(|piece| (piece.count, piece.bytes.len())), Ok((1, 0)));
     assert_eq!(cut(b"ten bytes.", 4, 3), Err(Refusal::WrongPiece));
+    assert_eq!(cut(b"ten bytes.", 4, 1 << 32), Err(Refusal::WrongPiece));
+    assert_eq!(cut(b"ten bytes.", 4, usize::MAX), Err(Refusal::WrongPiece));
     assert_eq!(cut(b"ten bytes.", 0, 0), Err(Refusal::WrongFragmentSize));
+    assert_eq!(cut(b"ten bytes.", usize::MAX, 0), Err(Refusal::WrongFragmentSize));
+}
+
+/// A header that is made for a payload or a piece is one that is written and read.
+#[test]
+fn headers_that_are_made() {
+    let whole = Header {
+        message_type: MessageType::Discovery,
+        flags: 0,
+        sequence: 0,
+        request: 0,
+        index: 0,
+        count: 1,
+        session: 0,
+        channel: 0,
+    };
+    assert_eq!(PresenceRequest.header(), whole);
+    let done = Connect::DoneRequest { mode: Mode::None }.header(5, 7);
+    let connect = Header { message_type: MessageType::Connect, session: 5, sequence: 7, ..whole };
+    assert_eq!(done, Header { flags: Header::SEALED, ..connect });
+    let piece = cut(b"ten bytes.", 4, 2).unwrap();
+    let header = Header { channel: 9, ..piece.header(5, 7) };
+    let session = Header { message_type: MessageType::Session, index: 2, count: 3, ..done };
+    assert_eq!(header, Header { channel: 9, ..session });
+    let (keys, mut out, mut working) = ([3; 64], [0; MOST_MESSAGE], [0; 16]);
+    let length = write(&header, NO_ENTRIES, piece.bytes, Some(&keys), &mut out).unwrap();
+    let message = read(&out[..length], Some(&keys), &mut working).unwrap();
+    assert_eq!((message.header, message.payload), (header, piece.bytes));
 }
 
 #[test]
-fn opening() {
-    let hub = Connection::open(16_384).unwrap();
-    assert_eq!(
-        (hub.fragment_size(), hub.state(), hub.session(), hub.expected()),
-        (16_384, 0, 0, 0)
-    );
-    assert_eq!(Connection::open(0), Err(Refusal::WrongFragmentSize));
-    assert_eq!(Connection::open(16_385), Err(Refusal::WrongFragmentSize));
-    assert_eq!(Connection::open(1 << 32), Err(Refusal::WrongFragmentSize));
-    assert_eq!(
-        format!("{hub:?}"),
-        "Connection { fragment_size: 16384, state: 0, session: 0, expected: 0, .. }"
-    );
-}
-
-/// Any bytes are a connection: a step on them answers and, refused, changes nothing.
-#[test]
-fn any_bytes_are_a_connection() {
-    for byte in 0..=255 {
-        let mut hub = Connection::from_bytes([byte; Connection::SIZE]);
-        let answer = hub.step(&p1(), None, &mut [], &mut [], true);
-        assert_eq!(answer, Err(Refusal::WrongFragmentSize));
-        assert_eq!(hub.as_bytes(), &[byte; Connection::SIZE]);
+fn types_and_their_numbers() {
+    for number in 0..=255 {
+        let known = MessageType::from_number(number);
+        assert_eq!(known.is_some(), matches!(number, 1 | 2 | 4));
+        assert!(known.is_none_or(|known| known.number() == number));
     }
 }
 
 #[test]
 fn refusals_and_their_numbers() {
-    for number in 0..=255 {
+    for number in (0..=1000).chain([u32::MAX]) {
         let refusal = Refusal::from_number(number);
-        assert_eq!(refusal.is_some(), (1..=25).contains(&number));
+        assert_eq!(refusal.is_some(), matches!(number, 1..=25 | 254 | 255));
         assert!(refusal.is_none_or(|refusal| refusal.number() == number));
     }
-    assert_eq!(Refusal::UnlikeRepeat.to_string(), "refused 23");
+}
+
+#[test]
+fn a_text_for_each_refusal() {
+    assert_eq!(Refusal::WrongTag.to_string(), "refused 11: tag differs");
+    let text = "refused 255: the report buffer is shorter than the report";
+    assert_eq!(Refusal::WrongBuffer.to_string(), text);
+    let texts: Vec<_> = (0..=255).filter_map(Refusal::from_number).map(Refusal::text).collect();
+    assert_eq!(
+        (texts.len(), texts[0], texts[24]),
+        (27, "fewer than 42 bytes", "verdict not 0 or 1")
+    );
+    for (place, text) in texts.iter().enumerate() {
+        assert!(!text.is_empty() && !texts[..place].contains(text));
+    }
+    let error: &dyn std::error::Error = &Refusal::WrongTag;
+    assert!(error.source().is_none());
 }

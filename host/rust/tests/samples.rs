@@ -4,8 +4,9 @@
 use std::fs;
 use std::path::{Path, PathBuf};
 
-use hlidunsk::{list, read, read_header, write, Answer, Body, Connection, Keys, Refusal};
-use hlidunsk::{MOST_MESSAGE, MOST_PIECES, MOST_SEALED};
+use hlidunsk::payload::{Connect, PresenceRequest, Status, MOST_PAYLOAD};
+use hlidunsk::{list, read, read_header, wanted, write, Answer, Body, Connection, Keys, Refusal};
+use hlidunsk::{MessageType, Reply, MOST_MESSAGE, MOST_PIECES, MOST_SEALED};
 
 fn folder() -> PathBuf {
     Path::new(env!("CARGO_MANIFEST_DIR")).join("../../samples")
@@ -19,30 +20,37 @@ fn keys() -> Keys {
     sample("keys.bin").try_into().expect("64 bytes")
 }
 
-/// The messages of a stream: MessageLength bytes at a time, at least 42, or what is left.
+/// The messages of a stream, as many bytes as are wanted at a time, or what is left.
 fn messages(stream: &[u8]) -> Vec<&[u8]> {
     let (mut messages, mut rest) = (Vec::new(), stream);
     while !rest.is_empty() {
-        let length = rest.get(2..4).map_or(42, |two| u16::from_be_bytes([two[0], two[1]]).max(42));
-        let (message, behind) = rest.split_at(rest.len().min(length.into()));
+        let (message, behind) = rest.split_at(rest.len().min(wanted(rest)));
         messages.push(message);
         rest = behind;
     }
     messages
 }
 
-fn said(answer: Result<Answer, Refusal>) -> String {
-    match answer {
-        Err(refusal) => refusal.to_string(),
-        Ok(Answer::Reply { connect, status: 0 }) => format!("reply {connect}"),
-        Ok(Answer::Again { connect, status: 0 }) => format!("again {connect}"),
-        Ok(Answer::Reply { status, .. } | Answer::Again { status, .. }) => {
-            format!("status {status}")
+fn connect(reply: Reply) -> u8 {
+    match reply {
+        Reply::ConnectionResponse => 1,
+        Reply::DeviceAuthenticationResponse => 3,
+        Reply::DoneResponse(status) => {
+            assert_eq!(status, Status::Success);
+            7
         }
+    }
+}
+
+fn said(answer: Result<Answer<'_>, Refusal>) -> String {
+    match answer {
+        Err(refusal) => format!("refused {}", refusal.number()),
+        Ok(Answer::Reply(reply)) => format!("reply {}", connect(reply)),
+        Ok(Answer::Again(reply)) => format!("again {}", connect(reply)),
         Ok(Answer::Failure) => "failure".to_owned(),
         Ok(Answer::Taken { heard }) => format!("taken {heard}"),
         Ok(Answer::Repeat { heard }) => format!("repeat {heard}"),
-        Ok(Answer::Complete { length, .. }) => format!("complete {length}"),
+        Ok(Answer::Complete { report, .. }) => format!("complete {}", report.len()),
     }
 }
 
@@ -54,9 +62,9 @@ fn play(accepted: bool) -> (String, Vec<Vec<u8>>) {
     for message in messages(&sample("capture.bin")) {
         let before = hub;
         let answer = hub.step(message, Some(&keys()), &mut working, &mut report, accepted);
-        if let Ok(Answer::Complete { length, .. }) = answer {
+        if let Ok(Answer::Complete { report, .. }) = answer {
             assert_eq!(before.expected() as usize, reports.len());
-            reports.push(report[..length].to_vec());
+            reports.push(report.to_vec());
         }
         assert!(answer.is_ok() || hub == before, "a refusal changes nothing");
         hub = Connection::from_bytes(*hub.as_bytes());
@@ -88,13 +96,26 @@ fn the_listings() {
             match list(message) {
                 Ok(line) => lines += &format!("{line}\n"),
                 Err(refusal) => {
-                    lines += &format!("{refusal}\n");
+                    lines += &format!("refused {}\n", refusal.number());
                     break;
                 }
             }
         }
         assert_eq!(lines.as_bytes(), sample(&format!("{name}.txt")));
     }
+}
+
+/// The payload that types write anew, by the message's type.
+fn written_anew(message_type: MessageType, payload: &[u8]) -> Vec<u8> {
+    let mut out = vec![0xEE; MOST_PAYLOAD];
+    let length = match message_type {
+        MessageType::Discovery => PresenceRequest.write(&mut out),
+        MessageType::Connect => Connect::read(payload).unwrap().write(&mut out),
+        _ => return payload.to_vec(),
+    };
+    let behind = out.split_off(length.unwrap());
+    assert!(behind.iter().all(|byte| *byte == 0xEE));
+    out
 }
 
 /// Every sample message is read, and what was read is written again to the same bytes.
@@ -112,8 +133,10 @@ fn what_is_read_is_written_to_the_same_bytes() {
         assert_eq!(matches!(framed.body, Body::Sealed(_)), framed.header.is_sealed());
         let read = read(&message, Some(&keys), &mut working).unwrap();
         assert_eq!(read.header, framed.header);
+        let payload = written_anew(read.header.message_type, read.payload);
+        assert_eq!(payload, read.payload, "{}", path.display());
         let mut out = vec![0xEE; MOST_MESSAGE];
-        let length = write(&read.header, chain, read.payload, Some(&keys), &mut out).unwrap();
+        let length = write(&read.header, chain, &payload, Some(&keys), &mut out).unwrap();
         assert_eq!(out[..length], message[..], "{}", path.display());
         assert!(out[length..].iter().all(|byte| *byte == 0xEE));
         count += 1;

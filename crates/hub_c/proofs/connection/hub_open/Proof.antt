@@ -9,5 +9,5 @@ pub hub-open-spec : {M : Type 1} → statement M
 unfolding mostPieces
 hub-open-spec =
     tie.close (tie.spec
-    (λ c. rw (ne-eqb _ _ (c .if1 .taken)) (refl, refl)) _ (λ c κs. search needs) (λ c. search needs)
+    (λ c. rw (ne-eqb _ _ (c .if1 .taken)) (refl, refl)) _ (λ c κs. search needs) (λ c. search needs) (λ c. search needs)
     (λ c. let at-open : tie.After-open = search in rw (eq-eqb _ _ (at-open .before .if1 .left), ← at-open .«open» .ensures) (refl, search)))

@@ -16,7 +16,7 @@ returns-3 c =
 pub hub-cut-spec : {M : Type 1} → statement M
 hub-cut-spec =
     tie.close (tie.spec
-    (λ c. rw (ne-eqb _ _ (c .if1 .taken)) (refl, refl)) _ (λ c κs. search needs) (λ c. search needs)
+    (λ c. rw (ne-eqb _ _ (c .if1 .taken)) (refl, refl)) _ (λ c κs. search needs) (λ c. search needs) (λ c. search needs)
     (λ c. let sized : tie.Else1 = search in rw (eq-eqb _ _ (sized .if1 .left)) (search cut-judged, search cut-refused))
     (λ c. omega (arith, cuttable _ _ _ (sym (ap (λ (k : Cutting). k .refusal) (c .before .before .cut .ensures)) ∙ c .if2 .left) .within))
     _ (λ c κs. search needs) (λ c. search needs) returns-3)

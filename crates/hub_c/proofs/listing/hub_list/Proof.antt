@@ -20,7 +20,7 @@ returns-2 c =
     let wide = first-sized (length line) 64 (length (start .args .size .now)) 1 (sized .if1 .left) in
     let r = room 64 0 (lineText m) line (omega arith) in
     let told = rw (read .read-header .ensures, number .number16 .ensures, line-told m, ← r .0, ← r .1, zero-add) at (put .put-line .ensures) in
-    rw (sized .if1 .left, ← read .read-header .ensures, ← c .found .ensures) (refl, (told .1, rw (told .0) at (at-length .put-length .ensures)))
+    rw (sized .if1 .left, ← read .read-header .ensures, ← c .number-of .ensures) (refl, (told .1, rw (told .0) at (at-length .put-length .ensures)))
 
 pub hub-list-spec : {M : Type 1} → statement M
 hub-list-spec =

@@ -13,4 +13,4 @@ stored : (f : Found) (l m n : List ℕ) → length l ≡ 11 → m ≡ sets l 0 (
 stored f l m n e p q = rw (q, p) (sets-whole (foundWords f) l e)
 
 pub hand-spec : {M : Type 1} → statement M
-hand-spec = tie.close (tie.spec _ (λ c. search needs) _ (λ c. search needs) (λ c. (refl, search stored)))
+hand-spec = tie.close (tie.spec _ (λ c. search needs) _ (λ c. search needs) (λ c. search needs) (λ c. (refl, search stored)))

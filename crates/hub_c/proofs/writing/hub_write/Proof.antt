@@ -16,16 +16,14 @@ returns-2 c =
     let good : tie.Else1 = search in
     let header : tie.After-header-of = search in
     let at-write : tie.After-write = search in
-    let wrote : tie.After-wrote = search in
-    let put : tie.After-put-length = search in
     let w = rw (good .before .too-wide .ensures) at (good .if1 .left) in
     let written = rw (header .header-of .ensures) at (at-write .write .ensures) in
-    let answer = rw (written .0) at (wrote .wrote .ensures) in
-    rw (w, ← answer) (refl, (written .1, put .put-length .ensures))
+    let handed = rw (written .0) at (c .before .before .hand-length .ensures) in
+    rw w (handed .0, (written .1, handed .1))
 
 pub hub-write-spec : {M : Type 1} → statement M
 hub-write-spec =
     tie.close (tie.spec
     _ (λ c. rw (← c .before .too-wide .ensures, c .if1 .taken) (refl, (refl, refl)))
-    header-of-requires _ _
+    header-of-requires _
     (λ c κs. search sizes) (λ c. search needs) (λ c. search needs) returns-2)

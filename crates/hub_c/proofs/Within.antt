@@ -1,0 +1,119 @@
+-- SPDX-License-Identifier: MPL-2.0
+-- The report that a step hands out lies in the report buffer. Where the last missing piece has the last index, 22 has seen to it; else that piece
+-- came before, the report's length was known, and a shorter buffer was a wrong one.
+use Rattle.laws.proofs.Kit.{ℕ, _+_, _-_, _*_, _<_, _≤_, _≡_, refl, sym, _∙_, ap, Bool, true, false, true≢false, not, List, _++_, length, eqb, eqb-true}
+use Rattle.laws.proofs.Kit.{eqb-false, ne-eqb, ltb, ltb-false, le-ltb, not-false, _&&_, _||_, arith}
+use Prim.Native.Nat.{zero-le}
+use Rattle.laws.specs.Rows.{first, testOf}
+use Rattle.laws.proofs.Bools.{or-false, or-none, and-false-right}
+use Rattle.laws.proofs.Cases.{on}
+use Rattle.laws.proofs.Firsts.{first-append, neither, row-false}
+use Rattle.laws.proofs.Runs.{length-gathered}
+use Rattle.wire.specs.Refusals.{unlikeFirstPiece}
+use Rattle.message.specs.Handed.{payload}
+use Rattle.message.specs.Reading.{workingAfter}
+use Rattle.message.specs.declared.reading.MessageRead.the-variants.{Read}
+use Rattle.joining.specs.declared.Progress.{Progress}
+use Rattle.joining.specs.declared.Piece.{Piece}
+use Rattle.joining.specs.Cut.{badSize}
+use Rattle.joining.specs.Heard.{most, tally, has, mark}
+use Rattle.joining.specs.Join.{unlike, isLast, lastOf, completes, sequenceRows, placeRows, repeatRows, joinRefusal}
+use Rattle.joining.proofs.Cuts.{good-size}
+use Rattle.joining.proofs.HeardLaws.{tally-some, mark-has, full-has}
+use Rattle.joining.proofs.JoinWays.{join-cases}
+use Rattle.joining.proofs.Refusals.{fitting}
+use Rattle.hub.specs.declared.Connection.{Connection}
+use Rattle.hub.specs.declared.Stepped.{Stepped}
+use Rattle.hub.specs.Answers.{said}
+use Rattle.hub.specs.Hear.{pieceIn, joined}
+use Rattle.hub.specs.Step.{step}
+use Rattle.hub.proofs.HostWays.{connect-cases}
+use Rattle.hub.proofs.StepCases.{hear-cases, step-cases}
+use Rattle.state.specs.Layout.{stateSize}
+use Rattle.state.specs.State.{bitAt, connectionAt}
+use Rattle.hub_c.specs.Sizes.{answerSize}
+use Rattle.hub_c.specs.Answered.{uncut, shortReport, wrongStep, WithinReport}
+
+-- A fragment size and a number of pieces as a report has them.
+pub cut-right : (t : Bool) (F count : ℕ) → t ≡ badSize F → (t || eqb count 0 || ltb most count) ≡ false → (F ≤ 16384) × (0 < count) × (count ≤ most)
+cut-right t F count s e =
+    let all = or-false (t || eqb count 0) (ltb most count) e in
+    let two = or-false t (eqb count 0) (all .0) in
+    (good-size F (sym s ∙ two .0) .1, omega (arith, eqb-false count 0 (two .1)), ltb-false most count (all .1))
+
+module _ (F : ℕ) (h : Progress) (p : Piece) (bytes report : List ℕ) (e : joinRefusal F h p bytes report ≡ 0) where
+  -- 21 does not apply.
+  alike : unlike h p ≡ false
+  unfolding joinRefusal
+  alike =
+      let sequences = sequenceRows F (h .expected) p in
+      let rest = placeRows F h p (length bytes) (length report) ++ repeatRows F h p bytes report in
+      row-false unlikeFirstPiece rest refl (neither (first sequences) (first rest) (sym (first-append sequences rest refl) ∙ e) .1)
+
+  -- So where an index is heard, the remembered count is the piece's.
+  same-count : (i : ℕ) → has (h .heard) i ≡ true → h .count ≡ p .count
+  same-count i heard =
+      let some = ne-eqb (tally (h .heard)) 0 (λ z. omega (arith, tally-some (h .heard) i heard)) in
+      let either = and-false-right (not (eqb (tally (h .heard)) 0)) _ alike (rw some) in
+      eqb-true (h .count) (p .count) (not-false _ (or-false (not (eqb (h .count) (p .count))) _ either .0))
+
+  -- Where the last missing piece is not the one with the last index, that one was heard before.
+  last-heard : length (h .heard) ≡ most → isLast p ≡ false → completes h p ≡ true → has (h .heard) (p .count - 1) ≡ true
+  last-heard long l d =
+      let f = fitting F h p bytes report e .0 in
+      let marked = full-has (p .count) (mark (h .heard) (p .index)) d (p .count - 1) (omega (arith, f .under)) in
+      let other = ne-eqb (p .count - 1) (p .index) (λ z. eqb-false (p .index + 1) (p .count) l (omega (arith, f .under))) in
+      sym (mark-has (h .heard) (p .index) (p .count - 1) (omega (arith, f .under, f .few)) ∙ rw other (or-none (has (h .heard) (p .count - 1)))) ∙ marked
+
+module _ (c : Connection) (long : length (c .progress .heard) ≡ most) where
+  -- A report whose length is known lies in the buffer.
+  known-within : (room : ℕ) → shortReport c room ≡ false → badSize (c .size) ≡ false → 0 < c .progress .count → c .progress .count ≤ most
+      → has (c .progress .heard) (c .progress .count - 1) ≡ true → c .size * (c .progress .count - 1) + c .progress .last ≤ room
+  unfolding shortReport
+  known-within room s sized some few heard =
+      let count = c .progress .count in
+      let tested = rw (sized, ne-eqb count 0 (λ z. omega arith), le-ltb most count few, heard) at s in
+      ltb-false room _ tested
+
+  -- The report of a piece that completes it.
+  complete-within : (p : Piece) (bytes report : List ℕ) → shortReport c (length report) ≡ false → badSize (c .size) ≡ false
+      → joinRefusal (c .size) (c .progress) p bytes report ≡ 0 → completes (c .progress) p ≡ true
+      → c .size * (p .count - 1) + lastOf (c .progress) p (length bytes) ≤ length report
+  complete-within p bytes report s z e d =
+      let f = fitting (c .size) (c .progress) p bytes report e in
+      on (isLast p)
+      (λ l. let i : p .count - 1 ≡ p .index = omega (arith, eqb-true (p .index + 1) (p .count) l) in rw (l, i) (f .1))
+      (λ l.
+      let heard = last-heard (c .size) (c .progress) p bytes report e long l d in
+      let same = same-count (c .size) (c .progress) p bytes report e (p .count - 1) heard in
+      rw (l, ← same) (known-within (length report) s z (rw same (omega (arith, f .0 .under))) (rw same (f .0 .few)) (rw same heard)))
+
+  -- What a step answers, by the way that it went: no answer but Complete has a length.
+  step-within : (m k w report : List ℕ) (v : ℕ) → shortReport c (length report) ≡ false
+      → said (step c m k w report v .answer) .detail ≤ length report
+  step-within m k w report v s =
+      step-cases c m k w report v Within (λ n. zero-le)
+      (λ z found e.
+      let h = found .header in
+      let p = payload m (workingAfter m k w) (Read found) in
+      hear-cases c h p report v Within (λ f. zero-le)
+      (λ f k. connect-cases c (h .session) p v (λ s. Within s report) zero-le (λ t. zero-le) (λ t s. zero-le) (λ t s. zero-le) (λ z. zero-le)
+      (λ t s. zero-le))
+      (λ f j.
+      join-cases (c .size) (c .progress) (pieceIn h) p report (λ j b. Within (joined c j) b) (λ e. zero-le) (λ e k. zero-le)
+      (λ e k d. complete-within (pieceIn h) p report s z e d) (λ e k d. zero-le))
+      (λ f k j. zero-le))
+    where
+      Within : Stepped → List ℕ → Type 0
+      Within s b = said (s .answer) .detail ≤ length report
+
+-- The heard set of a connection in bytes has a place for each index.
+heard-length : (s : List ℕ) → length (connectionAt s .progress .heard) ≡ most
+unfolding connectionAt
+heard-length s = length-gathered (bitAt s) most
+
+pub within-report : WithinReport
+within-report state message keys working report answer verdict right =
+    let c = connectionAt state in
+    let short = or-false (not (eqb (length state) stateSize) || not (eqb (length answer) answerSize)) (shortReport c (length report)) right .1 in
+    step-within c (heard-length state) message keys working report verdict short

@@ -1,0 +1,43 @@
+-- SPDX-License-Identifier: MPL-2.0
+-- The payload writers in words: when a buffer or a word is wrong, and else what the writer of a format answers and leaves.
+use Prim.Native.Nat.{ℕ}
+use mathlib.Core.List.{List, [], _∷_}
+use mathlib.Core.Bool.{Bool, cond, not, _||_}
+use lib.Dec.{eqb, ltb}
+use Rattle.payloads.specs.Format.{Format, Values}
+use Rattle.payloads.specs.declared.reading.Request.{Request}
+use Rattle.writer.specs.Answers.{wrote}
+use Rattle.writer.specs.Payload.{payloadWritten, payloadOutput}
+use Rattle.hub_c.specs.Sizes.{wrongBuffer}
+
+-- The bytes of a nonce.
+abbrev pub nonceSize : ℕ
+nonceSize = 8
+
+-- The bytes of X, and of Y.
+abbrev pub coordinateSize : ℕ
+coordinateSize = 32
+
+-- The buffer of the length has another size, a mode more than 16 bits, or a type, a Result or a Status more than 8.
+unfoldable pub wrongWords : (size mode code : ℕ) → Bool
+wrongWords size mode code = not (eqb size 1) || ltb 65535 mode || ltb 255 code
+
+-- Nonce, X or Y has another size.
+unfoldable pub wrongExchange : (nonce x y : ℕ) → Bool
+wrongExchange nonce x y = not (eqb nonce nonceSize) || not (eqb x coordinateSize) || not (eqb y coordinateSize)
+
+-- Nonce, X and Y together.
+abbrev pub exchangeOf : (nonce x y : List ℕ) → Request
+exchangeOf nonce x y = record { nonce = nonce; x = x; y = y }
+
+-- The number that a call answers.
+abbrev pub numberGiven : (wrong : Bool) (f : Format) → Values f → (out : List ℕ) → ℕ
+numberGiven wrong f v out = cond wrong wrongBuffer (wrote (payloadWritten f v out) .refusal)
+
+-- What its output then holds.
+abbrev pub bytesGiven : (wrong : Bool) (f : Format) → Values f → (out : List ℕ) → List ℕ
+bytesGiven wrong f v out = cond wrong out (payloadOutput f v out)
+
+-- What the word of the length then holds.
+abbrev pub lengthGiven : (wrong : Bool) (f : Format) → Values f → (out size : List ℕ) → List ℕ
+lengthGiven wrong f v out size = cond wrong size (wrote (payloadWritten f v out) .size ∷ [])

@@ -1,0 +1,392 @@
+// SPDX-License-Identifier: MPL-2.0
+//! The payloads of Discovery and Connect messages, as types.
+//!
+//! A gateway enrols by three requests, each of which the hub replies to. They are the six kinds of
+//! [`Connect`]:
+//!
+//! | The gateway's | The hub's | On the wire |
+//! |---|---|---|
+//! | [`ConnectionRequest`](Connect::ConnectionRequest) | [`ConnectionResponse`](Connect::ConnectionResponse) | plain |
+//! | [`DeviceAuthenticationRequest`](Connect::DeviceAuthenticationRequest) | [`DeviceAuthenticationResponse`](Connect::DeviceAuthenticationResponse) | sealed |
+//! | [`DoneRequest`](Connect::DoneRequest) | [`DoneResponse`](Connect::DoneResponse) | sealed |
+//!
+//! A payload is written into a buffer, and goes from there with its header into a message:
+//!
+//! ```
+//! use hlidunsk::payload::{Connect, Exchange, Mode, MOST_PAYLOAD};
+//! use hlidunsk::{read, write, Refusal, MOST_REPLY, NO_ENTRIES};
+//!
+//! // The nonce is random, and x and y are the gateway's public key.
+//! let exchange = Exchange { nonce: *b"a nonce.", x: [1; 32], y: [2; 32] };
+//! let request = Connect::ConnectionRequest { mode: Mode::Proximal, exchange };
+//! let (mut payload, mut message) = ([0; MOST_PAYLOAD], [0; MOST_REPLY]);
+//! let length = request.write(&mut payload)?;
+//! let header = request.header(42, 0x8000_0000);
+//! let length = write(&header, NO_ENTRIES, &payload[..length], None, &mut message)?;
+//!
+//! // And back.
+//! let came = read(&message[..length], None, &mut [])?;
+//! assert_eq!(Connect::read(came.payload)?, request);
+//! # Ok::<(), Refusal>(())
+//! ```
+
+use crate::message::part;
+use crate::{ffi, Header, MessageType, Refusal};
+
+/// The longest payload of Discovery and Connect: room of this size is enough for all.
+pub const MOST_PAYLOAD: usize = 2_567;
+
+/// The longest certificate; the shortest has one byte.
+pub const MOST_CERTIFICATE: usize = 2_048;
+
+/// The longest thumbprint; it may be empty.
+pub const MOST_THUMBPRINT: usize = 512;
+
+// The types of Connect payloads: the byte after ConnectionMode.
+const CONNECTION_REQUEST: u64 = 0;
+pub(crate) const CONNECTION_RESPONSE: u64 = 1;
+const AUTHENTICATION_REQUEST: u64 = 2;
+pub(crate) const AUTHENTICATION_RESPONSE: u64 = 3;
+const DONE_REQUEST: u64 = 6;
+pub(crate) const DONE_RESPONSE: u64 = 7;
+
+/// A part of a payload that has a fixed size.
+fn fixed<const N: usize>(part: &[u8]) -> Result<[u8; N], Refusal> {
+    part.try_into().map_err(|_| Refusal::Unknown)
+}
+
+/// ConnectionMode of a Connect payload, by MS-CDP's names. The hub makes nothing of it.
+#[derive(Clone, Copy, Debug, Default, PartialEq, Eq, Hash)]
+#[repr(u16)]
+pub enum Mode {
+    /// 0.
+    #[default]
+    None = 0,
+    /// 1.
+    Proximal = 1,
+    /// 2.
+    Legacy = 2,
+}
+
+impl Mode {
+    /// Its number on the wire.
+    pub fn number(self) -> u16 {
+        self as u16
+    }
+
+    /// The mode with this number on the wire.
+    pub fn from_number(number: u16) -> Option<Mode> {
+        [Mode::None, Mode::Proximal, Mode::Legacy].get(usize::from(number)).copied()
+    }
+}
+
+/// One side's half of the key agreement: what a Connection Request carries, and a Connection
+/// Response that is Pending.
+#[derive(Clone, Copy, Debug, PartialEq, Eq, Hash)]
+pub struct Exchange {
+    /// The nonce: random, and new for each request and for each response that is not sent again.
+    pub nonce: [u8; 8],
+    /// X of the sender's public key.
+    pub x: [u8; 32],
+    /// Y of the sender's public key.
+    pub y: [u8; 32],
+}
+
+/// The Result of a Connection Response, by MS-CDP's names.
+#[derive(Clone, Copy, Debug, PartialEq, Eq, Hash)]
+pub enum ConnectionResult {
+    /// 0.
+    Success,
+    /// 1: authentication is to follow, under the keys that the agreement leads to; the hub's half
+    /// of it.
+    Pending(Exchange),
+    /// 2.
+    FailureAuthentication,
+    /// 3.
+    FailureNotAllowed,
+}
+
+impl ConnectionResult {
+    /// Its number on the wire, and what follows it there: nonce, X and Y, or nothing.
+    fn parts(&self) -> (u64, [&[u8]; 3]) {
+        match self {
+            ConnectionResult::Success => (0, [&[]; 3]),
+            ConnectionResult::Pending(Exchange { nonce, x, y }) => (1, [nonce, x, y]),
+            ConnectionResult::FailureAuthentication => (2, [&[]; 3]),
+            ConnectionResult::FailureNotAllowed => (3, [&[]; 3]),
+        }
+    }
+}
+
+/// The Status of an Authentication Done Response, by MS-CDP's names.
+#[derive(Clone, Copy, Debug, PartialEq, Eq, Hash)]
+#[repr(u8)]
+pub enum Status {
+    /// 0: what a hub replies.
+    Success = 0,
+    /// 1.
+    Pending = 1,
+    /// 2.
+    FailureAuthentication = 2,
+    /// 3.
+    FailureNotAllowed = 3,
+    /// 4.
+    FailureUnknown = 4,
+}
+
+impl Status {
+    /// Its number on the wire.
+    pub fn number(self) -> u8 {
+        self as u8
+    }
+
+    /// The status with this number on the wire.
+    pub fn from_number(number: u8) -> Option<Status> {
+        use Status::*;
+        [Success, Pending, FailureAuthentication, FailureNotAllowed, FailureUnknown]
+            .get(usize::from(number))
+            .copied()
+    }
+
+    pub(crate) fn from_word(word: u64) -> Result<Status, Refusal> {
+        u8::try_from(word).ok().and_then(Status::from_number).ok_or(Refusal::Unknown)
+    }
+}
+
+/// The payload of a Presence Request, a Discovery message: it asks who is there.
+#[derive(Clone, Copy, Debug, Default, PartialEq, Eq, Hash)]
+pub struct PresenceRequest;
+
+impl PresenceRequest {
+    /// The header of its message: plain, and 0 in every field that may be.
+    pub fn header(&self) -> Header {
+        Header::whole(MessageType::Discovery, false)
+    }
+
+    /// Writes the payload, one byte, at the front of `out`, and answers its length.
+    ///
+    /// # Errors
+    ///
+    /// Refusal 22 where `out` is empty.
+    pub fn write(&self, out: &mut [u8]) -> Result<usize, Refusal> {
+        let mut length = [0];
+        // SAFETY: pointers and lengths are those of slices; the two do not overlap.
+        Refusal::of(unsafe {
+            ffi::hub_write_presence_request(
+                out.as_mut_ptr(),
+                out.len(),
+                length.as_mut_ptr(),
+                length.len(),
+            )
+        })?;
+        Ok(length[0] as usize)
+    }
+}
+
+/// The payload of a Connect message. Later versions may have more kinds of them.
+#[derive(Clone, Copy, Debug, PartialEq, Eq, Hash)]
+#[non_exhaustive]
+pub enum Connect<'a> {
+    /// Connection Request: a gateway asks. Plain.
+    ConnectionRequest {
+        /// ConnectionMode.
+        mode: Mode,
+        /// The gateway's half of the key agreement.
+        exchange: Exchange,
+    },
+    /// Connection Response: the hub's reply to it. Plain.
+    ConnectionResponse {
+        /// ConnectionMode.
+        mode: Mode,
+        /// Result; where it is Pending, the hub's half of the key agreement.
+        result: ConnectionResult,
+    },
+    /// Device Authentication Request: a gateway shows who it is. Sealed.
+    DeviceAuthenticationRequest {
+        /// ConnectionMode.
+        mode: Mode,
+        /// The gateway's certificate, 1 to [`MOST_CERTIFICATE`] bytes.
+        certificate: &'a [u8],
+        /// The signed thumbprint, at most [`MOST_THUMBPRINT`] bytes.
+        thumbprint: &'a [u8],
+    },
+    /// Device Authentication Response: the hub shows who it is. Sealed.
+    DeviceAuthenticationResponse {
+        /// ConnectionMode.
+        mode: Mode,
+        /// The hub's certificate, 1 to [`MOST_CERTIFICATE`] bytes.
+        certificate: &'a [u8],
+        /// The signed thumbprint, at most [`MOST_THUMBPRINT`] bytes.
+        thumbprint: &'a [u8],
+    },
+    /// Authentication Done Request: a gateway has accepted the hub's certificate. Sealed.
+    DoneRequest {
+        /// ConnectionMode.
+        mode: Mode,
+    },
+    /// Authentication Done Response: the hub is ready for reports. Sealed.
+    DoneResponse {
+        /// ConnectionMode.
+        mode: Mode,
+        /// Status.
+        status: Status,
+    },
+}
+
+impl<'a> Connect<'a> {
+    /// Whether its message is sealed. Connection Request and Connection Response are plain, the
+    /// others sealed; the other way a message is refused with 14.
+    pub fn is_sealed(&self) -> bool {
+        !matches!(self, Connect::ConnectionRequest { .. } | Connect::ConnectionResponse { .. })
+    }
+
+    /// ConnectionMode.
+    pub fn mode(&self) -> Mode {
+        match *self {
+            Connect::ConnectionRequest { mode, .. }
+            | Connect::ConnectionResponse { mode, .. }
+            | Connect::DeviceAuthenticationRequest { mode, .. }
+            | Connect::DeviceAuthenticationResponse { mode, .. }
+            | Connect::DoneRequest { mode }
+            | Connect::DoneResponse { mode, .. } => mode,
+        }
+    }
+
+    /// The header of its message, with the flags of a sealed one where it is sealed; RequestID and
+    /// ChannelID are 0. Give no two sealed messages under the same keys the same two numbers.
+    pub fn header(&self, session: u64, sequence: u32) -> Header {
+        Header { session, sequence, ..Header::whole(MessageType::Connect, self.is_sealed()) }
+    }
+
+    /// Writes the payload at the front of `out`, and answers its length. What is beyond it is
+    /// unchanged.
+    ///
+    /// ```
+    /// # use hlidunsk::payload::{Connect, Mode, MOST_CERTIFICATE, MOST_PAYLOAD};
+    /// # use hlidunsk::Refusal;
+    /// let mut out = [0; MOST_PAYLOAD];
+    /// let show = |certificate| {
+    ///     Connect::DeviceAuthenticationRequest { mode: Mode::None, certificate, thumbprint: &[] }
+    /// };
+    /// assert_eq!(show(b"gateway 7").write(&mut out), Ok(16));
+    /// assert_eq!(show(b"gateway 7").write(&mut out[..15]), Err(Refusal::NoRoom));
+    /// assert_eq!(show(&[0; MOST_CERTIFICATE + 1]).write(&mut out), Err(Refusal::WrongPayload));
+    /// ```
+    ///
+    /// # Errors
+    ///
+    /// Refusal 14 where the certificate has not 1 to [`MOST_CERTIFICATE`] bytes or the thumbprint
+    /// has over [`MOST_THUMBPRINT`], then 22 where `out` is too short. `out` is as it was.
+    pub fn write(&self, out: &mut [u8]) -> Result<usize, Refusal> {
+        let mut length = [0];
+        let (to, to_n) = (out.as_mut_ptr(), out.len());
+        let (put, put_n) = (length.as_mut_ptr(), length.len());
+        let mode = self.mode().number().into();
+        // SAFETY: pointers and lengths are those of slices; the mutable ones overlap no other.
+        Refusal::of(unsafe {
+            match self {
+                Connect::ConnectionRequest { exchange: Exchange { nonce, x, y }, .. } => {
+                    let (nonce, nonce_n) = (nonce.as_ptr(), nonce.len());
+                    let (x, x_n, y, y_n) = (x.as_ptr(), x.len(), y.as_ptr(), y.len());
+                    ffi::hub_write_connection_request(
+                        mode, nonce, nonce_n, x, x_n, y, y_n, to, to_n, put, put_n,
+                    )
+                }
+                Connect::ConnectionResponse { result, .. } => {
+                    let (number, [nonce, x, y]) = result.parts();
+                    let (nonce, nonce_n) = (nonce.as_ptr(), nonce.len());
+                    let (x, x_n, y, y_n) = (x.as_ptr(), x.len(), y.as_ptr(), y.len());
+                    ffi::hub_write_connection_response(
+                        mode, number, nonce, nonce_n, x, x_n, y, y_n, to, to_n, put, put_n,
+                    )
+                }
+                Connect::DeviceAuthenticationRequest { certificate, thumbprint, .. }
+                | Connect::DeviceAuthenticationResponse { certificate, thumbprint, .. } => {
+                    let request = matches!(self, Connect::DeviceAuthenticationRequest { .. });
+                    let connect =
+                        if request { AUTHENTICATION_REQUEST } else { AUTHENTICATION_RESPONSE };
+                    let (shown, shown_n) = (certificate.as_ptr(), certificate.len());
+                    let (print, print_n) = (thumbprint.as_ptr(), thumbprint.len());
+                    ffi::hub_write_device_authentication(
+                        connect, mode, shown, shown_n, print, print_n, to, to_n, put, put_n,
+                    )
+                }
+                Connect::DoneRequest { .. } => {
+                    ffi::hub_write_done_request(mode, to, to_n, put, put_n)
+                }
+                Connect::DoneResponse { status, .. } => {
+                    let status = status.number().into();
+                    ffi::hub_write_done_response(mode, status, to, to_n, put, put_n)
+                }
+            }
+        })?;
+        Ok(length[0] as usize)
+    }
+
+    /// Reads the payload of a Connect message. Certificate and thumbprint are parts of it.
+    ///
+    /// ```
+    /// # use hlidunsk::payload::{Connect, Mode};
+    /// # use hlidunsk::Refusal;
+    /// # let mut room = [0; 16];
+    /// # let (certificate, thumbprint) = (&b"gateway 7"[..], &b""[..]);
+    /// # Connect::DeviceAuthenticationRequest { mode: Mode::None, certificate, thumbprint }
+    /// #     .write(&mut room)?;
+    /// # let payload = &room;
+    /// let accepted = match Connect::read(payload)? {
+    ///     Connect::DeviceAuthenticationRequest { certificate, .. } => certificate == b"gateway 7",
+    ///     _ => false,
+    /// };
+    /// assert!(accepted);
+    /// assert_eq!(Connect::read(b"any bytes"), Err(Refusal::WrongPayload));
+    /// # Ok::<(), Refusal>(())
+    /// ```
+    ///
+    /// # Errors
+    ///
+    /// Refusal 14 where it is none of document 01's six, plain or sealed.
+    pub fn read(payload: &'a [u8]) -> Result<Connect<'a>, Refusal> {
+        let mut words = [0; 13];
+        // SAFETY: pointers and lengths are those of slices; the two do not overlap.
+        Refusal::of(unsafe {
+            ffi::hub_read_connect(payload.as_ptr(), payload.len(), words.as_mut_ptr(), words.len())
+        })?;
+        Connect::from_words(&words, payload)
+    }
+
+    /// The library's words are numbers of document 01, and name parts of the payload.
+    fn from_words(words: &[u64; 13], payload: &'a [u8]) -> Result<Connect<'a>, Refusal> {
+        let [connect, mode, code, nonce, nonce_n, x, x_n, y, y_n, shown, shown_n, print, print_n] =
+            *words;
+        let exchange = || {
+            let nonce = fixed(part(payload, nonce, nonce_n)?)?;
+            let (x, y) = (fixed(part(payload, x, x_n)?)?, fixed(part(payload, y, y_n)?)?);
+            Ok(Exchange { nonce, x, y })
+        };
+        let certificate = part(payload, shown, shown_n)?;
+        let thumbprint = part(payload, print, print_n)?;
+        let mode = u16::try_from(mode).ok().and_then(Mode::from_number).ok_or(Refusal::Unknown)?;
+        Ok(match connect {
+            CONNECTION_REQUEST => Connect::ConnectionRequest { mode, exchange: exchange()? },
+            CONNECTION_RESPONSE => {
+                let result = match code {
+                    0 => ConnectionResult::Success,
+                    1 => ConnectionResult::Pending(exchange()?),
+                    2 => ConnectionResult::FailureAuthentication,
+                    3 => ConnectionResult::FailureNotAllowed,
+                    _ => return Err(Refusal::Unknown),
+                };
+                Connect::ConnectionResponse { mode, result }
+            }
+            AUTHENTICATION_REQUEST => {
+                Connect::DeviceAuthenticationRequest { mode, certificate, thumbprint }
+            }
+            AUTHENTICATION_RESPONSE => {
+                Connect::DeviceAuthenticationResponse { mode, certificate, thumbprint }
+            }
+            DONE_REQUEST => Connect::DoneRequest { mode },
+            DONE_RESPONSE => Connect::DoneResponse { mode, status: Status::from_word(code)? },
+            _ => return Err(Refusal::Unknown),
+        })
+    }
+}
