@@ -45,9 +45,9 @@
  * nothing to prepare, and nothing to keep or to erase between calls but the key bytes themselves.
  *
  * Vectors. A sealed message's vector is made of SessionID, SequenceNumber, FragmentIndex and FragmentCount. Under one set of keys two sealed
- * messages of different content never have the same four, whichever side sends them. Reports are numbered from 0 on, one number each. The hub does not look
- * at the SequenceNumber of a Connect message, so give those numbers that no report has, and hub and gateway a range each: host/c counts the
- * gateway's Connect messages from 0x80000000 on, the hub's from 0xC0000000.
+ * messages of different content never have the same four, whichever side sends them. Reports are numbered from 0 on, one number each. The hub does
+ * not look at the SequenceNumber of a Connect message, so give those numbers that no report has, and hub and gateway a range each: host/c counts
+ * the gateway's Connect messages from 0x80000000 on, the hub's from 0xC0000000.
  *
  * Fragment size. F, the bytes of a piece, is agreed on outside the protocol, and both sides use the same. It is not the fragment size of a
  * Connection Request, which document 01 fixes at 16,384 and which nothing here looks at.
@@ -61,18 +61,19 @@
  * returned", and gives this message the type number 8, HUB_CONNECT_FAILURE. How it is sent is the caller's: hub_write refuses it with 14, since
  * document 01 has no such payload. The connection is in state HUB_FAILED from then on, where every message is refused: only hub_open helps.
  *
- * Verdicts. The verdict matters for one message alone, a Device Authentication Request, which is sealed, in state HUB_WAITING_FOR_AUTHENTICATION. Only there need a caller
- * read the message before the step: hub_read_header says whether it is sealed, hub_read opens it, hub_read_connect says where its certificate lies. Compare
- * the length of a certificate as well as its bytes. For every other message any verdict of 0 or 1 gives the same.
+ * Verdicts. The verdict matters for one message alone, a Device Authentication Request, which is sealed, in state HUB_WAITING_FOR_AUTHENTICATION.
+ * Only there need a caller read the message before the step: hub_read_header says whether it is sealed, hub_read opens it, hub_read_connect says
+ * where its certificate lies. Compare the length of a certificate as well as its bytes. For every other message any verdict of 0 or 1 gives the
+ * same.
  *
  * Reports. Lend a connection the same report buffer at each step, and leave it alone, until the report is complete; then take the report before the
  * next step. A connection comes from hub_open and goes through hub_step alone. Then the first answer[HUB_ANSWER_LENGTH] bytes of report are, at
  * HUB_COMPLETE, the report as it was sent (DemandThree). Whatever is lent, that number is never more than report_n (WithinReport).
  *
  * Refusals. Most are harmless, and a hub drops the message and goes on: connection and report buffer are as they were. 17 is what late copies of a
- * report that is complete get, 11 what damaged or foreign bytes do, 15 and 16 what strangers and old requests do, 18 a report that comes too early (it is
- * sent again, or lost). 10, 12, 22, 24, 25 and 255 are the caller's own: keys, a buffer, F or a verdict are not as they should be. 19
- * is for a number that no report has, 2^32 - 1: after report 2^32 - 2 open a new connection, with new keys. hub_text has a sentence for each.
+ * report that is complete get, 11 what damaged or foreign bytes do, 15 and 16 what strangers and old requests do, 18 a report that comes too early
+ * (it is sent again, or lost). 10, 12, 22, 24, 25 and 255 are the caller's own: keys, a buffer, F or a verdict are not as they should be. 19 is for
+ * a number that no report has, 2^32 - 1: after report 2^32 - 2 open a new connection, with new keys. hub_text has a sentence for each.
  *
  *
  * WHO OWNS WHICH MEMORY
@@ -113,8 +114,8 @@
  * On a refusal, 1 to 25, every byte of every buffer is exactly as it was before, and every word that the call hands out (header, length, answer,
  * piece, connect) is 0. What a call does otherwise its "On refusal" names. No call that is done hands out zeros alone, but for hub_payload.
  *
- * On HUB_WRONG_BUFFER every buffer is exactly as it was before, each byte and each word of it. It is answered where a buffer of fixed size has another
- * size, where a word is too wide for its field, and where hub_step is lent a report buffer that is shorter than the report.
+ * On HUB_WRONG_BUFFER every buffer is exactly as it was before, each byte and each word of it. It is answered where a buffer of fixed size has
+ * another size, where a word is too wide for its field, and where hub_step is lent a report buffer that is shorter than the report.
  *
  * A buffer declared const is never changed. What is not named as written is not written.
  *
@@ -135,9 +136,9 @@
  *
  * VERSIONS
  *
- * HUB_VERSION is the header's, hub_version the library's. The first number rises where a caller has to change something: a name or a declaration here,
- * or the meaning of the 151 bytes of a connection. So connections that were stored under one first number may be read under another only where
- * docs/CHANGES.md says how; under the same first number all are read. The second number rises where something is added.
+ * HUB_VERSION is the header's, hub_version the library's. The first number rises where a caller has to change something: a name or a declaration
+ * here, or the meaning of the 151 bytes of a connection. So connections that were stored under one first number may be read under another only
+ * where docs/CHANGES.md says how; under the same first number all are read. The second number rises where something is added.
  */
 #ifndef HLIDUNSK_HUB_H
 #define HLIDUNSK_HUB_H
@@ -160,19 +161,19 @@ extern "C" {
 #define HUB_VERSION 0x00010000u
 
 /* Sizes of the buffers of fixed size; bytes, or words of 64 bits where so said. */
-#define HUB_STATE 151  /* a connection */
-#define HUB_HEADER 11  /* words: a header that was read, and the place of its payload */
-#define HUB_FIELDS 8   /* words: the fields of a header to be written */
-#define HUB_PLACE 3    /* words: where a payload lies */
-#define HUB_ANSWER 3   /* words: what a step answers */
-#define HUB_PIECE 3    /* words: a piece of a report */
-#define HUB_LENGTH 1   /* words: how many bytes were written */
-#define HUB_DIGEST 32  /* a SHA-256 digest, and a tag */
-#define HUB_KEYS 64    /* keys */
-#define HUB_LINE 64    /* a line of the listing */
-#define HUB_CONNECT 13 /* words: what a Connect payload says */
-#define HUB_NONCE 8    /* a nonce */
+#define HUB_STATE 151     /* a connection */
+#define HUB_HEADER 11     /* words: a header that was read, and the place of its payload */
+#define HUB_FIELDS 8      /* words: the fields of a header to be written */
+#define HUB_PLACE 3       /* words: where a payload lies */
+#define HUB_CONNECT 13    /* words: what a Connect payload says */
+#define HUB_ANSWER 3      /* words: what a step answers */
+#define HUB_PIECE 3       /* words: a piece of a report */
+#define HUB_LENGTH 1      /* words: how many bytes were written */
+#define HUB_DIGEST 32     /* a SHA-256 digest, and a tag */
+#define HUB_KEYS 64       /* keys */
+#define HUB_NONCE 8       /* a nonce */
 #define HUB_COORDINATE 32 /* X, and Y, of a public key */
+#define HUB_LINE 64       /* a line of the listing */
 
 /* Bounds of document 01. */
 #define HUB_LEAST_MESSAGE 42         /* the shortest message */
@@ -517,7 +518,7 @@ uint32_t hub_read_header(const uint8_t *message, size_t message_n, uint64_t *hea
  */
 HUB_ANSWER_MATTERS
 uint32_t hub_read(const uint8_t *message, size_t message_n, const uint8_t *keys, size_t keys_n, uint8_t *working, size_t working_n, uint64_t *header,
-                 size_t header_n);
+                  size_t header_n);
 
 /*
  * Says where the payload of a message that hub_read has read lies. It trusts no number: what it answers is always inside the buffers given.
@@ -537,7 +538,7 @@ uint32_t hub_read(const uint8_t *message, size_t message_n, const uint8_t *keys,
  */
 HUB_ANSWER_MATTERS
 uint32_t hub_payload(const uint8_t *message, size_t message_n, const uint8_t *working, size_t working_n, const uint64_t *header, size_t header_n,
-                    uint64_t *place, size_t place_n);
+                     uint64_t *place, size_t place_n);
 
 /*
  * Writes a message; sealed where both bits of HUB_SEAL are set in its flags.
@@ -560,7 +561,7 @@ uint32_t hub_payload(const uint8_t *message, size_t message_n, const uint8_t *wo
  */
 HUB_ANSWER_MATTERS
 uint32_t hub_write(const uint64_t *fields, size_t fields_n, const uint8_t *chain, size_t chain_n, const uint8_t *payload, size_t payload_n,
-                  const uint8_t *keys, size_t keys_n, uint8_t *out, size_t out_n, uint64_t *length, size_t length_n);
+                   const uint8_t *keys, size_t keys_n, uint8_t *out, size_t out_n, uint64_t *length, size_t length_n);
 
 /*
  * The payloads of Discovery and Connect: six writers, and a reader of Connect payloads. A writer puts its payload at the start of out, for hub_write.
@@ -597,7 +598,8 @@ uint32_t hub_write_connection_response(uint64_t mode, uint64_t result, const uin
 
 /*
  * The payload of a Device Authentication Request or Response, which is sealed, by its type: HUB_AUTHENTICATION_REQUEST or
- * HUB_AUTHENTICATION_RESPONSE. The certificate has 1 to HUB_MOST_CERTIFICATE bytes, the thumbprint at most HUB_MOST_THUMBPRINT; the payload has 7 more.
+ * HUB_AUTHENTICATION_RESPONSE. The certificate has 1 to HUB_MOST_CERTIFICATE bytes, the thumbprint at most HUB_MOST_THUMBPRINT; the payload has 7
+ * more.
  */
 HUB_ANSWER_MATTERS
 uint32_t hub_write_device_authentication(uint64_t type, uint64_t mode, const uint8_t *certificate, size_t certificate_n, const uint8_t *thumbprint,
@@ -607,7 +609,10 @@ uint32_t hub_write_device_authentication(uint64_t type, uint64_t mode, const uin
 HUB_ANSWER_MATTERS
 uint32_t hub_write_done_request(uint64_t mode, uint8_t *out, size_t out_n, uint64_t *length, size_t length_n);
 
-/* The payload of an Authentication Done Response, which is sealed: 4 bytes. The status is a hub_code, 0 to 4; a hub replies with HUB_ANSWER_STATUS. */
+/*
+ * The payload of an Authentication Done Response, which is sealed: 4 bytes. The status is a hub_code, 0 to 4; a hub replies with
+ * HUB_ANSWER_STATUS.
+ */
 HUB_ANSWER_MATTERS
 uint32_t hub_write_done_response(uint64_t mode, uint64_t status, uint8_t *out, size_t out_n, uint64_t *length, size_t length_n);
 
@@ -620,8 +625,8 @@ uint32_t hub_write_done_response(uint64_t mode, uint64_t status, uint8_t *out, s
  * Returns   HUB_DONE, HUB_WRONG_BUFFER (connect), then 14 where the payload is none of the six of document 01, plain or sealed.
  * On done   connect holds the words of hub_connect_word. Each part that it names lies in the payload; those that this type has not are 0, 0.
  * On refusal connect is all zero: every part is empty.
- * Proved    ConnectBack: of a payload that the calls above wrote, the words are what was given, and the bytes at the places. ConnectLies: the parts lie
- *           in the payload, on every payload.
+ * Proved    ConnectBack: of a payload that the calls above wrote, the words are what was given, and the bytes at the places. ConnectLies: the parts
+ *           lie in the payload, on every payload.
  */
 HUB_ANSWER_MATTERS
 uint32_t hub_read_connect(const uint8_t *payload, size_t payload_n, uint64_t *connect, size_t connect_n);
@@ -661,8 +666,8 @@ uint32_t hub_open(uint64_t fragment_size, uint8_t *state, size_t state_n);
  *           the piece is in report from F times its index on, no other byte of it changed. HUB_COMPLETE: the report has
  *           answer[HUB_ANSWER_LENGTH] bytes, never more than report_n; its SequenceNumber was the expected one before this step; and where the
  *           connection came from hub_open and hub_step alone, and the report buffer was the same and left alone since the report's first piece, it is
- *           the first bytes of report. The other kinds leave report unchanged;
- *           HUB_AGAIN and HUB_REPEAT state too. The first bytes of working hold the opened sealed part of a sealed message.
+ *           the first bytes of report. The other kinds leave report unchanged; HUB_AGAIN and HUB_REPEAT state too. The first bytes of working hold
+ *           the opened sealed part of a sealed message.
  * On refusal answer is 0, 0, 0 (HUB_REFUSED); state and report are as they were. So is working for 1 to 13, 24 and 25; for the others its first
  *           bytes hold the opened sealed part of a sealed message.
  * Proved    StepExact, LeavesAlone, WorkingBuffer, ByHostStates, StepsByState, RepeatedStep, RepeatedBytes, OnlyByZero, HeardCount, DemandThree,
@@ -670,7 +675,7 @@ uint32_t hub_open(uint64_t fragment_size, uint8_t *state, size_t state_n);
  */
 HUB_ANSWER_MATTERS
 uint32_t hub_step(uint8_t *state, size_t state_n, const uint8_t *message, size_t message_n, const uint8_t *keys, size_t keys_n, uint8_t *working,
-                 size_t working_n, uint8_t *report, size_t report_n, uint64_t verdict, uint64_t *answer, size_t answer_n);
+                  size_t working_n, uint8_t *report, size_t report_n, uint64_t verdict, uint64_t *answer, size_t answer_n);
 
 /*
  * Cuts a report: says where its piece lies.
