@@ -39,41 +39,54 @@
  *
  * WHAT THE MAKER OF A HUB MUST KNOW
  *
- * Keys. The 64 key bytes come from a key agreement outside this library, and are new for each connection. Under old keys and an old SessionID a
- * new connection takes old messages once more; so does an old copy of a connection that is put back from a backup: store the newest copy alone, and
- * open anew, with new keys, where it is lost. Until there are keys give a step none (a null pointer, 0). Each call sets up its keys anew: there is
- * nothing to prepare, and nothing to keep or to erase between calls but the key bytes themselves.
+ * Keys. The 64 key bytes come from a key agreement outside this library, and are new for each connection. The Connection Request and the Response,
+ * which give X, Y and nonces to it, are plain: keys or verdict must depend on all of these, for else it goes unnoticed where the link has damaged
+ * one or a stranger made it. Under old keys and an old SessionID a new connection takes old messages once more; so does an old copy of a connection
+ * that is put back from a backup: store the newest copy alone, and open anew, with new keys, where it is lost. Until there are keys give a step
+ * none (a null pointer, 0). Each call sets up its keys anew: there is nothing to prepare, and nothing to keep or to erase between calls but the key
+ * bytes themselves.
  *
  * Vectors. A sealed message's vector is made of SessionID, SequenceNumber, FragmentIndex and FragmentCount. Under one set of keys two sealed
- * messages of different content never have the same four, whichever side sends them. Reports are numbered from 0 on, one number each. The hub does
- * not look at the SequenceNumber of a Connect message, so give those numbers that no report has, and hub and gateway a range each: host/c counts
- * the gateway's Connect messages from 0x80000000 on, the hub's from 0xC0000000.
+ * messages of different content must never have the same four, whichever side sends them. Reports are numbered from 0 on, one number each. The hub
+ * does not look at the SequenceNumber of a Connect message, so give those numbers that no report has, and hub and gateway a range each: host/c
+ * counts the gateway's Connect messages from 0x80000000 on, the hub's from 0xC0000000.
+ *
+ * Other fields. The gateway draws the SessionID, and every message of the connection has it, the replies too: hub_read_header says which it is. All
+ * pieces of a report have one ChannelID. Nothing here looks at RequestID.
  *
  * Fragment size. F, the bytes of a piece, is agreed on outside the protocol, and both sides use the same. It is not the fragment size of a
  * Connection Request, which document 01 fixes at 16,384 and which nothing here looks at.
  *
- * Replies. On HUB_REPLY the caller writes the reply, sends it, and keeps its bytes. On HUB_AGAIN the gateway has not heard it: send the same bytes
- * again. Writing them anew is as good if every field, the payload and the keys are the same, for then the bytes are too; a Connection Response
- * with another nonce, or another payload under numbers that were used, is not. The replies of one connection are three messages of at most
- * HUB_MOST_REPLY bytes each.
+ * Replies. On HUB_REPLY the caller writes the reply, sends it, and keeps its bytes. A gateway that hears none in its time sends its request again,
+ * the same bytes; then the hub's answer is HUB_AGAIN: send the same bytes again too. Writing them anew is as good if every field, the payload and
+ * the keys are the same, for then the bytes are too; a Connection Response with another nonce, or another payload under numbers that were used, is
+ * not. The replies of one connection are three messages of at most HUB_MOST_REPLY bytes each.
+ *
+ * Strangers. A Connection Request is plain, so anybody can make one, and the link can damage one unnoticed. Where a connection has taken such a
+ * one, and is in state HUB_WAITING_FOR_AUTHENTICATION, the gateway's own is refused with 15 or 16: have a new connection take it, by hub_open and a
+ * step without keys, and put that in the place of the first (open_anew in host/c/hub.c). A gateway whose sealed requests get no reply starts over
+ * with its Connection Request.
  *
  * Failure. On HUB_FAILURE the verdict was 0. MS-CDP (2.2.2.3.10) says: "If the authentication process itself fails to complete, an empty payload is
  * returned", and gives this message the type number 8, HUB_CONNECT_FAILURE. How it is sent is the caller's: hub_write refuses it with 14, since
  * document 01 has no such payload. The connection is in state HUB_FAILED from then on, where every message is refused: only hub_open helps.
  *
  * Verdicts. The verdict matters for one message alone, a Device Authentication Request, which is sealed, in state HUB_WAITING_FOR_AUTHENTICATION.
- * Only there need a caller read the message before the step: hub_read_header says whether it is sealed, hub_read opens it, hub_read_connect says
- * where its certificate lies. Compare the length of a certificate as well as its bytes. For every other message any verdict of 0 or 1 gives the
- * same.
+ * Only there need a caller read the message before the step: hub_read_header says whether it is sealed, hub_read opens it, hub_payload says where
+ * its payload lies, and hub_read_connect where in that its certificate. Compare the length of a certificate as well as its bytes. For every other
+ * message any verdict of 0 or 1 gives the same.
  *
  * Reports. Lend a connection the same report buffer at each step, and leave it alone, until the report is complete; then take the report before the
  * next step. A connection comes from hub_open and goes through hub_step alone. Then the first answer[HUB_ANSWER_LENGTH] bytes of report are, at
- * HUB_COMPLETE, the report as it was sent (DemandThree). Whatever is lent, that number is never more than report_n (WithinReport).
+ * HUB_COMPLETE, the report as it was sent (DemandThree). Whatever is lent, that number is never more than report_n (WithinReport). Document 01 has
+ * no message by which a hub says that a report came: the gateway sends each piece as often as its link needs, and one report after the other.
  *
  * Refusals. Most are harmless, and a hub drops the message and goes on: connection and report buffer are as they were. 17 is what late copies of a
  * report that is complete get, 11 what damaged or foreign bytes do, 15 and 16 what strangers and old requests do, 18 a report that comes too early
- * (it is sent again, or lost). 10, 12, 22, 24, 25 and 255 are the caller's own: keys, a buffer, F or a verdict are not as they should be. 19 is for
- * a number that no report has, 2^32 - 1: after report 2^32 - 2 open a new connection, with new keys. hub_text has a sentence for each.
+ * (it is sent again, or lost). 10, 12, 22, 24, 25 and 255 are the caller's own: keys, a buffer, F or a verdict are not as they should be. But until
+ * there are keys 10 is a sealed message that comes too early; and a gateway can bring about 12 and 22 where working is shorter than
+ * HUB_MOST_SEALED, or report than 64 times F. 19 is for a number that no report has, 2^32 - 1: after report 2^32 - 2 open a new connection, with
+ * new keys. hub_text has a sentence for each.
  *
  *
  * WHO OWNS WHICH MEMORY
@@ -477,8 +490,9 @@ uint32_t hub_same_tag(const uint8_t *a, size_t a_n, const uint8_t *b, size_t b_n
  *
  * Returns   the number of bytes: MessageLength, and at least 42. Of fewer than four bytes it is 42, since MessageLength is not there yet. So read
  *           until there are as many bytes as it says, asking again when more have come; then these are the next message. From four bytes on it does
- *           not change with the bytes that come after. It judges nothing: the message may be refused, and where the stream is out of step the next
- *           one is too. How many to wait for, and for how long, is the caller's to bound: 65,535 is the most.
+ *           not change with the bytes that come after. Whoever reads no more bytes than are missing never has one of the message after. It judges
+ *           nothing: the message may be refused; and where MessageLength itself is wrong so are all messages after it, which a new stream mends and
+ *           nothing else. How many to wait for, and for how long, is the caller's to bound: 65,535 is the most.
  * Proved    NextMessage: of a message that hub_read_header does not refuse, with any bytes after it, any first four or more give its length.
  */
 HUB_ANSWER_MATTERS
@@ -619,7 +633,8 @@ uint32_t hub_write_done_response(uint64_t mode, uint64_t status, uint8_t *out, s
 /*
  * Reads a Connect payload: its type, and what stands in it.
  *
- * payload   the payload, as hub_payload says where it lies; any bytes.
+ * payload   the payload, as hub_payload says where it lies; any bytes. The payload alone does not tell a Connect message from a Session message: ask
+ *           header[HUB_TYPE] first.
  * connect   HUB_CONNECT words.
  *
  * Returns   HUB_DONE, HUB_WRONG_BUFFER (connect), then 14 where the payload is none of the six of document 01, plain or sealed.

@@ -30,8 +30,8 @@ struct keys {
     uint8_t bytes[HUB_KEYS];
 };
 
-/* Makes keys of both halves: EXAMPLE KEYS, which anybody can make who sees the halves. A real agreement has the private keys too. Like this one it
-   gives both sides the same keys exactly where both have the same halves. */
+/* Makes keys of both halves: EXAMPLE KEYS, which anybody can make who sees the halves; a real agreement has the private keys too. Where the two sides
+   do not have the same halves they get different keys: see Keys in hub.h. */
 void agree(const struct half *gateway, const struct half *hub, struct keys *keys);
 
 /* One end of the stream, the message that came last, and room to open it in. */
