@@ -142,9 +142,29 @@
  * (tests/memory) and not proved. AES reads tables at places that depend on keys and data, so hub_read, hub_write and hub_step are NOT
  * constant-time: see docs/SECURITY.md. Copies on the stack are not erased.
  *
- * The stack that a call takes, in bytes, measured (tests/memory, which fails where a call takes more) and not proved:
+ * The stack that a call takes, its return address included, is at most so many bytes. This is measured (tests/memory, which fails where a call takes
+ * more) and not proved.
  *
- * STACK TABLE
+ *     hub_step                        5,184
+ *     hub_read                        3,904
+ *     hub_write                       2,944
+ *     hub_hmac                        1,472
+ *     hub_digest                      1,024
+ *     hub_read_header                   768
+ *     hub_list                          768
+ *     hub_open                          704
+ *     hub_write_connection_response     384
+ *     hub_write_connection_request      320
+ *     hub_read_connect                  192
+ *     hub_version                        64
+ *     hub_same_tag                       64
+ *     hub_wanted                         64
+ *     hub_payload                        64
+ *     hub_write_presence_request         64
+ *     hub_write_device_authentication    64
+ *     hub_write_done_request             64
+ *     hub_write_done_response            64
+ *     hub_cut                            64
  *
  *
  * VERSIONS
