@@ -16,7 +16,7 @@
 #define SESSION 42 /* a real gateway draws it */
 #define WAIT 50    /* the milliseconds in which a reply should come */
 #define TRIES 4    /* how often a request is sent before enrolment starts over */
-#define STARTS 16  /* how often it starts */
+#define STARTS 64  /* how often it starts */
 #define ROUNDS 16  /* how often each piece is sent: document 01 has nothing by which a hub says that it came */
 
 static struct link hub;
