@@ -363,8 +363,8 @@ int main(int argc, char **argv)
     stranger(argv + 3, "gateway 8, block 12, Merlot");
     if (lost == 0 || twice == 0 || late == 0 || damaged == 0 || forgeries == 0 || again == 0 || dropped == 0 || replied <= 3 * runs)
         fail("the link was too good");
-    printf("%u run%s, %u messages: %u lost, %u twice, %u late, %u damaged, %u forged between; %u reports came once, in order, as sent; %u replies, %u "
-           "sent again, %u messages dropped; %u unknown certificates not accepted\n",
+    printf("%u run%s, %u messages: %u lost, %u twice, %u late, %u damaged, %u forged between; %u reports came once, in order, as sent; %u replies, "
+           "%u sent again, %u messages dropped; %u unknown certificates not accepted\n",
            runs, runs == 1 ? "" : "s", messages, lost, twice, late, damaged, forgeries, reports, replied, again, dropped, unknown);
     return 0;
 }
