@@ -110,10 +110,10 @@ static void take(size_t n)
     switch (answer[HUB_ANSWER_KIND]) {
     case HUB_REPLY:
         write_reply(n, type, answer[HUB_ANSWER_STATUS]);
-        replied += send_bytes(&gateway, replies[type].bytes, replies[type].n);
+        replied += (unsigned)send_bytes(&gateway, replies[type].bytes, replies[type].n);
         break;
     case HUB_AGAIN:
-        again += send_bytes(&gateway, replies[type].bytes, replies[type].n);
+        again += (unsigned)send_bytes(&gateway, replies[type].bytes, replies[type].n);
         break;
     case HUB_FAILURE: /* here a real hub sends MS-CDP's Authentication Failure; this one hangs up */
         fprintf(stderr, "hub: the certificate is not accepted\n");
