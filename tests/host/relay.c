@@ -43,7 +43,7 @@ static struct side gateway;
 static struct side hub = {.other = &gateway};
 static struct side gateway = {.other = &hub};
 
-static struct message forged; /* a stranger's Connection Request */
+static struct message forged, early; /* a stranger's Connection Request, and its sealed message that comes before there are keys */
 static unsigned seed, messages, lost, twice, late, damaged, forgeries, reports, replied, again, dropped, unknown;
 
 static void say_log(FILE *log)
@@ -120,12 +120,15 @@ static void forge(void)
     static const uint8_t nonce[HUB_NONCE], coordinate[HUB_COORDINATE];
     uint64_t fields[HUB_FIELDS] = {[HUB_TYPE] = HUB_TYPE_CONNECT, [HUB_COUNT] = 1, [HUB_SESSION] = 666}, length;
     uint8_t payload[HUB_MOST_PAYLOAD];
-    struct keys none = {0};
+    struct keys strange = {.n = HUB_KEYS};
 
     must(hub_write_connection_request(HUB_MODE_NONE, nonce, HUB_NONCE, coordinate, HUB_COORDINATE, coordinate, HUB_COORDINATE, payload,
                                       sizeof payload, &length, HUB_LENGTH),
          "hub_write_connection_request");
-    write_message(fields, payload, length, &none, &forged);
+    write_message(fields, payload, length, &strange, &forged);
+    fields[HUB_TYPE] = HUB_TYPE_SESSION;
+    fields[HUB_FLAGS] = HUB_SEAL;
+    write_message(fields, payload, length, &strange, &early);
 }
 
 /* The sealed messages of this run: the four numbers that the vector is made of, and a digest of the bytes. */
@@ -192,12 +195,14 @@ static void release(struct side *from, int all)
 static void pass(struct side *from, size_t n)
 {
     enum { LOST, TWICE, LATE, DAMAGED, FATES = 8 };
-    int first = messages++ == 0; /* a Connection Request: it goes twice, after a forged one, so that these come in every test */
+    int first = messages++ == 0; /* a Connection Request: it goes twice, after what is forged, so that these come in every test */
     uint8_t *message = from->link.message;
     size_t at;
     int copies = 1;
 
     watch(message, n);
+    if (first)
+        forgeries += (unsigned)send_bytes(&hub.link, early.bytes, early.n);
     if (first || (from == &gateway && draw(8) == 0))
         forgeries += (unsigned)send_bytes(&hub.link, forged.bytes, forged.n);
     switch (first ? TWICE : draw(FATES)) {
