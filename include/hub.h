@@ -689,7 +689,8 @@ uint32_t hub_open(uint64_t fragment_size, uint8_t *state, size_t state_n);
  *           them, and a sealed one is refused with 10.
  * working   at least as long as the message's sealed part.
  * report    the report buffer of this connection: the same at each step (see Reports above). Once the piece with the last index has come the
- *           report's length is known, and from then on, until it is complete, a shorter buffer is HUB_WRONG_BUFFER, whatever the message.
+ *           report's length is known, and from then on, until it is complete, a shorter buffer is HUB_WRONG_BUFFER, whatever the message. (Of a
+ *           connection that is made up this is said where F is 1 to 16,384, the count 1 to 64 and the last index heard.)
  * verdict   1 if the certificate that this message may show is accepted, else 0. Only a Device Authentication Request in state
  *           HUB_WAITING_FOR_AUTHENTICATION looks at it (see Verdicts above). Every other number is refused with 25.
  * answer    HUB_ANSWER words.
