@@ -17,7 +17,7 @@
 /* EXAMPLE BYTES. A real pair draws its nonces and key pairs, and agrees on new keys for each connection. */
 static const uint8_t agreed[HUB_KEYS + 1] = "sixteen bytes k.and sixteen more.and thirty-two for the HMAC key";
 static const uint8_t nonce[HUB_NONCE], x[HUB_COORDINATE], y[HUB_COORDINATE];
-static const uint8_t gateway[] = "gateway 7, block 12, Merlot", hub[] = "hub of the growers of Blaye"; /* certificates */
+static const uint8_t of_gateway[] = "gateway 7, block 12, Merlot", of_hub[] = "hub of the growers of Blaye"; /* certificates */
 static const uint8_t sent[] = "pump 7: 1,204 litres; soil 18.5 C; leaf wetness 0.31; battery 3.87 V";
 
 /* Reports are numbered from 0 on, the Connect messages of each side from here on: see Vectors in hub.h. */
@@ -52,12 +52,12 @@ static int judge(const uint8_t *message, size_t message_n)
     uint64_t header[HUB_HEADER], place[HUB_PLACE], connect[HUB_CONNECT];
     const uint8_t *payload;
 
-    if (hub_read(message, message_n, agreed, keys_n, working, sizeof working, header, HUB_HEADER) != HUB_DONE)
+    if (hub_read(message, message_n, agreed, keys_n, working, sizeof working, header, HUB_HEADER) != HUB_DONE || header[HUB_TYPE] != HUB_TYPE_CONNECT)
         return 0; /* the step will refuse it too */
     must(hub_payload(message, message_n, working, sizeof working, header, HUB_HEADER, place, HUB_PLACE));
     payload = (place[HUB_PLACE_BUFFER] ? working : message) + place[HUB_PLACE_FROM];
-    return hub_read_connect(payload, place[HUB_PLACE_SIZE], connect, HUB_CONNECT) == HUB_DONE && connect[HUB_CERTIFICATE_SIZE] == sizeof gateway &&
-           memcmp(payload + connect[HUB_CERTIFICATE_FROM], gateway, sizeof gateway) == 0;
+    return hub_read_connect(payload, place[HUB_PLACE_SIZE], connect, HUB_CONNECT) == HUB_DONE && connect[HUB_CERTIFICATE_SIZE] == sizeof of_gateway &&
+           memcmp(payload + connect[HUB_CERTIFICATE_FROM], of_gateway, sizeof of_gateway) == 0;
 }
 
 /* The hub writes a reply; answers its length. */
@@ -70,7 +70,7 @@ static size_t write_reply(uint64_t type, uint64_t status)
         must(hub_write_connection_response(HUB_MODE_PROXIMAL, HUB_PENDING, nonce, sizeof nonce, x, sizeof x, y, sizeof y, payload, sizeof payload,
                                            &length, HUB_LENGTH));
     else if (type == HUB_AUTHENTICATION_RESPONSE)
-        must(hub_write_device_authentication(type, HUB_MODE_PROXIMAL, hub, sizeof hub, NULL, 0, payload, sizeof payload, &length, HUB_LENGTH));
+        must(hub_write_device_authentication(type, HUB_MODE_PROXIMAL, of_hub, sizeof of_hub, NULL, 0, payload, sizeof payload, &length, HUB_LENGTH));
     else
         must(hub_write_done_response(HUB_MODE_PROXIMAL, status, payload, sizeof payload, &length, HUB_LENGTH));
     keys_n = HUB_KEYS; /* with the Connection Response both sides have what they need to agree on them */
@@ -112,8 +112,8 @@ static void enrol(void)
     n = write_message(HUB_TYPE_CONNECT, 0, next_of_gateway++, 0, 1, payload, length, message, sizeof message);
     take(message, n);
     take(message, n); /* the reply was lost */
-    must(hub_write_device_authentication(HUB_AUTHENTICATION_REQUEST, HUB_MODE_PROXIMAL, gateway, sizeof gateway, NULL, 0, payload, sizeof payload,
-                                         &length, HUB_LENGTH));
+    must(hub_write_device_authentication(HUB_AUTHENTICATION_REQUEST, HUB_MODE_PROXIMAL, of_gateway, sizeof of_gateway, NULL, 0, payload,
+                                         sizeof payload, &length, HUB_LENGTH));
     take(message, write_message(HUB_TYPE_CONNECT, HUB_SEAL, next_of_gateway++, 0, 1, payload, length, message, sizeof message));
     must(hub_write_done_request(HUB_MODE_PROXIMAL, payload, sizeof payload, &length, HUB_LENGTH));
     take(message, write_message(HUB_TYPE_CONNECT, HUB_SEAL, next_of_gateway++, 0, 1, payload, length, message, sizeof message));
