@@ -39,40 +39,54 @@
  *
  * WHAT THE MAKER OF A HUB MUST KNOW
  *
- * Keys. The 64 key bytes come from a key agreement outside this library, and are new for each connection. Under old keys and an old SessionID a
- * new connection takes old messages once more; so does an old copy of a connection that is put back from a backup: store the newest copy alone, and
- * open anew, with new keys, where it is lost. Until there are keys give a step none (a null pointer, 0). Each call sets up its keys anew: there is
- * nothing to prepare, and nothing to keep or to erase between calls but the key bytes themselves.
+ * Keys. The 64 key bytes come from a key agreement outside this library, and are new for each connection. The Connection Request and the Response,
+ * which give X, Y and nonces to it, are plain: keys or verdict must depend on all of these, for else it goes unnoticed where the link has damaged
+ * one or a stranger made it. Under old keys and an old SessionID a new connection takes old messages once more; so does an old copy of a connection
+ * that is put back from a backup: store the newest copy alone, and open anew, with new keys, where it is lost. Until there are keys give a step
+ * none (a null pointer, 0). Each call sets up its keys anew: there is nothing to prepare, and nothing to keep or to erase between calls but the key
+ * bytes themselves.
  *
  * Vectors. A sealed message's vector is made of SessionID, SequenceNumber, FragmentIndex and FragmentCount. Under one set of keys two sealed
- * messages of different content never have the same four, whichever side sends them. Reports are numbered from 0 on, one number each. The hub does not look
- * at the SequenceNumber of a Connect message, so give those numbers that no report has, and hub and gateway a range each: host/c counts the
- * gateway's Connect messages from 0x80000000 on, the hub's from 0xC0000000.
+ * messages of different content must never have the same four, whichever side sends them. Reports are numbered from 0 on, one number each. The hub
+ * does not look at the SequenceNumber of a Connect message, so give those numbers that no report has, and hub and gateway a range each: host/c
+ * counts the gateway's Connect messages from 0x80000000 on, the hub's from 0xC0000000.
+ *
+ * Other fields. The gateway draws the SessionID, and every message of the connection has it, the replies too: hub_read_header says which it is. All
+ * pieces of a report have one ChannelID. Nothing here looks at RequestID.
  *
  * Fragment size. F, the bytes of a piece, is agreed on outside the protocol, and both sides use the same. It is not the fragment size of a
  * Connection Request, which document 01 fixes at 16,384 and which nothing here looks at.
  *
- * Replies. On HUB_REPLY the caller writes the reply, sends it, and keeps its bytes. On HUB_AGAIN the gateway has not heard it: send the same bytes
- * again. Writing them anew is as good if every field, the payload and the keys are the same, for then the bytes are too; a Connection Response
- * with another nonce, or another payload under numbers that were used, is not. The replies of one connection are three messages of at most
- * HUB_MOST_REPLY bytes each.
+ * Replies. On HUB_REPLY the caller writes the reply, sends it, and keeps its bytes. A gateway that hears none in its time sends its request again,
+ * the same bytes; then the hub's answer is HUB_AGAIN: send the same bytes again too. Writing them anew is as good if every field, the payload and
+ * the keys are the same, for then the bytes are too; a Connection Response with another nonce, or another payload under numbers that were used, is
+ * not. The replies of one connection are three messages of at most HUB_MOST_REPLY bytes each.
+ *
+ * Strangers. A Connection Request is plain, so anybody can make one, and the link can damage one unnoticed. Where a connection has taken such a
+ * one, and is in state HUB_WAITING_FOR_AUTHENTICATION, the gateway's own is refused with 15 or 16: have a new connection take it, by hub_open and a
+ * step without keys, and put that in the place of the first (open_anew in host/c/hub.c). A gateway whose sealed requests get no reply starts over
+ * with its Connection Request.
  *
  * Failure. On HUB_FAILURE the verdict was 0. MS-CDP (2.2.2.3.10) says: "If the authentication process itself fails to complete, an empty payload is
  * returned", and gives this message the type number 8, HUB_CONNECT_FAILURE. How it is sent is the caller's: hub_write refuses it with 14, since
  * document 01 has no such payload. The connection is in state HUB_FAILED from then on, where every message is refused: only hub_open helps.
  *
- * Verdicts. The verdict matters for one message alone, a Device Authentication Request, which is sealed, in state HUB_WAITING_FOR_AUTHENTICATION. Only there need a caller
- * read the message before the step: hub_read_header says whether it is sealed, hub_read opens it, hub_read_connect says where its certificate lies. Compare
- * the length of a certificate as well as its bytes. For every other message any verdict of 0 or 1 gives the same.
+ * Verdicts. The verdict matters for one message alone, a Device Authentication Request, which is sealed, in state HUB_WAITING_FOR_AUTHENTICATION.
+ * Only there need a caller read the message before the step: hub_read_header says whether it is sealed, hub_read opens it, hub_payload says where
+ * its payload lies, and hub_read_connect where in that its certificate. Compare the length of a certificate as well as its bytes. For every other
+ * message any verdict of 0 or 1 gives the same.
  *
  * Reports. Lend a connection the same report buffer at each step, and leave it alone, until the report is complete; then take the report before the
  * next step. A connection comes from hub_open and goes through hub_step alone. Then the first answer[HUB_ANSWER_LENGTH] bytes of report are, at
- * HUB_COMPLETE, the report as it was sent (DemandThree). Whatever is lent, that number is never more than report_n (WithinReport).
+ * HUB_COMPLETE, the report as it was sent (DemandThree). Whatever is lent, that number is never more than report_n (WithinReport). Document 01 has
+ * no message by which a hub says that a report came: the gateway sends each piece as often as its link needs, and one report after the other.
  *
  * Refusals. Most are harmless, and a hub drops the message and goes on: connection and report buffer are as they were. 17 is what late copies of a
- * report that is complete get, 11 what damaged or foreign bytes do, 15 and 16 what strangers and old requests do, 18 a report that comes too early (it is
- * sent again, or lost). 10, 12, 22, 24, 25 and 255 are the caller's own: keys, a buffer, F or a verdict are not as they should be. 19
- * is for a number that no report has, 2^32 - 1: after report 2^32 - 2 open a new connection, with new keys. hub_text has a sentence for each.
+ * report that is complete get, 11 what damaged or foreign bytes do, 15 and 16 what strangers and old requests do, 18 a report that comes too early
+ * (it is sent again, or lost). 10, 12, 22, 24, 25 and 255 are the caller's own: keys, a buffer, F or a verdict are not as they should be. But until
+ * there are keys 10 is a sealed message that comes too early; and a gateway can bring about 12 and 22 where working is shorter than
+ * HUB_MOST_SEALED, or report than 64 times F. 19 is for a number that no report has, 2^32 - 1: after report 2^32 - 2 open a new connection, with
+ * new keys. hub_text has a sentence for each.
  *
  *
  * WHO OWNS WHICH MEMORY
@@ -113,8 +127,8 @@
  * On a refusal, 1 to 25, every byte of every buffer is exactly as it was before, and every word that the call hands out (header, length, answer,
  * piece, connect) is 0. What a call does otherwise its "On refusal" names. No call that is done hands out zeros alone, but for hub_payload.
  *
- * On HUB_WRONG_BUFFER every buffer is exactly as it was before, each byte and each word of it. It is answered where a buffer of fixed size has another
- * size, where a word is too wide for its field, and where hub_step is lent a report buffer that is shorter than the report.
+ * On HUB_WRONG_BUFFER every buffer is exactly as it was before, each byte and each word of it. It is answered where a buffer of fixed size has
+ * another size, where a word is too wide for its field, and where hub_step is lent a report buffer that is shorter than the report.
  *
  * A buffer declared const is never changed. What is not named as written is not written.
  *
@@ -128,16 +142,36 @@
  * (tests/memory) and not proved. AES reads tables at places that depend on keys and data, so hub_read, hub_write and hub_step are NOT
  * constant-time: see docs/SECURITY.md. Copies on the stack are not erased.
  *
- * The stack that a call takes, in bytes, measured (tests/memory, which fails where a call takes more) and not proved:
+ * The stack that a call takes, its return address included, is at most so many bytes. This is measured (tests/memory, which fails where a call takes
+ * more) and not proved.
  *
- * STACK TABLE
+ *     hub_step                        5,184
+ *     hub_read                        3,904
+ *     hub_write                       2,944
+ *     hub_hmac                        1,472
+ *     hub_digest                      1,024
+ *     hub_read_header                   768
+ *     hub_list                          768
+ *     hub_open                          704
+ *     hub_write_connection_response     384
+ *     hub_write_connection_request      320
+ *     hub_read_connect                  192
+ *     hub_version                        64
+ *     hub_same_tag                       64
+ *     hub_wanted                         64
+ *     hub_payload                        64
+ *     hub_write_presence_request         64
+ *     hub_write_device_authentication    64
+ *     hub_write_done_request             64
+ *     hub_write_done_response            64
+ *     hub_cut                            64
  *
  *
  * VERSIONS
  *
- * HUB_VERSION is the header's, hub_version the library's. The first number rises where a caller has to change something: a name or a declaration here,
- * or the meaning of the 151 bytes of a connection. So connections that were stored under one first number may be read under another only where
- * docs/CHANGES.md says how; under the same first number all are read. The second number rises where something is added.
+ * HUB_VERSION is the header's, hub_version the library's. The first number rises where a caller has to change something: a name or a declaration
+ * here, or the meaning of the 151 bytes of a connection. So connections that were stored under one first number may be read under another only
+ * where docs/CHANGES.md says how; under the same first number all are read. The second number rises where something is added.
  */
 #ifndef HLIDUNSK_HUB_H
 #define HLIDUNSK_HUB_H
@@ -160,19 +194,19 @@ extern "C" {
 #define HUB_VERSION 0x00010000u
 
 /* Sizes of the buffers of fixed size; bytes, or words of 64 bits where so said. */
-#define HUB_STATE 151  /* a connection */
-#define HUB_HEADER 11  /* words: a header that was read, and the place of its payload */
-#define HUB_FIELDS 8   /* words: the fields of a header to be written */
-#define HUB_PLACE 3    /* words: where a payload lies */
-#define HUB_ANSWER 3   /* words: what a step answers */
-#define HUB_PIECE 3    /* words: a piece of a report */
-#define HUB_LENGTH 1   /* words: how many bytes were written */
-#define HUB_DIGEST 32  /* a SHA-256 digest, and a tag */
-#define HUB_KEYS 64    /* keys */
-#define HUB_LINE 64    /* a line of the listing */
-#define HUB_CONNECT 13 /* words: what a Connect payload says */
-#define HUB_NONCE 8    /* a nonce */
+#define HUB_STATE 151     /* a connection */
+#define HUB_HEADER 11     /* words: a header that was read, and the place of its payload */
+#define HUB_FIELDS 8      /* words: the fields of a header to be written */
+#define HUB_PLACE 3       /* words: where a payload lies */
+#define HUB_CONNECT 13    /* words: what a Connect payload says */
+#define HUB_ANSWER 3      /* words: what a step answers */
+#define HUB_PIECE 3       /* words: a piece of a report */
+#define HUB_LENGTH 1      /* words: how many bytes were written */
+#define HUB_DIGEST 32     /* a SHA-256 digest, and a tag */
+#define HUB_KEYS 64       /* keys */
+#define HUB_NONCE 8       /* a nonce */
 #define HUB_COORDINATE 32 /* X, and Y, of a public key */
+#define HUB_LINE 64       /* a line of the listing */
 
 /* Bounds of document 01. */
 #define HUB_LEAST_MESSAGE 42         /* the shortest message */
@@ -476,8 +510,9 @@ uint32_t hub_same_tag(const uint8_t *a, size_t a_n, const uint8_t *b, size_t b_n
  *
  * Returns   the number of bytes: MessageLength, and at least 42. Of fewer than four bytes it is 42, since MessageLength is not there yet. So read
  *           until there are as many bytes as it says, asking again when more have come; then these are the next message. From four bytes on it does
- *           not change with the bytes that come after. It judges nothing: the message may be refused, and where the stream is out of step the next
- *           one is too. How many to wait for, and for how long, is the caller's to bound: 65,535 is the most.
+ *           not change with the bytes that come after. Whoever reads no more bytes than are missing never has one of the message after. It judges
+ *           nothing: the message may be refused; and where MessageLength itself is wrong so are all messages after it, which a new stream mends and
+ *           nothing else. How many to wait for, and for how long, is the caller's to bound: 65,535 is the most.
  * Proved    NextMessage: of a message that hub_read_header does not refuse, with any bytes after it, any first four or more give its length.
  */
 HUB_ANSWER_MATTERS
@@ -517,7 +552,7 @@ uint32_t hub_read_header(const uint8_t *message, size_t message_n, uint64_t *hea
  */
 HUB_ANSWER_MATTERS
 uint32_t hub_read(const uint8_t *message, size_t message_n, const uint8_t *keys, size_t keys_n, uint8_t *working, size_t working_n, uint64_t *header,
-                 size_t header_n);
+                  size_t header_n);
 
 /*
  * Says where the payload of a message that hub_read has read lies. It trusts no number: what it answers is always inside the buffers given.
@@ -537,7 +572,7 @@ uint32_t hub_read(const uint8_t *message, size_t message_n, const uint8_t *keys,
  */
 HUB_ANSWER_MATTERS
 uint32_t hub_payload(const uint8_t *message, size_t message_n, const uint8_t *working, size_t working_n, const uint64_t *header, size_t header_n,
-                    uint64_t *place, size_t place_n);
+                     uint64_t *place, size_t place_n);
 
 /*
  * Writes a message; sealed where both bits of HUB_SEAL are set in its flags.
@@ -560,7 +595,7 @@ uint32_t hub_payload(const uint8_t *message, size_t message_n, const uint8_t *wo
  */
 HUB_ANSWER_MATTERS
 uint32_t hub_write(const uint64_t *fields, size_t fields_n, const uint8_t *chain, size_t chain_n, const uint8_t *payload, size_t payload_n,
-                  const uint8_t *keys, size_t keys_n, uint8_t *out, size_t out_n, uint64_t *length, size_t length_n);
+                   const uint8_t *keys, size_t keys_n, uint8_t *out, size_t out_n, uint64_t *length, size_t length_n);
 
 /*
  * The payloads of Discovery and Connect: six writers, and a reader of Connect payloads. A writer puts its payload at the start of out, for hub_write.
@@ -597,7 +632,8 @@ uint32_t hub_write_connection_response(uint64_t mode, uint64_t result, const uin
 
 /*
  * The payload of a Device Authentication Request or Response, which is sealed, by its type: HUB_AUTHENTICATION_REQUEST or
- * HUB_AUTHENTICATION_RESPONSE. The certificate has 1 to HUB_MOST_CERTIFICATE bytes, the thumbprint at most HUB_MOST_THUMBPRINT; the payload has 7 more.
+ * HUB_AUTHENTICATION_RESPONSE. The certificate has 1 to HUB_MOST_CERTIFICATE bytes, the thumbprint at most HUB_MOST_THUMBPRINT; the payload has 7
+ * more.
  */
 HUB_ANSWER_MATTERS
 uint32_t hub_write_device_authentication(uint64_t type, uint64_t mode, const uint8_t *certificate, size_t certificate_n, const uint8_t *thumbprint,
@@ -607,21 +643,25 @@ uint32_t hub_write_device_authentication(uint64_t type, uint64_t mode, const uin
 HUB_ANSWER_MATTERS
 uint32_t hub_write_done_request(uint64_t mode, uint8_t *out, size_t out_n, uint64_t *length, size_t length_n);
 
-/* The payload of an Authentication Done Response, which is sealed: 4 bytes. The status is a hub_code, 0 to 4; a hub replies with HUB_ANSWER_STATUS. */
+/*
+ * The payload of an Authentication Done Response, which is sealed: 4 bytes. The status is a hub_code, 0 to 4; a hub replies with
+ * HUB_ANSWER_STATUS.
+ */
 HUB_ANSWER_MATTERS
 uint32_t hub_write_done_response(uint64_t mode, uint64_t status, uint8_t *out, size_t out_n, uint64_t *length, size_t length_n);
 
 /*
  * Reads a Connect payload: its type, and what stands in it.
  *
- * payload   the payload, as hub_payload says where it lies; any bytes.
+ * payload   the payload, as hub_payload says where it lies; any bytes. The payload alone does not tell a Connect message from a Session message: ask
+ *           header[HUB_TYPE] first.
  * connect   HUB_CONNECT words.
  *
  * Returns   HUB_DONE, HUB_WRONG_BUFFER (connect), then 14 where the payload is none of the six of document 01, plain or sealed.
  * On done   connect holds the words of hub_connect_word. Each part that it names lies in the payload; those that this type has not are 0, 0.
  * On refusal connect is all zero: every part is empty.
- * Proved    ConnectBack: of a payload that the calls above wrote, the words are what was given, and the bytes at the places. ConnectLies: the parts lie
- *           in the payload, on every payload.
+ * Proved    ConnectBack: of a payload that the calls above wrote, the words are what was given, and the bytes at the places. ConnectLies: the parts
+ *           lie in the payload, on every payload.
  */
 HUB_ANSWER_MATTERS
 uint32_t hub_read_connect(const uint8_t *payload, size_t payload_n, uint64_t *connect, size_t connect_n);
@@ -649,7 +689,8 @@ uint32_t hub_open(uint64_t fragment_size, uint8_t *state, size_t state_n);
  *           them, and a sealed one is refused with 10.
  * working   at least as long as the message's sealed part.
  * report    the report buffer of this connection: the same at each step (see Reports above). Once the piece with the last index has come the
- *           report's length is known, and from then on, until it is complete, a shorter buffer is HUB_WRONG_BUFFER, whatever the message.
+ *           report's length is known, and from then on, until it is complete, a shorter buffer is HUB_WRONG_BUFFER, whatever the message. (Of a
+ *           connection that is made up this is said where F is 1 to 16,384, the count 1 to 64 and the last index heard.)
  * verdict   1 if the certificate that this message may show is accepted, else 0. Only a Device Authentication Request in state
  *           HUB_WAITING_FOR_AUTHENTICATION looks at it (see Verdicts above). Every other number is refused with 25.
  * answer    HUB_ANSWER words.
@@ -661,8 +702,8 @@ uint32_t hub_open(uint64_t fragment_size, uint8_t *state, size_t state_n);
  *           the piece is in report from F times its index on, no other byte of it changed. HUB_COMPLETE: the report has
  *           answer[HUB_ANSWER_LENGTH] bytes, never more than report_n; its SequenceNumber was the expected one before this step; and where the
  *           connection came from hub_open and hub_step alone, and the report buffer was the same and left alone since the report's first piece, it is
- *           the first bytes of report. The other kinds leave report unchanged;
- *           HUB_AGAIN and HUB_REPEAT state too. The first bytes of working hold the opened sealed part of a sealed message.
+ *           the first bytes of report. The other kinds leave report unchanged; HUB_AGAIN and HUB_REPEAT state too. The first bytes of working hold
+ *           the opened sealed part of a sealed message.
  * On refusal answer is 0, 0, 0 (HUB_REFUSED); state and report are as they were. So is working for 1 to 13, 24 and 25; for the others its first
  *           bytes hold the opened sealed part of a sealed message.
  * Proved    StepExact, LeavesAlone, WorkingBuffer, ByHostStates, StepsByState, RepeatedStep, RepeatedBytes, OnlyByZero, HeardCount, DemandThree,
@@ -670,7 +711,7 @@ uint32_t hub_open(uint64_t fragment_size, uint8_t *state, size_t state_n);
  */
 HUB_ANSWER_MATTERS
 uint32_t hub_step(uint8_t *state, size_t state_n, const uint8_t *message, size_t message_n, const uint8_t *keys, size_t keys_n, uint8_t *working,
-                 size_t working_n, uint8_t *report, size_t report_n, uint64_t verdict, uint64_t *answer, size_t answer_n);
+                  size_t working_n, uint8_t *report, size_t report_n, uint64_t verdict, uint64_t *answer, size_t answer_n);
 
 /*
  * Cuts a report: says where its piece lies.

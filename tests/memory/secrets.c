@@ -25,7 +25,6 @@ static const size_t sizes[] = {0, 11, 12, 13, 28, 29, 44, 999, PAYLOAD};
 
 static uint8_t keys[HUB_KEYS], working[2048], message[2048], payload[PAYLOAD], out[2048], a[HUB_DIGEST], b[HUB_DIGEST];
 static uint64_t header[HUB_HEADER], fields[HUB_FIELDS], length[HUB_LENGTH];
-static const uint8_t end[2];
 
 static void hide(void *secret, size_t n)
 {
@@ -62,12 +61,12 @@ static void must(int holds, const char *what)
 
 static size_t write_message(size_t payload_n)
 {
-    uint8_t number;
+    uint32_t number;
 
     fields[HUB_TYPE] = HUB_TYPE_SESSION;
     fields[HUB_FLAGS] = HUB_SEAL;
     fields[HUB_COUNT] = 1;
-    number = hub_write(fields, HUB_FIELDS, end, sizeof end, payload, payload_n, keys, HUB_KEYS, out, sizeof out, length, HUB_LENGTH);
+    number = hub_write(fields, HUB_FIELDS, HUB_NO_ENTRIES, HUB_NO_ENTRIES_N, payload, payload_n, keys, HUB_KEYS, out, sizeof out, length, HUB_LENGTH);
     must(number == HUB_DONE, "hub_write refuses");
     return (size_t)length[0];
 }
@@ -86,7 +85,7 @@ static void hmac(void)
 
 static void tag(void)
 {
-    uint8_t number;
+    uint32_t number;
     int bit;
 
     for (bit = -1; bit < 256; bit++) {
@@ -97,8 +96,8 @@ static void tag(void)
         hide(a, sizeof a);
         hide(b, sizeof b);
         number = hub_same_tag(a, sizeof a, b, sizeof b);
-        must(hidden_bits(&number, 1) > 0, "the comparison of secrets is not secret: memcheck does not follow it");
-        show(&number, 1);
+        must(hidden_bits(&number, sizeof number) > 0, "the comparison of secrets is not secret: memcheck does not follow it");
+        show(&number, sizeof number);
         must(number == (bit >= 0), "hub_same_tag");
     }
 }
@@ -110,7 +109,8 @@ static void write_secret(void)
     hide(keys, sizeof keys);
     for (i = 0; i < SIZES; i++) {
         message_n = write_message(sizes[i]);
-        must(hidden_bits(out + 42, 16) == 128 && hidden_bits(out + message_n - 32, 32) == 256, "what is sealed is not secret");
+        must(hidden_bits(out + HUB_LEAST_MESSAGE, 16) == 128 && hidden_bits(out + message_n - HUB_DIGEST, HUB_DIGEST) == 256,
+             "what is sealed is not secret");
     }
 }
 
@@ -120,7 +120,7 @@ static void write_secret(void)
 static void receive(size_t from, size_t n)
 {
     size_t i, message_n;
-    uint8_t number;
+    uint32_t number;
 
     for (i = 0; i < SIZES; i++) {
         show(keys, sizeof keys);
@@ -128,7 +128,7 @@ static void receive(size_t from, size_t n)
         memcpy(message, out, message_n);
         hide(keys + from, n);
         number = hub_read(message, message_n, keys, HUB_KEYS, working, sizeof working, header, HUB_HEADER);
-        show(&number, 1);
+        show(&number, sizeof number);
         must(number == HUB_DONE, "hub_read refuses");
     }
 }

@@ -2,7 +2,7 @@
 /*
  * The stack of each call: it runs on a stack that was painted before, and what is no longer painted was used. What a call of an empty
  * function uses is taken off. Each call is tried on inputs that are meant to be its dearest, painted in two colours. It is a measurement: what a
- * call reserves and never writes is not seen.
+ * call reserves and never writes is not seen. A line for each call: its name, and the most bytes over the inputs tried.
  */
 #include <stdio.h>
 #include <stdlib.h>
@@ -13,33 +13,60 @@
 
 #define STACK 65536
 #define F HUB_MOST_FRAGMENT_SIZE
+#define ENTRY 255 /* the most bytes of an entry of the chain, after its type and its size */
 
 static uint8_t stack[STACK];
 static ucontext_t here, there;
 
+static const uint8_t nonce[HUB_NONCE], x[HUB_COORDINATE], y[HUB_COORDINATE], certificate[HUB_MOST_CERTIFICATE], thumbprint[HUB_MOST_THUMBPRINT];
 static uint8_t keys[HUB_KEYS], state[HUB_STATE], before[HUB_STATE], working[HUB_MOST_SEALED], report[3 * F];
-static uint8_t message[HUB_MOST_READ], out[HUB_MOST_MESSAGE], digest[HUB_DIGEST], line[HUB_LINE], payload[F], chain[2058];
-static uint64_t header[HUB_HEADER], fields[HUB_FIELDS], place[HUB_PLACE], answer[HUB_ANSWER], length[HUB_LENGTH];
-static size_t message_n, payload_n, chain_n, keys_n;
-static uint8_t verdict, number;
+static uint8_t message[HUB_MOST_READ], out[HUB_MOST_MESSAGE], digest[HUB_DIGEST], line[HUB_LINE], payload[F], chain[8 * (2 + ENTRY) + 2];
+static uint64_t header[HUB_HEADER], fields[HUB_FIELDS], place[HUB_PLACE], answer[HUB_ANSWER], length[HUB_LENGTH], connect[HUB_CONNECT];
+static size_t message_n, payload_n;
+static uint64_t verdict;
+static uint32_t number;
 
 static void do_nothing(void) {}
-static void do_version(void) { number = (uint8_t)(hub_version() >> 16); }
+static void do_version(void) { number = hub_version(); }
 static void do_digest(void) { number = hub_digest(payload, payload_n, digest, sizeof digest); }
-static void do_hmac(void) { number = hub_hmac(keys, keys_n, payload, payload_n, digest, sizeof digest); }
+static void do_hmac(void) { number = hub_hmac(keys, sizeof keys, payload, payload_n, digest, sizeof digest); }
 static void do_hmac_long(void) { number = hub_hmac(payload, payload_n, payload, payload_n, digest, sizeof digest); }
-static void do_same_tag(void) { number = hub_same_tag(digest, sizeof digest, keys, 32); }
+static void do_same_tag(void) { number = hub_same_tag(digest, sizeof digest, keys, HUB_DIGEST); }
+static void do_wanted(void) { number = hub_wanted(message, message_n); }
 static void do_read_header(void) { number = hub_read_header(message, message_n, header, HUB_HEADER); }
-static void do_read(void) { number = hub_read(message, message_n, keys, keys_n, working, sizeof working, header, HUB_HEADER); }
+static void do_read(void) { number = hub_read(message, message_n, keys, sizeof keys, working, sizeof working, header, HUB_HEADER); }
 static void do_payload(void) { number = hub_payload(message, message_n, working, sizeof working, header, HUB_HEADER, place, HUB_PLACE); }
 static void do_write(void)
 {
-    number = hub_write(fields, HUB_FIELDS, chain, chain_n, payload, payload_n, keys, keys_n, out, sizeof out, length, HUB_LENGTH);
+    number = hub_write(fields, HUB_FIELDS, chain, sizeof chain, payload, payload_n, keys, sizeof keys, out, sizeof out, length, HUB_LENGTH);
 }
+static void do_presence_request(void) { number = hub_write_presence_request(payload, sizeof payload, length, HUB_LENGTH); }
+static void do_connection_request(void)
+{
+    number = hub_write_connection_request(HUB_MODE_LEGACY, nonce, sizeof nonce, x, sizeof x, y, sizeof y, payload, sizeof payload, length,
+                                          HUB_LENGTH);
+}
+static void do_connection_response(void)
+{
+    number = hub_write_connection_response(HUB_MODE_LEGACY, HUB_PENDING, nonce, sizeof nonce, x, sizeof x, y, sizeof y, payload, sizeof payload,
+                                           length, HUB_LENGTH);
+}
+static void do_device_authentication(void)
+{
+    number = hub_write_device_authentication(HUB_AUTHENTICATION_REQUEST, HUB_MODE_LEGACY, certificate, sizeof certificate, thumbprint,
+                                             sizeof thumbprint, payload, sizeof payload, length, HUB_LENGTH);
+}
+static void do_done_request(void) { number = hub_write_done_request(HUB_MODE_LEGACY, payload, sizeof payload, length, HUB_LENGTH); }
+static void do_done_response(void)
+{
+    number = hub_write_done_response(HUB_MODE_LEGACY, HUB_FAILURE_UNKNOWN, payload, sizeof payload, length, HUB_LENGTH);
+}
+static void do_read_connect(void) { number = hub_read_connect(payload, payload_n, connect, HUB_CONNECT); }
 static void do_open(void) { number = hub_open(F, state, HUB_STATE); }
 static void do_step(void)
 {
-    number = hub_step(state, HUB_STATE, message, message_n, keys, keys_n, working, sizeof working, report, sizeof report, verdict, answer, HUB_ANSWER);
+    number = hub_step(state, HUB_STATE, message, message_n, keys, sizeof keys, working, sizeof working, report, sizeof report, verdict, answer,
+                      HUB_ANSWER);
 }
 static void do_cut(void) { number = hub_cut(report, sizeof report, F, 2, place, HUB_PIECE); }
 static void do_list(void) { number = hub_list(message, message_n, line, sizeof line, length, HUB_LENGTH); }
@@ -79,21 +106,26 @@ static size_t used(void (*call)(void))
     return twice - most(used_in(do_nothing, 0xA5), used_in(do_nothing, 0x5A));
 }
 
+static void must(uint32_t expected)
+{
+    if (number != expected) {
+        fprintf(stderr, "stack: a call answers %u and not %u\n", (unsigned)number, (unsigned)expected);
+        exit(1);
+    }
+}
+
 /* The stack of a call that must be answered with this number. */
-static size_t measure(void (*call)(void), uint8_t expected)
+static size_t measure(void (*call)(void), uint32_t expected)
 {
     size_t bytes;
 
     number = 77;
     bytes = used(call);
-    if (number != expected) {
-        fprintf(stderr, "a measured call answers %u and not %u\n", (unsigned)number, (unsigned)expected);
-        exit(1);
-    }
+    must(expected);
     return bytes;
 }
 
-/* Makes `message` by the writer, from `payload`. */
+/* Makes `message` by the writer, of n bytes of `payload`. */
 static void prepare(uint64_t type, uint64_t flags, uint64_t index, uint64_t count, size_t n)
 {
     memset(fields, 0, sizeof fields);
@@ -103,26 +135,22 @@ static void prepare(uint64_t type, uint64_t flags, uint64_t index, uint64_t coun
     fields[HUB_COUNT] = count;
     payload_n = n;
     do_write();
-    if (number != HUB_DONE) {
-        fprintf(stderr, "the writer refuses %u\n", (unsigned)number);
-        exit(1);
-    }
+    must(HUB_DONE);
     message_n = (size_t)length[0];
     memcpy(message, out, message_n);
 }
 
-static void put(const char *bytes, size_t n)
+/* The same, of what a payload's writer writes. */
+static void prepare_by(void (*writer)(void), uint64_t type, uint64_t flags)
 {
-    memset(payload, 0, sizeof payload);
-    memcpy(payload, bytes, n);
+    writer();
+    must(HUB_DONE);
+    prepare(type, flags, 0, 1, (size_t)length[0]);
 }
 
-static int bad;
-
-static void row(const char *name, size_t bytes, size_t bar)
+static void row(const char *call, size_t bytes)
 {
-    printf("memory:     %-16s %6u  of %u%s\n", name, (unsigned)bytes, (unsigned)bar, bytes < bar ? "" : "  OVER THE BAR");
-    bad |= bytes >= bar;
+    printf("%s %u\n", call, (unsigned)bytes);
 }
 
 /* A chain of eight entries of 255 bytes, the deepest walk. */
@@ -130,12 +158,10 @@ static void long_chain(void)
 {
     size_t entry;
 
-    memset(chain, 0, sizeof chain);
     for (entry = 0; entry < 8; entry++) {
-        chain[257 * entry] = 1;
-        chain[257 * entry + 1] = 255;
+        chain[(2 + ENTRY) * entry] = 1;
+        chain[(2 + ENTRY) * entry + 1] = ENTRY;
     }
-    chain_n = sizeof chain;
 }
 
 /* A whole enrolment and a report of two pieces, each step measured; refusals on the way too. */
@@ -145,17 +171,13 @@ static size_t steps(void)
 
     do_open();
     verdict = 1;
-    put("\0\0\0\0\0\x20nonce  1\0\0\x40\0\0\x20", 20);
-    payload[53] = 32;
-    prepare(HUB_TYPE_CONNECT, 0, 0, 1, 86);
+    prepare_by(do_connection_request, HUB_TYPE_CONNECT, 0);
     bytes = most(bytes, measure(do_step, HUB_DONE));
     bytes = most(bytes, measure(do_step, HUB_DONE)); /* Again */
-    put("\0\0\2\x08\0", 5);
-    prepare(HUB_TYPE_CONNECT, HUB_SEAL, 0, 1, 5 + 2048 + 2);
+    prepare_by(do_device_authentication, HUB_TYPE_CONNECT, HUB_SEAL);
     bytes = most(bytes, measure(do_step, HUB_DONE));
     bytes = most(bytes, measure(do_step, HUB_DONE)); /* Again */
-    put("\0\0\6", 3);
-    prepare(HUB_TYPE_CONNECT, HUB_SEAL, 0, 1, 3);
+    prepare_by(do_done_request, HUB_TYPE_CONNECT, HUB_SEAL);
     bytes = most(bytes, measure(do_step, HUB_DONE));
     bytes = most(bytes, measure(do_step, HUB_DONE)); /* Again */
     prepare(HUB_TYPE_SESSION, HUB_SEAL, 1, 2, F);
@@ -164,42 +186,68 @@ static size_t steps(void)
     report[F] ^= 1;
     bytes = most(bytes, measure(do_step, HUB_UNLIKE_REPEAT));
     prepare(HUB_TYPE_SESSION, HUB_SEAL, 0, 2, F);
-    message[60] ^= 1;
+    message[message_n - 1] ^= 1;
     bytes = most(bytes, measure(do_step, HUB_WRONG_TAG));
-    message[60] ^= 1;
+    message[message_n - 1] ^= 1;
     bytes = most(bytes, measure(do_step, HUB_DONE)); /* Complete */
     bytes = most(bytes, measure(do_step, HUB_PAST_SEQUENCE));
     return bytes;
+}
+
+/* The writers of payloads, and the reader of what each has written. */
+static void payloads(void)
+{
+    static const struct {
+        const char *name;
+        void (*writer)(void);
+        int connect;
+    } calls[] = {{"hub_write_presence_request", do_presence_request, 0},
+                 {"hub_write_connection_request", do_connection_request, 1},
+                 {"hub_write_connection_response", do_connection_response, 1},
+                 {"hub_write_device_authentication", do_device_authentication, 1},
+                 {"hub_write_done_request", do_done_request, 1},
+                 {"hub_write_done_response", do_done_response, 1}};
+    size_t bytes = 0, i;
+
+    for (i = 0; i < sizeof calls / sizeof calls[0]; i++) {
+        row(calls[i].name, measure(calls[i].writer, HUB_DONE));
+        payload_n = (size_t)length[0];
+        bytes = most(bytes, measure(do_read_connect, calls[i].connect ? HUB_DONE : HUB_WRONG_PAYLOAD));
+    }
+    row("hub_read_connect", bytes);
 }
 
 int main(void)
 {
     size_t sealed, plain;
 
-    keys_n = sizeof keys;
     long_chain();
     payload_n = F;
-    printf("memory: stack of each call in bytes, painted, its return address included, the most over the inputs tried:\n");
-    row("hub_version", used(do_version), 8192);
-    row("hub_digest", measure(do_digest, HUB_DONE), 8192);
-    row("hub_hmac", most(measure(do_hmac, HUB_DONE), measure(do_hmac_long, HUB_DONE)), 8192);
-    row("hub_same_tag", most(measure(do_same_tag, 1), 0), 8192);
+    row("hub_version", measure(do_version, HUB_VERSION));
+    row("hub_digest", measure(do_digest, HUB_DONE));
+    row("hub_hmac", most(measure(do_hmac, HUB_DONE), measure(do_hmac_long, HUB_DONE)));
+    row("hub_same_tag", measure(do_same_tag, 1));
     prepare(HUB_TYPE_SESSION, HUB_SEAL, 0, 1, F);
-    row("hub_read_header", measure(do_read_header, HUB_DONE), 8192);
+    row("hub_wanted", measure(do_wanted, (uint32_t)message_n));
+    row("hub_read_header", measure(do_read_header, HUB_DONE));
     sealed = measure(do_read, HUB_DONE);
-    row("hub_payload", measure(do_payload, HUB_DONE), 8192);
-    put("", 0);
-    prepare(HUB_TYPE_DISCOVERY, 0, 0, 1, 1);
+    row("hub_payload", measure(do_payload, HUB_DONE));
+    prepare_by(do_device_authentication, HUB_TYPE_CONNECT, HUB_SEAL);
+    sealed = most(sealed, measure(do_read, HUB_DONE));
+    prepare_by(do_presence_request, HUB_TYPE_DISCOVERY, 0);
     plain = measure(do_read, HUB_DONE);
-    row("hub_read", most(sealed, plain), 8192);
+    row("hub_read", most(sealed, plain));
     plain = measure(do_write, HUB_DONE);
+    prepare_by(do_device_authentication, HUB_TYPE_CONNECT, HUB_SEAL);
+    sealed = measure(do_write, HUB_DONE);
     prepare(HUB_TYPE_SESSION, HUB_SEAL, 0, 1, F);
-    row("hub_write", most(plain, measure(do_write, HUB_DONE)), 8192);
-    row("hub_open", measure(do_open, HUB_DONE), 8192);
-    row("hub_step", steps(), 6144);
-    row("hub_cut", measure(do_cut, HUB_DONE), 8192);
+    row("hub_write", most(most(plain, sealed), measure(do_write, HUB_DONE)));
+    payloads();
+    row("hub_open", measure(do_open, HUB_DONE));
+    row("hub_step", steps());
+    row("hub_cut", measure(do_cut, HUB_DONE));
     sealed = measure(do_list, HUB_DONE);
     message_n--;
-    row("hub_list", most(sealed, measure(do_list, HUB_WRONG_LENGTH)), 8192);
-    return bad;
+    row("hub_list", most(sealed, measure(do_list, HUB_WRONG_LENGTH)));
+    return 0;
 }
