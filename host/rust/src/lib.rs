@@ -170,7 +170,7 @@
 //!         other => panic!("{other:?}"),
 //!     }
 //!     // What is damaged on the way is refused, and changes nothing.
-//!     sent[50] ^= 1;
+//!     sent[length - 1] ^= 1;
 //!     assert_eq!(hub.take(&sent[..length]), Err(Refusal::WrongTag));
 //! }
 //! # Ok::<(), Refusal>(())
@@ -179,10 +179,13 @@
 //! # What the maker of a hub must know
 //!
 //! **Keys.** The 64 key bytes come from a key agreement outside this library, and are new for each
-//! connection. Under old keys and an old SessionID a new connection takes old messages once more;
-//! so does an old copy of a connection that is put back from a backup: store the newest copy alone,
-//! and open anew, with new keys, where it is lost. Until there are keys give a step `None`: a
-//! sealed message is then refused with 10. Keys of zeros would be keys that anybody knows.
+//! connection. The Connection Request and the Response, which give X, Y and nonces to it, are plain:
+//! keys or verdict must depend on all of these, for else it goes unnoticed where the link has
+//! damaged one or a stranger made it. Under old keys and an old SessionID a new connection takes
+//! old messages once more; so does an old copy of a connection that is put back from a backup:
+//! store the newest copy alone, and open anew, with new keys, where it is lost. Until there are
+//! keys give a step `None`: a sealed message is then refused with 10. Keys of zeros would be keys
+//! that anybody knows.
 //!
 //! **Vectors.** A sealed message's vector is made of SessionID, SequenceNumber, FragmentIndex and
 //! FragmentCount. Under one set of keys no two sealed messages of different content may have the
@@ -190,6 +193,10 @@
 //! not look at the SequenceNumber of a Connect message, so give those numbers that no report has,
 //! and hub and gateway a range each: the page above counts the gateway's from 0x8000_0000 on, the
 //! hub's from 0xC000_0000.
+//!
+//! **Other fields.** The gateway draws the SessionID, and every message of the connection has it, the
+//! replies too: [`Connection::session`] says which it is. All pieces of a report have one ChannelID.
+//! Nothing here looks at RequestID.
 //!
 //! **Fragment size.** F, the bytes of a piece, is agreed on outside the protocol, and both sides
 //! use the same. It is not the fragment size of a Connection Request, which document 01 fixes at
@@ -200,6 +207,13 @@
 //! as good if every field, the payload and the keys are the same, for then the bytes are too; a
 //! Connection Response with another nonce, or another payload under numbers that were used, is not.
 //! The replies of one connection are three messages of at most [`MOST_REPLY`] bytes each.
+//!
+//! **Strangers.** A Connection Request is plain, so anybody can make one, and the link can damage one
+//! unnoticed. Where a connection has taken such a one, and is in
+//! [`State::WaitingForAuthentication`], the gateway's own is refused with 15 or 16: have a new
+//! connection take it, by [`Connection::open`] and a step without keys, and put that in the place
+//! of the first. A gateway whose sealed requests get no reply starts over with its Connection
+//! Request.
 //!
 //! **Failure.** On [`Answer::Failure`] the verdict was no. MS-CDP (2.2.2.3.10) says: "If the
 //! authentication process itself fails to complete, an empty payload is returned", and gives this
@@ -217,7 +231,9 @@
 //! came from [`Connection::open`] and [`Connection::step`] alone, [`Answer::Complete`] has the
 //! report as it was sent. It borrows the report from the buffer, and the compiler does not let it
 //! be used after the next step. Once the piece with the last index has come the report's length is
-//! known; a buffer that is shorter is then refused with 255, [`Refusal::WrongBuffer`].
+//! known; a buffer that is shorter is then refused with 255, [`Refusal::WrongBuffer`]. Document 01
+//! has no message by which a hub says that a report came: the gateway sends each piece as often as
+//! its link needs, and one report after the other.
 //!
 //! **Refusals.** Most are harmless, and a hub drops the message and goes on: connection and report
 //! buffer are as they were. [`Refusal`] says which are not.

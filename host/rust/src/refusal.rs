@@ -25,8 +25,8 @@ use core::fmt;
 /// | 11 | damaged or foreign bytes |
 /// | 15, 16 | a stranger, or an old request |
 /// | 18 | a report that comes too early: it is sent again, or lost |
-/// | 10, 12, 22, 24, 255 | the caller's own: keys, a buffer or F are not as they should be |
-/// | 19 | no report has this number: after 2^32 - 2 none can follow, so open anew, with new keys, in time |
+/// | 10, 12, 22, 24, 255 | the caller's own: keys, a buffer or F are not as they should be. But until there are keys 10 is a sealed message that comes too early; and a gateway can bring about 12 and 22 where `working` is shorter than [`MOST_SEALED`](crate::MOST_SEALED), or `report` than 64 times F |
+/// | 19 | no report has this number: after report 2^32 - 2 open a new connection, with new keys |
 #[derive(Clone, Copy, Debug, PartialEq, Eq, PartialOrd, Ord, Hash)]
 #[non_exhaustive]
 #[repr(u8)]
