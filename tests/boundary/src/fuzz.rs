@@ -90,7 +90,7 @@ fn steps(comparison: &mut Comparison<Hub>, tape: &mut Tape<'_>) -> Result<(), Di
         let choice = tape.byte();
         let message = if choice & 3 == 3 { tape.bytes() } else { tape.draft().bytes(&KEYS) };
         let keys = if choice & 0xF0 == 0xF0 { tape.bytes() } else { KEYS.to_vec() };
-        let verdict = u32::from(choice >> 2 & 3);
+        let verdict = u64::from(choice >> 2 & 3);
         let (kept, room) = (working.clone(), report.clone());
         let mut case = Case { connection, message, keys, working: kept, report: room, verdict };
         comparison.read(&case)?;

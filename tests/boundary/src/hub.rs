@@ -16,18 +16,24 @@ use crate::state::{STATE, decode, encode};
 pub const BEFORE: u64 = 0x5AA5_0FF0_C33C_9669;
 
 /// What a call returned, as a refusal.
-pub fn refusal(number: u8) -> Result<(), Refusal> {
-    match number {
-        0 => Ok(()),
-        _ => Err(Refusal::from_number(number).unwrap_or_else(|| panic!("{number} was returned"))),
+pub fn refusal(number: u32) -> Result<(), Refusal> {
+    match u8::try_from(number).map(Refusal::from_number) {
+        Ok(Some(refusal)) => Err(refusal),
+        _ if number == 0 => Ok(()),
+        _ => panic!("{number} was returned"),
     }
 }
 
 /// The same; every word that is handed out is 0 exactly where it is a refusal.
-fn unless_refused<const N: usize>(number: u8, words: [u64; N]) -> Result<[u64; N], Refusal> {
+fn unless_refused<const N: usize>(number: u32, words: [u64; N]) -> Result<[u64; N], Refusal> {
     let answer = refusal(number);
     assert_eq!(answer.is_err(), words == [0; N], "{number} was returned, and the words {words:?}");
     answer.map(|()| words)
+}
+
+/// What a call returns for such an answer.
+pub fn number_of<T>(answer: &Result<T, Refusal>) -> u32 {
+    answer.as_ref().map_or_else(|refusal| refusal.number().into(), |_| 0)
 }
 
 /// Words by hub.h's names, in the order of the names.
@@ -168,11 +174,10 @@ impl Implementation for Hub {
         keys: &[u8],
         working: &mut [u8],
         report: &mut [u8],
-        verdict: u32,
+        verdict: u64,
     ) -> (Connection, Answer) {
         let before = encode(&connection);
         let (mut state, mut words) = (before, [BEFORE; 3]);
-        let verdict = verdict as u8;
         let number =
             Hub::step(self, &mut state, message, keys, working, report, verdict, &mut words);
         match unless_refused(number, words) {

@@ -9,7 +9,7 @@ use crate::guard::Room;
 mod through {
     unsafe extern "C" {
         pub fn through_version() -> u32;
-        pub fn through_digest(b: *const u8, bn: usize, o: *mut u8, on: usize) -> u8;
+        pub fn through_digest(b: *const u8, bn: usize, o: *mut u8, on: usize) -> u32;
         pub fn through_hmac(
             k: *const u8,
             kn: usize,
@@ -17,9 +17,9 @@ mod through {
             mn: usize,
             o: *mut u8,
             on: usize,
-        ) -> u8;
-        pub fn through_same_tag(a: *const u8, an: usize, b: *const u8, bn: usize) -> u8;
-        pub fn through_read_header(m: *const u8, mn: usize, h: *mut u64, hn: usize) -> u8;
+        ) -> u32;
+        pub fn through_same_tag(a: *const u8, an: usize, b: *const u8, bn: usize) -> u32;
+        pub fn through_read_header(m: *const u8, mn: usize, h: *mut u64, hn: usize) -> u32;
         pub fn through_read(
             m: *const u8,
             mn: usize,
@@ -29,7 +29,7 @@ mod through {
             wn: usize,
             h: *mut u64,
             hn: usize,
-        ) -> u8;
+        ) -> u32;
         pub fn through_payload(
             m: *const u8,
             mn: usize,
@@ -39,7 +39,7 @@ mod through {
             hn: usize,
             p: *mut u64,
             pn: usize,
-        ) -> u8;
+        ) -> u32;
         pub fn through_write(
             f: *const u64,
             fn_: usize,
@@ -53,8 +53,8 @@ mod through {
             on: usize,
             l: *mut u64,
             ln: usize,
-        ) -> u8;
-        pub fn through_open(f: u64, s: *mut u8, sn: usize) -> u8;
+        ) -> u32;
+        pub fn through_open(f: u64, s: *mut u8, sn: usize) -> u32;
         pub fn through_step(
             s: *mut u8,
             sn: usize,
@@ -66,11 +66,11 @@ mod through {
             wn: usize,
             r: *mut u8,
             rn: usize,
-            v: u8,
+            v: u64,
             a: *mut u64,
             an: usize,
-        ) -> u8;
-        pub fn through_cut(r: *const u8, rn: usize, f: u64, i: u64, p: *mut u64, pn: usize) -> u8;
+        ) -> u32;
+        pub fn through_cut(r: *const u8, rn: usize, f: u64, i: u64, p: *mut u64, pn: usize) -> u32;
         pub fn through_list(
             m: *const u8,
             mn: usize,
@@ -78,9 +78,9 @@ mod through {
             tn: usize,
             l: *mut u64,
             ln: usize,
-        ) -> u8;
+        ) -> u32;
         pub static through_version_here: u32;
-        pub static through_refusals: [u8; 27];
+        pub static through_refusals: [u32; 27];
         pub static through_sizes: [usize; 10];
         pub static through_bounds: [usize; 6];
         pub static through_header_words: [usize; 11];
@@ -108,7 +108,7 @@ macro_rules! constants {
 
 constants! {
     version_here: u32 = through_version_here, "The header's version.";
-    refusals: [u8; 27] = through_refusals, "Done, the refusals in document 01's order, wrong buffer.";
+    refusals: [u32; 27] = through_refusals, "Done, the refusals in document 01's order, wrong buffer.";
     sizes: [usize; 10] = through_sizes, "State, header, fields, place, answer, piece, length, digest, keys, line.";
     bounds: [usize; 6] = through_bounds, "Least and most message, most read, most sealed, pieces, F.";
     header_words: [usize; 11] = through_header_words, "Type to size.";
@@ -173,7 +173,7 @@ impl Hub {
     }
 
     /// `hub_digest`.
-    pub fn digest(&mut self, bytes: &[u8], out: &mut [u8]) -> u8 {
+    pub fn digest(&mut self, bytes: &[u8], out: &mut [u8]) -> u32 {
         let (b, o) = (self.message.lend(bytes), self.out.lend(out));
         let number = unsafe { through::through_digest(b, bytes.len(), o, out.len()) };
         self.message.unchanged(bytes);
@@ -182,7 +182,7 @@ impl Hub {
     }
 
     /// `hub_hmac`.
-    pub fn hmac(&mut self, key: &[u8], message: &[u8], out: &mut [u8]) -> u8 {
+    pub fn hmac(&mut self, key: &[u8], message: &[u8], out: &mut [u8]) -> u32 {
         let (k, m) = (self.keys.lend(key), self.message.lend(message));
         let o = self.out.lend(out);
         let number = unsafe { through::through_hmac(k, key.len(), m, message.len(), o, out.len()) };
@@ -193,7 +193,7 @@ impl Hub {
     }
 
     /// `hub_same_tag`.
-    pub fn same_tag(&mut self, a: &[u8], b: &[u8]) -> u8 {
+    pub fn same_tag(&mut self, a: &[u8], b: &[u8]) -> u32 {
         let (x, y) = (self.message.lend(a), self.out.lend(b));
         let number = unsafe { through::through_same_tag(x, a.len(), y, b.len()) };
         self.message.unchanged(a);
@@ -202,7 +202,7 @@ impl Hub {
     }
 
     /// `hub_read_header`.
-    pub fn read_header(&mut self, message: &[u8], header: &mut [u64]) -> u8 {
+    pub fn read_header(&mut self, message: &[u8], header: &mut [u64]) -> u32 {
         let (m, h) = (self.message.lend(message), self.words.lend_words(header));
         let number = unsafe { through::through_read_header(m, message.len(), h, header.len()) };
         self.message.unchanged(message);
@@ -217,7 +217,7 @@ impl Hub {
         keys: &[u8],
         working: &mut [u8],
         header: &mut [u64],
-    ) -> u8 {
+    ) -> u32 {
         let (m, k) = (self.message.lend(message), self.keys.lend(keys));
         let (w, h) = (self.working.lend(working), self.words.lend_words(header));
         let (mn, kn, wn, hn) = (message.len(), keys.len(), working.len(), header.len());
@@ -236,7 +236,7 @@ impl Hub {
         working: &[u8],
         header: &[u64],
         place: &mut [u64],
-    ) -> u8 {
+    ) -> u32 {
         let (m, w) = (self.message.lend(message), self.working.lend(working));
         let (h, p) = (self.words.lend_words(header), self.more_words.lend_words(place));
         let (mn, wn, hn, pn) = (message.len(), working.len(), header.len(), place.len());
@@ -257,7 +257,7 @@ impl Hub {
         keys: &[u8],
         out: &mut [u8],
         length: &mut [u64],
-    ) -> u8 {
+    ) -> u32 {
         let (f, l) = (self.words.lend_words(fields), self.more_words.lend_words(length));
         let (c, p) = (self.chain.lend(chain), self.payload.lend(payload));
         let (k, o) = (self.keys.lend(keys), self.out.lend(out));
@@ -276,7 +276,7 @@ impl Hub {
     }
 
     /// `hub_open`.
-    pub fn open(&mut self, fragment_size: u64, state: &mut [u8]) -> u8 {
+    pub fn open(&mut self, fragment_size: u64, state: &mut [u8]) -> u32 {
         let s = self.state.lend(state);
         let number = unsafe { through::through_open(fragment_size, s, state.len()) };
         self.state.give_back(state);
@@ -291,9 +291,9 @@ impl Hub {
         keys: &[u8],
         working: &mut [u8],
         report: &mut [u8],
-        verdict: u8,
+        verdict: u64,
         answer: &mut [u64],
-    ) -> u8 {
+    ) -> u32 {
         let (s, a) = (self.state.lend(state), self.words.lend_words(answer));
         let (m, k) = (self.message.lend(message), self.keys.lend(keys));
         let (w, r) = (self.working.lend(working), self.report.lend(report));
@@ -307,7 +307,7 @@ impl Hub {
         self.working.give_back(working);
         self.report.give_back(report);
         self.words.give_back_words(answer);
-        self.numbers[usize::from(number)] += 1;
+        self.numbers[number as usize] += 1;
         if number == 0 {
             let kind = answer[answer_words()[0]] as usize;
             *self.kinds.get_mut(kind).expect("a kind of hub.h") += 1;
@@ -316,7 +316,7 @@ impl Hub {
     }
 
     /// `hub_cut`.
-    pub fn cut(&mut self, report: &[u8], size: u64, index: u64, piece: &mut [u64]) -> u8 {
+    pub fn cut(&mut self, report: &[u8], size: u64, index: u64, piece: &mut [u64]) -> u32 {
         let (r, p) = (self.report.lend(report), self.words.lend_words(piece));
         let number = unsafe { through::through_cut(r, report.len(), size, index, p, piece.len()) };
         self.report.unchanged(report);
@@ -325,7 +325,7 @@ impl Hub {
     }
 
     /// `hub_list`.
-    pub fn list(&mut self, message: &[u8], line: &mut [u8], length: &mut [u64]) -> u8 {
+    pub fn list(&mut self, message: &[u8], line: &mut [u8], length: &mut [u64]) -> u32 {
         let (m, t) = (self.message.lend(message), self.out.lend(line));
         let l = self.words.lend_words(length);
         let (mn, tn, ln) = (message.len(), line.len(), length.len());

@@ -72,7 +72,7 @@ fn beside(hub: &mut Hub, seed: u64, round: u64) {
 fn constants(hub: &Hub) {
     agree("constants", || {
         assert_eq!(hub.version(), hub_h::version_here());
-        let numbers: Vec<u8> = (0..=25).chain([255]).collect();
+        let numbers: Vec<u32> = (0..=25).chain([255]).collect();
         assert_eq!(hub_h::refusals()[..], numbers);
         assert_eq!(hub_h::sizes(), [151, 11, 8, 3, 3, 3, 1, 32, 64, 64]);
         assert_eq!(hub_h::bounds(), [42, 18_530, 65_535, 65_456, 64, 16_384]);

@@ -9,12 +9,12 @@ use second::generate::{Case, WriteCase, case, cut_case, dress, gateway, write_ca
 use second::header::Header;
 use second::prng::Prng;
 
-use crate::hub::{BEFORE, answer_of, by_name, fields_of};
+use crate::hub::{BEFORE, answer_of, by_name, fields_of, number_of};
 use crate::hub_h::{Hub, header_words};
 use crate::state::{STATE, decode, encode, encode_next};
 
 /// What a call returns where a buffer of fixed size, or a word, is of another size.
-pub const WRONG_BUFFER: u8 = 255;
+pub const WRONG_BUFFER: u32 = 255;
 
 /// Every size from 0 to a little more than the right one, but for that.
 fn wrong(right: usize) -> impl Iterator<Item = usize> {
@@ -25,7 +25,7 @@ fn wrong(right: usize) -> impl Iterator<Item = usize> {
 /// how many calls that were.
 pub fn every_wrong_size(hub: &mut Hub, prng: &mut Prng, case: &Case, write: &WriteCase) -> u64 {
     let mut calls = 0;
-    let mut call = |what: &str, number: u8, unchanged: bool| {
+    let mut call = |what: &str, number: u32, unchanged: bool| {
         assert!(number == WRONG_BUFFER && unchanged, "{what}: {number}, unchanged: {unchanged}");
         calls += 1;
     };
@@ -59,7 +59,7 @@ pub fn every_wrong_size(hub: &mut Hub, prng: &mut Prng, case: &Case, write: &Wri
         call("cut", number, words == vec![fill; size]);
         let (mut state, mut after) = (encode(&case.connection), case.clone());
         let (working, report) = (&mut after.working, &mut after.report);
-        let verdict = case.verdict as u8;
+        let verdict = case.verdict;
         let number = hub.step(&mut state, message, keys, working, report, verdict, &mut words);
         let unchanged = words == vec![fill; size] && state == encode(&case.connection);
         call("step", number, unchanged && after == *case);
@@ -70,7 +70,7 @@ pub fn every_wrong_size(hub: &mut Hub, prng: &mut Prng, case: &Case, write: &Wri
         call("open", hub.open(prng.word() >> prng.below(64), &mut state), state == before);
         let (mut after, mut words) = (case.clone(), [fill; 3]);
         let (working, report) = (&mut after.working, &mut after.report);
-        let verdict = case.verdict as u8;
+        let verdict = case.verdict;
         let number = hub.step(&mut state, message, keys, working, report, verdict, &mut words);
         call("step", number, state == before && words == [fill; 3] && after == *case);
     }
@@ -112,12 +112,12 @@ pub fn any_state(hub: &mut Hub, prng: &mut Prng) {
     let (mut theirs, before, mut words) = (ours.clone(), state, [7; 3]);
     let (next, answer) = ours.step();
     let (working, report) = (&mut theirs.working, &mut theirs.report);
-    let verdict = theirs.verdict as u8;
+    let verdict = theirs.verdict;
     let number =
         hub.step(&mut state, &theirs.message, &theirs.keys, working, report, verdict, &mut words);
     if let Answer::Refused(refusal) = answer {
         assert!(
-            number == refusal.number() && state == before && words == [0; 3],
+            number == u32::from(refusal.number()) && state == before && words == [0; 3],
             "{before:?} {ours:?}: {number} {words:?}, {refusal}"
         );
     } else {
@@ -149,7 +149,7 @@ fn header_by(fields: &[u64; 8]) -> Option<Header> {
 /// The writer with these words for its fields. A word too wide for its field is a wrong buffer,
 /// and then nothing is changed, whatever else is wrong; else it is as the second implementation has
 /// it, and the length of what is refused is 0. Answers what was returned.
-pub fn write_words(hub: &mut Hub, fields: &[u64; 8], case: &WriteCase) -> u8 {
+pub fn write_words(hub: &mut Hub, fields: &[u64; 8], case: &WriteCase) -> u32 {
     let WriteCase { chain, payload, keys, output, .. } = case;
     let (mut out, mut length) = (output.clone(), [BEFORE]);
     let number = hub.write(fields, chain, payload, keys, &mut out, &mut length);
@@ -160,7 +160,7 @@ pub fn write_words(hub: &mut Hub, fields: &[u64; 8], case: &WriteCase) -> u8 {
             expected.header = header;
             match expected.write() {
                 Ok(written) => (0, written as u64),
-                Err(refusal) => (refusal.number(), 0),
+                Err(refusal) => (refusal.number().into(), 0),
             }
         }
     };
@@ -216,7 +216,7 @@ pub fn any_tag(hub: &mut Hub, prng: &mut Prng) {
         1 => b[prng.below(32)] ^= 1 << prng.below(8),
         _ => {}
     }
-    assert_eq!(hub.same_tag(&a, &b), u8::from(a != b), "{a:?} {b:?}");
+    assert_eq!(hub.same_tag(&a, &b), u32::from(a != b), "{a:?} {b:?}");
     let (key, data) = (prng.below(200), prng.below(300));
     let (key, data) = (prng.bytes(key), prng.bytes(data));
     let mut out = [0; 32];
@@ -231,7 +231,7 @@ pub fn wide_numbers(hub: &mut Hub, prng: &mut Prng) {
     let mut state = [0xA5; STATE];
     let number = hub.open(wide, &mut state);
     let (connection, opened) = Second.open(size);
-    assert_eq!(number, opened.map_or_else(|refusal| refusal.number(), |()| 0), "F = {wide}");
+    assert_eq!(number, number_of(&opened), "F = {wide}");
     assert_eq!(state, encode(&connection), "F = {wide}");
     let cut = cut_case(prng);
     let index = prng.word() >> prng.below(64);
@@ -239,7 +239,7 @@ pub fn wide_numbers(hub: &mut Hub, prng: &mut Prng) {
     let number = hub.cut(&cut.report, cut.fragment_size.into(), index, &mut piece);
     let narrow = u32::try_from(index).unwrap_or(u32::MAX);
     let (count, range, answer) = Second.cut(&cut.report, cut.fragment_size, narrow);
-    assert_eq!(number, answer.map_or_else(|refusal| refusal.number(), |()| 0), "{cut:?} {index}");
+    assert_eq!(number, number_of(&answer), "{cut:?} {index}");
     assert_eq!(piece, [count.into(), range.start as u64, range.len() as u64], "{cut:?} {index}");
 }
 

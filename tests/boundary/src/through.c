@@ -3,93 +3,92 @@
 #include "hub.h"
 
 uint32_t through_version(void);
-uint8_t through_digest(const uint8_t *, size_t, uint8_t *, size_t);
-uint8_t through_hmac(const uint8_t *, size_t, const uint8_t *, size_t, uint8_t *, size_t);
-uint8_t through_same_tag(const uint8_t *, size_t, const uint8_t *, size_t);
-uint8_t through_read_header(const uint8_t *, size_t, uint64_t *, size_t);
-uint8_t through_read(const uint8_t *, size_t, const uint8_t *, size_t, uint8_t *, size_t, uint64_t *, size_t);
-uint8_t through_payload(const uint8_t *, size_t, const uint8_t *, size_t, const uint64_t *, size_t, uint64_t *, size_t);
-uint8_t through_write(const uint64_t *, size_t, const uint8_t *, size_t, const uint8_t *, size_t, const uint8_t *, size_t, uint8_t *, size_t,
+uint32_t through_digest(const uint8_t *, size_t, uint8_t *, size_t);
+uint32_t through_hmac(const uint8_t *, size_t, const uint8_t *, size_t, uint8_t *, size_t);
+uint32_t through_same_tag(const uint8_t *, size_t, const uint8_t *, size_t);
+uint32_t through_read_header(const uint8_t *, size_t, uint64_t *, size_t);
+uint32_t through_read(const uint8_t *, size_t, const uint8_t *, size_t, uint8_t *, size_t, uint64_t *, size_t);
+uint32_t through_payload(const uint8_t *, size_t, const uint8_t *, size_t, const uint64_t *, size_t, uint64_t *, size_t);
+uint32_t through_write(const uint64_t *, size_t, const uint8_t *, size_t, const uint8_t *, size_t, const uint8_t *, size_t, uint8_t *, size_t,
+                       uint64_t *, size_t);
+uint32_t through_open(uint64_t, uint8_t *, size_t);
+uint32_t through_step(uint8_t *, size_t, const uint8_t *, size_t, const uint8_t *, size_t, uint8_t *, size_t, uint8_t *, size_t, uint64_t,
                       uint64_t *, size_t);
-uint8_t through_open(uint64_t, uint8_t *, size_t);
-uint8_t through_step(uint8_t *, size_t, const uint8_t *, size_t, const uint8_t *, size_t, uint8_t *, size_t, uint8_t *, size_t, uint8_t,
-                     uint64_t *, size_t);
-uint8_t through_cut(const uint8_t *, size_t, uint64_t, uint64_t, uint64_t *, size_t);
-uint8_t through_list(const uint8_t *, size_t, uint8_t *, size_t, uint64_t *, size_t);
+uint32_t through_cut(const uint8_t *, size_t, uint64_t, uint64_t, uint64_t *, size_t);
+uint32_t through_list(const uint8_t *, size_t, uint8_t *, size_t, uint64_t *, size_t);
 
 uint32_t through_version(void)
 {
     return hub_version();
 }
 
-uint8_t through_digest(const uint8_t *bytes, size_t bytes_n, uint8_t *out, size_t out_n)
+uint32_t through_digest(const uint8_t *bytes, size_t bytes_n, uint8_t *out, size_t out_n)
 {
     return hub_digest(bytes, bytes_n, out, out_n);
 }
 
-uint8_t through_hmac(const uint8_t *key, size_t key_n, const uint8_t *message, size_t message_n, uint8_t *out, size_t out_n)
+uint32_t through_hmac(const uint8_t *key, size_t key_n, const uint8_t *message, size_t message_n, uint8_t *out, size_t out_n)
 {
     return hub_hmac(key, key_n, message, message_n, out, out_n);
 }
 
-uint8_t through_same_tag(const uint8_t *a, size_t a_n, const uint8_t *b, size_t b_n)
+uint32_t through_same_tag(const uint8_t *a, size_t a_n, const uint8_t *b, size_t b_n)
 {
     return hub_same_tag(a, a_n, b, b_n);
 }
 
-uint8_t through_read_header(const uint8_t *message, size_t message_n, uint64_t *header, size_t header_n)
+uint32_t through_read_header(const uint8_t *message, size_t message_n, uint64_t *header, size_t header_n)
 {
     return hub_read_header(message, message_n, header, header_n);
 }
 
-uint8_t through_read(const uint8_t *message, size_t message_n, const uint8_t *keys, size_t keys_n, uint8_t *working, size_t working_n,
-                     uint64_t *header, size_t header_n)
+uint32_t through_read(const uint8_t *message, size_t message_n, const uint8_t *keys, size_t keys_n, uint8_t *working, size_t working_n,
+                      uint64_t *header, size_t header_n)
 {
     return hub_read(message, message_n, keys, keys_n, working, working_n, header, header_n);
 }
 
-uint8_t through_payload(const uint8_t *message, size_t message_n, const uint8_t *working, size_t working_n, const uint64_t *header,
-                        size_t header_n, uint64_t *place, size_t place_n)
+uint32_t through_payload(const uint8_t *message, size_t message_n, const uint8_t *working, size_t working_n, const uint64_t *header,
+                         size_t header_n, uint64_t *place, size_t place_n)
 {
     return hub_payload(message, message_n, working, working_n, header, header_n, place, place_n);
 }
 
-uint8_t through_write(const uint64_t *fields, size_t fields_n, const uint8_t *chain, size_t chain_n, const uint8_t *payload, size_t payload_n,
-                      const uint8_t *keys, size_t keys_n, uint8_t *out, size_t out_n, uint64_t *length, size_t length_n)
+uint32_t through_write(const uint64_t *fields, size_t fields_n, const uint8_t *chain, size_t chain_n, const uint8_t *payload, size_t payload_n,
+                       const uint8_t *keys, size_t keys_n, uint8_t *out, size_t out_n, uint64_t *length, size_t length_n)
 {
     return hub_write(fields, fields_n, chain, chain_n, payload, payload_n, keys, keys_n, out, out_n, length, length_n);
 }
 
-uint8_t through_open(uint64_t fragment_size, uint8_t *state, size_t state_n)
+uint32_t through_open(uint64_t fragment_size, uint8_t *state, size_t state_n)
 {
     return hub_open(fragment_size, state, state_n);
 }
 
-uint8_t through_step(uint8_t *state, size_t state_n, const uint8_t *message, size_t message_n, const uint8_t *keys, size_t keys_n,
-                     uint8_t *working, size_t working_n, uint8_t *report, size_t report_n, uint8_t verdict, uint64_t *answer, size_t answer_n)
+uint32_t through_step(uint8_t *state, size_t state_n, const uint8_t *message, size_t message_n, const uint8_t *keys, size_t keys_n,
+                      uint8_t *working, size_t working_n, uint8_t *report, size_t report_n, uint64_t verdict, uint64_t *answer, size_t answer_n)
 {
     return hub_step(state, state_n, message, message_n, keys, keys_n, working, working_n, report, report_n, verdict, answer, answer_n);
 }
 
-uint8_t through_cut(const uint8_t *report, size_t report_n, uint64_t fragment_size, uint64_t index, uint64_t *piece, size_t piece_n)
+uint32_t through_cut(const uint8_t *report, size_t report_n, uint64_t fragment_size, uint64_t index, uint64_t *piece, size_t piece_n)
 {
     return hub_cut(report, report_n, fragment_size, index, piece, piece_n);
 }
 
-uint8_t through_list(const uint8_t *message, size_t message_n, uint8_t *line, size_t line_n, uint64_t *length, size_t length_n)
+uint32_t through_list(const uint8_t *message, size_t message_n, uint8_t *line, size_t line_n, uint64_t *length, size_t length_n)
 {
     return hub_list(message, message_n, line, line_n, length, length_n);
 }
 
 /* The constants of hub.h, in the order in which src/hub_h.rs names them. */
-extern const uint32_t through_version_here;
-extern const uint8_t through_refusals[27];
+extern const uint32_t through_version_here, through_refusals[27];
 extern const size_t through_sizes[10], through_bounds[6], through_header_words[11], through_place_words[3], through_answer_words[4],
     through_piece_words[3], through_state_places[13];
 extern const uint64_t through_kinds[7], through_sealed[3], through_types[3], through_flags[5], through_connects[6];
 
 const uint32_t through_version_here = HUB_VERSION;
-const uint8_t through_refusals[27] = {
+const uint32_t through_refusals[27] = {
     HUB_DONE,             HUB_TOO_SHORT,          HUB_WRONG_SIGNATURE, HUB_WRONG_LENGTH,    HUB_WRONG_VERSION,
     HUB_WRONG_TYPE,       HUB_WRONG_FLAGS,        HUB_WRONG_PIECE,     HUB_WRONG_CHAIN,     HUB_WRONG_SEALED_SIZE,
     HUB_WRONG_KEYS,       HUB_WRONG_TAG,          HUB_SHORT_WORKING,   HUB_WRONG_PADDING,   HUB_WRONG_PAYLOAD,

@@ -16,7 +16,7 @@ use crate::state::{decode, encode};
 pub struct Wrapper;
 
 fn refused(by: h::Refusal) -> Refusal {
-    refusal(by.number()).expect_err("a refusal")
+    refusal(by.number().into()).expect_err("a refusal")
 }
 
 fn header(of: h::Header) -> Header {
@@ -100,7 +100,7 @@ impl Implementation for Wrapper {
         keys: &[u8],
         working: &mut [u8],
         report: &mut [u8],
-        verdict: u32,
+        verdict: u64,
     ) -> (Connection, Answer) {
         let (Some(keys), 0..=1) = (keys_of(keys), verdict) else {
             return Second.step(connection, message, keys, working, report, verdict);

@@ -52,7 +52,7 @@ pub trait Implementation {
         keys: &[u8],
         working: &mut [u8],
         report: &mut [u8],
-        verdict: u32,
+        verdict: u64,
     ) -> (Connection, Answer);
 
     /// The cutter: the count, where in the report the piece lies, and what refused it.
@@ -110,7 +110,7 @@ impl Implementation for Second {
         keys: &[u8],
         working: &mut [u8],
         report: &mut [u8],
-        verdict: u32,
+        verdict: u64,
     ) -> (Connection, Answer) {
         connection.step(message, keys, working, report, verdict)
     }

@@ -128,7 +128,7 @@ impl Implementation for Spoilt {
         keys: &[u8],
         working: &mut [u8],
         report: &mut [u8],
-        verdict: u32,
+        verdict: u64,
     ) -> (Connection, Answer) {
         let before = report.to_vec();
         let (mut next, mut answer) = connection.step(message, keys, working, report, verdict);

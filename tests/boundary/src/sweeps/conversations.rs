@@ -53,7 +53,7 @@ impl<'a, I: Implementation> Talk<'a, I> {
     }
 
     /// A message comes; the answer starts so. A refusal and a repeated reply change nothing.
-    fn hear(&mut self, message: &[u8], verdict: u32, expected: &str) -> Done {
+    fn hear(&mut self, message: &[u8], verdict: u64, expected: &str) -> Done {
         let mut case = Case {
             connection: self.connection,
             message: message.to_vec(),
@@ -77,7 +77,7 @@ impl<'a, I: Implementation> Talk<'a, I> {
         Ok(())
     }
 
-    fn draft(&mut self, draft: &Draft, verdict: u32, expected: &str) -> Done {
+    fn draft(&mut self, draft: &Draft, verdict: u64, expected: &str) -> Done {
         let message = draft.bytes(&self.gateway.keys);
         self.hear(&message, verdict, expected)
     }
