@@ -1,15 +1,17 @@
 // SPDX-License-Identifier: MPL-2.0
 //! Document 01's calls as the comparison asks for them, each by one call through the C boundary. What
 //! the comparison cannot see is tested here: that a refusal leaves the state as it was and every word
-//! that it hands out 0, and which buffer the words name.
+//! that it hands out 0, and which buffer the words name. A short report buffer, of which document 01
+//! does not speak, is answered by the second implementation once the call has refused it.
 
-use second::compare::{Implementation, Piece};
+use second::compare::{Implementation, Piece, Second};
 use second::connection::{Answer, Connection};
 use second::header::{Framed, Header, Kind};
 use second::message::{Message, Place};
 use second::refusal::Refusal;
 
-use crate::hub_h::{Hub, answer_words, header_words, kinds, piece_words, place_words, sealed};
+use crate::hub_h::{Hub, WRONG_BUFFER, answer_words, header_words, kinds, piece_words};
+use crate::hub_h::{place_words, sealed};
 use crate::state::{STATE, decode, encode};
 
 /// What stands in an output before a call.
@@ -180,6 +182,9 @@ impl Implementation for Hub {
         let (mut state, mut words) = (before, [BEFORE; 3]);
         let number =
             Hub::step(self, &mut state, message, keys, working, report, verdict, &mut words);
+        if number == WRONG_BUFFER {
+            return Second.step(connection, message, keys, working, report, verdict);
+        }
         match unless_refused(number, words) {
             Err(refusal) => {
                 assert_eq!(state, before, "{refusal}, but the state was written");

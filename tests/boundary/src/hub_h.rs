@@ -5,6 +5,7 @@
 #![allow(unsafe_code)]
 
 use crate::guard::Room;
+use crate::state::{STATE, decode};
 
 mod through {
     unsafe extern "C" {
@@ -121,6 +122,15 @@ constants! {
     types: [u64; 3] = through_types, "Discovery, Connect, Session.";
     flags: [u64; 5] = through_flags, "Acknowledge, HMAC, encrypted, both, wake.";
     connects: [u64; 6] = through_connects, "The Connect types, in order.";
+}
+
+/// What a call returns where a buffer of fixed size or a word is of another size, or a report buffer
+/// is short.
+pub const WRONG_BUFFER: u32 = 255;
+
+/// Whether a step is lent a report buffer that is shorter than a report whose length is known.
+pub fn is_short(state: &[u8; STATE], report: usize) -> bool {
+    decode(state).known_length().is_some_and(|length| report < length)
 }
 
 /// The longest buffer that is lent: a report of 64 × 16,384 bytes and some.
@@ -283,7 +293,9 @@ impl Hub {
         number
     }
 
-    /// `hub_step`.
+    /// `hub_step`. A wrong buffer is answered exactly where the state or the answer has another size
+    /// or the report buffer is short, and then all is as it was. A report that is complete lies in its
+    /// buffer.
     pub fn step(
         &mut self,
         state: &mut [u8],
@@ -299,6 +311,12 @@ impl Hub {
         let (w, r) = (self.working.lend(working), self.report.lend(report));
         let (sn, mn, kn, an) = (state.len(), message.len(), keys.len(), answer.len());
         let (wn, rn) = (working.len(), report.len());
+        let sized: Result<&[u8; STATE], _> = (&*state).try_into();
+        let right = an == sizes()[4] && sized.is_ok_and(|state| !is_short(state, rn));
+        let whole = |state: &[u8], working: &[u8], report: &[u8], answer: &[u64]| {
+            (state.to_vec(), working.to_vec(), report.to_vec(), answer.to_vec())
+        };
+        let before = (!right).then(|| whole(state, working, report, answer));
         let number =
             unsafe { through::through_step(s, sn, m, mn, k, kn, w, wn, r, rn, verdict, a, an) };
         self.state.give_back(state);
@@ -308,9 +326,20 @@ impl Hub {
         self.report.give_back(report);
         self.words.give_back_words(answer);
         self.numbers[number as usize] += 1;
+        assert_eq!(number == WRONG_BUFFER, !right, "{number} was returned");
+        if let Some(before) = before {
+            assert!(
+                before == whole(state, working, report, answer),
+                "a wrong buffer, and a change"
+            );
+        }
         if number == 0 {
-            let kind = answer[answer_words()[0]] as usize;
-            *self.kinds.get_mut(kind).expect("a kind of hub.h") += 1;
+            let [kind, _, length, _] = answer_words().map(|name| answer[name]);
+            *self.kinds.get_mut(kind as usize).expect("a kind of hub.h") += 1;
+            assert!(
+                kind != kinds()[6] || length <= rn as u64,
+                "{length} bytes of {rn} are complete"
+            );
         }
         number
     }

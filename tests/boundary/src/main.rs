@@ -114,16 +114,22 @@ fn say(tally: &Tally) -> String {
     )
 }
 
-/// Every refusal of document 01 and every kind of answer came in the steps; says which was rarest.
+/// Every refusal of document 01, every kind of answer and a short report buffer came in the steps;
+/// says which was rarest.
 fn all_came(hub: &Hub) -> String {
     let refusals = (1..=25).map(|number| (hub.numbers[number], format!("refusal {number}")));
     let kinds = (1..=6).map(|kind| (hub.kinds[kind], format!("kind {kind}")));
-    let (times, rarest) = refusals.chain(kinds).min().expect("some");
+    let short = hub.numbers[hub_h::WRONG_BUFFER as usize];
+    let all = refusals.chain(kinds).chain([(short, "short report buffer".into())]);
+    let (times, rarest) = all.min().expect("some");
     agree(&rarest, || {
         assert!(times > 0, "{rarest} never came");
         Ok(())
     });
-    format!("all 25 refusals and 6 kinds of answers came, the rarest {times} times ({rarest})")
+    format!(
+        "all 25 refusals and 6 kinds of answers came, the rarest {times} times ({rarest}), and {short} \
+         times a report buffer was short"
+    )
 }
 
 /// The boundary cases of CASES.md, a line for each sweep.

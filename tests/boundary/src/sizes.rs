@@ -10,11 +10,8 @@ use second::header::Header;
 use second::prng::Prng;
 
 use crate::hub::{BEFORE, answer_of, by_name, fields_of, number_of};
-use crate::hub_h::{Hub, header_words};
+use crate::hub_h::{Hub, WRONG_BUFFER, header_words, is_short};
 use crate::state::{STATE, decode, encode, encode_next};
-
-/// What a call returns where a buffer of fixed size, or a word, is of another size.
-pub const WRONG_BUFFER: u32 = 255;
 
 /// Every size from 0 to a little more than the right one, but for that.
 fn wrong(right: usize) -> impl Iterator<Item = usize> {
@@ -99,35 +96,39 @@ pub fn every_wrong_size(hub: &mut Hub, prng: &mut Prng, case: &Case, write: &Wri
     calls
 }
 
-/// A step on a state of any bytes, against the second implementation on what they stand for.
+/// A step on a state of any bytes, by the case's other parts, against the second implementation on
+/// what the bytes stand for; a short report buffer is a wrong one. Answers what was returned, and the
+/// words.
+pub fn step_on(hub: &mut Hub, state: &[u8; STATE], case: &Case) -> (u32, [u64; 3]) {
+    let mut ours = Case { connection: decode(state), ..case.clone() };
+    let (mut after, mut theirs, mut words) = (*state, ours.clone(), [BEFORE; 3]);
+    let (working, report) = (&mut theirs.working, &mut theirs.report);
+    let Case { message, keys, verdict, .. } = case;
+    let number = hub.step(&mut after, message, keys, working, report, *verdict, &mut words);
+    let (expected, handed) = if is_short(state, case.report.len()) {
+        ((WRONG_BUFFER, *state), words == [BEFORE; 3])
+    } else {
+        let (next, answer) = ours.step();
+        match answer {
+            Answer::Refused(refusal) => ((refusal.number().into(), *state), words == [0; 3]),
+            _ => ((0, encode_next(state, &next)), answer_of(&words) == answer),
+        }
+    };
+    assert!((number, after) == expected && handed, "{state:?} {case:?}: {number} {words:?}");
+    assert!(ours == theirs, "{state:?} {case:?}: buffers");
+    (number, words)
+}
+
+/// A step on a state of any bytes.
 pub fn any_state(hub: &mut Hub, prng: &mut Prng) {
-    let mut ours = case(prng);
-    let mut state = encode(&ours.connection);
+    let case = case(prng);
+    let mut state = encode(&case.connection);
     match prng.below(4) {
         0 => state = prng.array(),
         1 => state[9..].copy_from_slice(&prng.array::<{ STATE - 9 }>()),
         _ => (0..prng.between(1, 4)).for_each(|_| state[prng.below(STATE)] = prng.word() as u8),
     }
-    ours.connection = decode(&state);
-    let (mut theirs, before, mut words) = (ours.clone(), state, [7; 3]);
-    let (next, answer) = ours.step();
-    let (working, report) = (&mut theirs.working, &mut theirs.report);
-    let verdict = theirs.verdict;
-    let number =
-        hub.step(&mut state, &theirs.message, &theirs.keys, working, report, verdict, &mut words);
-    if let Answer::Refused(refusal) = answer {
-        assert!(
-            number == u32::from(refusal.number()) && state == before && words == [0; 3],
-            "{before:?} {ours:?}: {number} {words:?}, {refusal}"
-        );
-    } else {
-        assert!(
-            number == 0 && answer_of(&words) == answer,
-            "{before:?} {ours:?}: {number} {words:?}"
-        );
-        assert_eq!(state, encode_next(&before, &next), "{before:?} {ours:?}");
-    }
-    assert!(ours == theirs, "{before:?} {ours:?}: buffers");
+    step_on(hub, &state, &case);
 }
 
 /// The fields by their words; none where a word is too wide for its field.

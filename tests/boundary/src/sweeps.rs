@@ -77,7 +77,7 @@ pub fn all<I: Implementation>() -> Vec<Sweep<I>> {
         Sweep::new("verdict 0, then everything", 31, conversations::failed),
         Sweep::new("reports in every order, disturbed, empty", 813, conversations::reports),
         Sweep::new("fragment sizes at their edges, 24 and 25", 92, conversations::sizes),
-        Sweep::new("19, 17, 18, 21, 20, 22, 23 in their order", 25, conversations::conflicts),
+        Sweep::new("19, 17, 18, 21, 20, 22, 23 in their order", 27, conversations::conflicts),
         Sweep::new("indexes heard at and above the count", 240, made_up::heard),
     ]
 }

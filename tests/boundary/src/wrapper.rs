@@ -1,6 +1,7 @@
 // SPDX-License-Identifier: MPL-2.0
 //! Document 01's calls by the Rust wrapper, host/rust. What its types rule out (keys that are neither
-//! 64 bytes nor none, another verdict than 0 and 1) is answered by the second implementation.
+//! 64 bytes nor none, another verdict than 0 and 1) is answered by the second implementation, and so is
+//! a short report buffer.
 
 use hlidunsk as h;
 use second::compare::{Implementation, Piece, Second};
@@ -102,7 +103,8 @@ impl Implementation for Wrapper {
         report: &mut [u8],
         verdict: u64,
     ) -> (Connection, Answer) {
-        let (Some(keys), 0..=1) = (keys_of(keys), verdict) else {
+        let short = connection.known_length().is_some_and(|length| report.len() < length);
+        let (Some(keys), 0..=1, false) = (keys_of(keys), verdict, short) else {
             return Second.step(connection, message, keys, working, report, verdict);
         };
         let mut hub = h::Connection::from_bytes(encode(&connection));

@@ -190,7 +190,7 @@ fn it_notices_every_kind_of_error() {
     ] {
         let mut prng = Prng::new(2);
         let mut comparison = Comparison::new(Spoilt(error));
-        let found = (0..20).find_map(|_| comparison.round(&mut prng).err());
+        let found = (0..40).find_map(|_| comparison.round(&mut prng).err());
         let Some(Difference(text)) = found else { panic!("{error:?} was not noticed") };
         assert!(text.contains("this one:") && text.contains("the other:"));
     }

@@ -14,9 +14,9 @@ use super::trial::{KEYS, fields, noise, step_of};
 use super::written::piece;
 use super::{Tried, as_expected, each};
 use crate::hub::{BEFORE, fields_of, number_of};
-use crate::hub_h::{self, Hub, header_words};
+use crate::hub_h::{self, Hub, WRONG_BUFFER, header_words};
 use crate::samples::samples;
-use crate::sizes::{WRONG_BUFFER, write_words};
+use crate::sizes::write_words;
 use crate::state::encode;
 
 /// A call that is refused, and with which number.

@@ -195,15 +195,18 @@ fn noise(prng: &mut Prng) -> Vec<u8> {
     noise
 }
 
-/// Room for the report so far, or about.
+/// Room for the report so far, or about; mostly for all of it where its length is known.
 fn report_buffer(prng: &mut Prng, connection: &Connection) -> Vec<u8> {
     let size = connection.fragment_size.clamp(1, FRAGMENT_SIZE) as usize;
     let whole = size * prng.pick(&[1, 2, 3, usize::from(connection.count.clamp(1, 64))]);
+    let known = connection.known_length();
     let length = match prng.below(10) {
         0 => whole - 1,
         1 => prng.below(whole),
         2 => 0,
-        _ => whole + prng.below(9),
+        3 => known.unwrap_or(whole).saturating_sub(1),
+        4 => known.unwrap_or(whole),
+        _ => whole.max(known.unwrap_or(0)) + prng.below(9),
     };
     prng.bytes(length)
 }
