@@ -8,10 +8,11 @@ use second::compare::{Implementation, Piece, Second};
 use second::connection::{Answer, Connection};
 use second::header::{Framed, Header, Kind};
 use second::message::{Message, Place};
+use second::payload::{Connect, Credentials, Offer, Parts};
 use second::refusal::Refusal;
 
-use crate::hub_h::{Hub, WRONG_BUFFER, answer_words, header_words, kinds, piece_words};
-use crate::hub_h::{place_words, sealed};
+use crate::hub_h::{Hub, WRONG_BUFFER, answer_words, connect_words, header_words, kinds};
+use crate::hub_h::{piece_words, place_words, sealed};
 use crate::state::{STATE, decode, encode};
 
 /// What stands in an output before a call.
@@ -85,6 +86,22 @@ pub fn fields_of(header: &Header) -> [u64; 8] {
         fields[name] = value;
     }
     fields
+}
+
+/// What the words say of a Connect payload.
+pub fn parts_of(words: &[u64; 13]) -> Parts {
+    let [kind, mode, code, parts @ ..] = by_name(words, connect_words());
+    let part = |at: usize| fits(parts[2 * at])..fits(parts[2 * at] + parts[2 * at + 1]);
+    Parts {
+        kind: fits(kind),
+        mode: fits(mode),
+        code: fits(code),
+        nonce: part(0),
+        x: part(1),
+        y: part(2),
+        certificate: part(3),
+        thumbprint: part(4),
+    }
 }
 
 /// A step's answer.
@@ -161,6 +178,54 @@ impl Implementation for Hub {
         let fields = fields_of(header);
         let number = Hub::write(self, &fields, chain, payload, keys, output, &mut length);
         Ok(fits(unless_refused(number, length)?[0]))
+    }
+
+    fn write_presence_request(&mut self, output: &mut [u8]) -> Result<usize, Refusal> {
+        let mut length = [BEFORE];
+        let number = Hub::write_presence_request(self, output, &mut length);
+        Ok(fits(unless_refused(number, length)?[0]))
+    }
+
+    fn write_connect(
+        &mut self,
+        mode: u16,
+        connect: Connect<'_>,
+        output: &mut [u8],
+    ) -> Result<usize, Refusal> {
+        let (mode, mut length) = (mode.into(), [BEFORE]);
+        let l = &mut length;
+        let number = match connect {
+            Connect::ConnectionRequest(Offer { nonce, x, y }) => {
+                self.write_connection_request(mode, [&nonce, &x, &y], output, l)
+            }
+            Connect::ConnectionPending(Offer { nonce, x, y }) => {
+                self.write_connection_response(mode, 1, [&nonce, &x, &y], output, l)
+            }
+            Connect::ConnectionResult(result) => {
+                self.write_connection_response(mode, result.into(), [&[]; 3], output, l)
+            }
+            Connect::AuthenticationRequest(Credentials { certificate, thumbprint }) => {
+                self.write_device_authentication(2, mode, certificate, thumbprint, output, l)
+            }
+            Connect::AuthenticationResponse(Credentials { certificate, thumbprint }) => {
+                self.write_device_authentication(3, mode, certificate, thumbprint, output, l)
+            }
+            Connect::DoneRequest => self.write_done_request(mode, output, l),
+            Connect::DoneResponse(status) => {
+                self.write_done_response(mode, status.into(), output, l)
+            }
+        };
+        Ok(fits(unless_refused(number, length)?[0]))
+    }
+
+    fn read_connect(&mut self, payload: &[u8]) -> Result<Parts, Refusal> {
+        let mut words = [BEFORE; 13];
+        let number = Hub::read_connect(self, payload, &mut words);
+        Ok(parts_of(&unless_refused(number, words)?))
+    }
+
+    fn wanted(&mut self, bytes: &[u8]) -> usize {
+        Hub::wanted(self, bytes) as usize
     }
 
     fn open(&mut self, fragment_size: u32) -> (Connection, Result<(), Refusal>) {

@@ -4,12 +4,18 @@
 
 #![allow(unsafe_code)]
 
+use std::ffi::CStr;
+
 use crate::guard::Room;
 use crate::state::{STATE, decode};
 
 mod through {
+    use std::ffi::c_char;
+
     unsafe extern "C" {
         pub fn through_version() -> u32;
+        pub fn through_text(n: u32) -> *const c_char;
+        pub fn through_no_entries() -> *const u8;
         pub fn through_digest(b: *const u8, bn: usize, o: *mut u8, on: usize) -> u32;
         pub fn through_hmac(
             k: *const u8,
@@ -55,6 +61,64 @@ mod through {
             l: *mut u64,
             ln: usize,
         ) -> u32;
+        pub fn through_write_presence_request(o: *mut u8, on: usize, l: *mut u64, ln: usize)
+        -> u32;
+        pub fn through_write_connection_request(
+            m: u64,
+            n: *const u8,
+            nn: usize,
+            x: *const u8,
+            xn: usize,
+            y: *const u8,
+            yn: usize,
+            o: *mut u8,
+            on: usize,
+            l: *mut u64,
+            ln: usize,
+        ) -> u32;
+        pub fn through_write_connection_response(
+            m: u64,
+            r: u64,
+            n: *const u8,
+            nn: usize,
+            x: *const u8,
+            xn: usize,
+            y: *const u8,
+            yn: usize,
+            o: *mut u8,
+            on: usize,
+            l: *mut u64,
+            ln: usize,
+        ) -> u32;
+        pub fn through_write_device_authentication(
+            k: u64,
+            m: u64,
+            c: *const u8,
+            cn: usize,
+            t: *const u8,
+            tn: usize,
+            o: *mut u8,
+            on: usize,
+            l: *mut u64,
+            ln: usize,
+        ) -> u32;
+        pub fn through_write_done_request(
+            m: u64,
+            o: *mut u8,
+            on: usize,
+            l: *mut u64,
+            ln: usize,
+        ) -> u32;
+        pub fn through_write_done_response(
+            m: u64,
+            s: u64,
+            o: *mut u8,
+            on: usize,
+            l: *mut u64,
+            ln: usize,
+        ) -> u32;
+        pub fn through_read_connect(p: *const u8, pn: usize, c: *mut u64, cn: usize) -> u32;
+        pub fn through_wanted(b: *const u8, bn: usize) -> u32;
         pub fn through_open(f: u64, s: *mut u8, sn: usize) -> u32;
         pub fn through_step(
             s: *mut u8,
@@ -82,18 +146,23 @@ mod through {
         ) -> u32;
         pub static through_version_here: u32;
         pub static through_refusals: [u32; 27];
-        pub static through_sizes: [usize; 10];
-        pub static through_bounds: [usize; 6];
+        pub static through_no_entries_n: usize;
+        pub static through_sizes: [usize; 13];
+        pub static through_bounds: [usize; 10];
         pub static through_header_words: [usize; 11];
         pub static through_place_words: [usize; 3];
         pub static through_answer_words: [usize; 4];
         pub static through_piece_words: [usize; 3];
+        pub static through_connect_words: [usize; 13];
         pub static through_state_places: [usize; 13];
         pub static through_kinds: [u64; 7];
         pub static through_sealed: [u64; 3];
         pub static through_types: [u64; 3];
         pub static through_flags: [u64; 5];
-        pub static through_connects: [u64; 6];
+        pub static through_connects: [u64; 7];
+        pub static through_modes: [u64; 3];
+        pub static through_codes: [u64; 5];
+        pub static through_states: [u64; 5];
     }
 }
 
@@ -110,18 +179,36 @@ macro_rules! constants {
 constants! {
     version_here: u32 = through_version_here, "The header's version.";
     refusals: [u32; 27] = through_refusals, "Done, the refusals in document 01's order, wrong buffer.";
-    sizes: [usize; 10] = through_sizes, "State, header, fields, place, answer, piece, length, digest, keys, line.";
-    bounds: [usize; 6] = through_bounds, "Least and most message, most read, most sealed, pieces, F.";
+    no_entries_n: usize = through_no_entries_n, "Bytes of the chain without entries.";
+    sizes: [usize; 13] = through_sizes, "State, header, fields, place, answer, piece, length, digest, keys, line, connect, nonce, X and Y.";
+    bounds: [usize; 10] = through_bounds, "Least and most message, most read, most sealed, pieces, F, certificate, thumbprint, payload, reply.";
     header_words: [usize; 11] = through_header_words, "Type to size.";
     place_words: [usize; 3] = through_place_words, "Buffer, from, size.";
     answer_words: [usize; 4] = through_answer_words, "Kind, value, length, Status.";
     piece_words: [usize; 3] = through_piece_words, "Count, from, size.";
+    connect_words: [usize; 13] = through_connect_words, "Type, mode, code; nonce, X, Y, certificate and thumbprint, each from and size.";
     state_places: [usize; 13] = through_state_places, "Fragment size to last length, and the end.";
     kinds: [u64; 7] = through_kinds, "Refused, Reply, Again, Failure, Taken, Repeat, Complete.";
     sealed: [u64; 3] = through_sealed, "Plain, opened, still sealed.";
     types: [u64; 3] = through_types, "Discovery, Connect, Session.";
     flags: [u64; 5] = through_flags, "Acknowledge, HMAC, encrypted, both, wake.";
-    connects: [u64; 6] = through_connects, "The Connect types, in order.";
+    connects: [u64; 7] = through_connects, "The Connect types, in order, and Failure.";
+    modes: [u64; 3] = through_modes, "ConnectionMode: None, Proximal, Legacy.";
+    codes: [u64; 5] = through_codes, "Success, Pending, Failure_Authentication, _NotAllowed, _Unknown.";
+    states: [u64; 5] = through_states, "Waiting for a request, for authentication, Passed, Ready, Failed.";
+}
+
+/// `hub_text`.
+pub fn text(number: u32) -> String {
+    // SAFETY: a string of C, which nobody changes.
+    let text = unsafe { CStr::from_ptr(through::through_text(number)) };
+    text.to_str().expect("ASCII").to_owned()
+}
+
+/// `HUB_NO_ENTRIES`.
+pub fn no_entries() -> Vec<u8> {
+    // SAFETY: so many bytes are there.
+    unsafe { std::slice::from_raw_parts(through::through_no_entries(), no_entries_n()).to_vec() }
 }
 
 /// What a call returns where a buffer of fixed size or a word is of another size, or a report buffer
@@ -282,6 +369,129 @@ impl Hub {
         self.keys.unchanged(keys);
         self.out.give_back(out);
         self.more_words.give_back_words(length);
+        number
+    }
+
+    /// `hub_write_presence_request`.
+    pub fn write_presence_request(&mut self, out: &mut [u8], length: &mut [u64]) -> u32 {
+        let (o, l) = (self.out.lend(out), self.words.lend_words(length));
+        let (on, ln) = (out.len(), length.len());
+        let number = unsafe { through::through_write_presence_request(o, on, l, ln) };
+        self.out.give_back(out);
+        self.words.give_back_words(length);
+        number
+    }
+
+    /// `hub_write_connection_request`, with nonce, X and Y.
+    pub fn write_connection_request(
+        &mut self,
+        mode: u64,
+        [nonce, x, y]: [&[u8]; 3],
+        out: &mut [u8],
+        length: &mut [u64],
+    ) -> u32 {
+        let (n, a, b) = (self.keys.lend(nonce), self.chain.lend(x), self.payload.lend(y));
+        let (o, l) = (self.out.lend(out), self.words.lend_words(length));
+        let (nn, an, bn, on, ln) = (nonce.len(), x.len(), y.len(), out.len(), length.len());
+        let number = unsafe {
+            through::through_write_connection_request(mode, n, nn, a, an, b, bn, o, on, l, ln)
+        };
+        self.keys.unchanged(nonce);
+        self.chain.unchanged(x);
+        self.payload.unchanged(y);
+        self.out.give_back(out);
+        self.words.give_back_words(length);
+        number
+    }
+
+    /// `hub_write_connection_response`, with nonce, X and Y.
+    pub fn write_connection_response(
+        &mut self,
+        mode: u64,
+        result: u64,
+        [nonce, x, y]: [&[u8]; 3],
+        out: &mut [u8],
+        length: &mut [u64],
+    ) -> u32 {
+        let (n, a, b) = (self.keys.lend(nonce), self.chain.lend(x), self.payload.lend(y));
+        let (o, l) = (self.out.lend(out), self.words.lend_words(length));
+        let (nn, an, bn, on, ln) = (nonce.len(), x.len(), y.len(), out.len(), length.len());
+        let number = unsafe {
+            through::through_write_connection_response(
+                mode, result, n, nn, a, an, b, bn, o, on, l, ln,
+            )
+        };
+        self.keys.unchanged(nonce);
+        self.chain.unchanged(x);
+        self.payload.unchanged(y);
+        self.out.give_back(out);
+        self.words.give_back_words(length);
+        number
+    }
+
+    /// `hub_write_device_authentication`.
+    pub fn write_device_authentication(
+        &mut self,
+        kind: u64,
+        mode: u64,
+        certificate: &[u8],
+        thumbprint: &[u8],
+        out: &mut [u8],
+        length: &mut [u64],
+    ) -> u32 {
+        let (c, t) = (self.chain.lend(certificate), self.payload.lend(thumbprint));
+        let (o, l) = (self.out.lend(out), self.words.lend_words(length));
+        let (cn, tn, on, ln) = (certificate.len(), thumbprint.len(), out.len(), length.len());
+        let number = unsafe {
+            through::through_write_device_authentication(kind, mode, c, cn, t, tn, o, on, l, ln)
+        };
+        self.chain.unchanged(certificate);
+        self.payload.unchanged(thumbprint);
+        self.out.give_back(out);
+        self.words.give_back_words(length);
+        number
+    }
+
+    /// `hub_write_done_request`.
+    pub fn write_done_request(&mut self, mode: u64, out: &mut [u8], length: &mut [u64]) -> u32 {
+        let (o, l) = (self.out.lend(out), self.words.lend_words(length));
+        let (on, ln) = (out.len(), length.len());
+        let number = unsafe { through::through_write_done_request(mode, o, on, l, ln) };
+        self.out.give_back(out);
+        self.words.give_back_words(length);
+        number
+    }
+
+    /// `hub_write_done_response`.
+    pub fn write_done_response(
+        &mut self,
+        mode: u64,
+        status: u64,
+        out: &mut [u8],
+        length: &mut [u64],
+    ) -> u32 {
+        let (o, l) = (self.out.lend(out), self.words.lend_words(length));
+        let (on, ln) = (out.len(), length.len());
+        let number = unsafe { through::through_write_done_response(mode, status, o, on, l, ln) };
+        self.out.give_back(out);
+        self.words.give_back_words(length);
+        number
+    }
+
+    /// `hub_read_connect`.
+    pub fn read_connect(&mut self, payload: &[u8], connect: &mut [u64]) -> u32 {
+        let (p, c) = (self.payload.lend(payload), self.words.lend_words(connect));
+        let number = unsafe { through::through_read_connect(p, payload.len(), c, connect.len()) };
+        self.payload.unchanged(payload);
+        self.words.give_back_words(connect);
+        number
+    }
+
+    /// `hub_wanted`.
+    pub fn wanted(&mut self, bytes: &[u8]) -> u32 {
+        let b = self.message.lend(bytes);
+        let number = unsafe { through::through_wanted(b, bytes.len()) };
+        self.message.unchanged(bytes);
         number
     }
 

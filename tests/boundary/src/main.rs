@@ -22,8 +22,10 @@ use boundary::state::{decode, encode};
 use boundary::sweeps;
 use boundary::wrapper::Wrapper;
 use second::compare::{Comparison, Difference, Implementation, Tally};
+use second::connection::State;
 use second::generate::{case, write_case};
 use second::prng::Prng;
+use second::writer::message_length;
 
 /// The seed of `./test`: "HUB.H".
 const SEED: u64 = 0x48_55_42_2E_48;
@@ -68,19 +70,28 @@ fn beside(hub: &mut Hub, seed: u64, round: u64) {
     });
 }
 
-/// The header's constants are what the library and document 01 go by.
+/// The header's constants are what the library, document 01 and MS-CDP (2.2.2.3) go by.
 fn constants(hub: &Hub) {
     agree("constants", || {
         assert_eq!(hub.version(), hub_h::version_here());
         let numbers: Vec<u32> = (0..=25).chain([255]).collect();
         assert_eq!(hub_h::refusals()[..], numbers);
-        assert_eq!(hub_h::sizes(), [151, 11, 8, 3, 3, 3, 1, 32, 64, 64]);
-        assert_eq!(hub_h::bounds(), [42, 18_530, 65_535, 65_456, 64, 16_384]);
+        assert_eq!(hub_h::sizes(), [151, 11, 8, 3, 3, 3, 1, 32, 64, 64, 13, 8, 32]);
+        let bounds = [42, 18_530, 65_535, 65_456, 64, 16_384, 2_048, 512, 2_567, 2_650];
+        assert_eq!(hub_h::bounds(), bounds);
+        let (chain, payload) = (8 * 257 + 2, 7 + 2_048 + 512);
+        assert_eq!(message_length(true, chain, 16_384), bounds[1]);
+        assert_eq!([payload, message_length(true, 2, payload)], bounds[8..]);
+        assert_eq!(hub_h::no_entries(), [0, 0]);
         assert_eq!(hub_h::kinds(), [0, 1, 2, 3, 4, 5, 6]);
         assert_eq!(hub_h::sealed(), [0, 1, 2]);
         assert_eq!(hub_h::types(), [1, 2, 4]);
         assert_eq!(hub_h::flags(), [1, 2, 4, 6, 8]);
-        assert_eq!(hub_h::connects(), [0, 1, 2, 3, 6, 7]);
+        assert_eq!(hub_h::connects(), [0, 1, 2, 3, 6, 7, 8]);
+        assert_eq!(hub_h::modes(), [0, 1, 2]);
+        assert_eq!(hub_h::codes(), [0, 1, 2, 3, 4]);
+        assert_eq!(hub_h::states(), State::ALL.map(|state| state as u64));
+        assert_eq!(hub_h::connect_words(), std::array::from_fn(|place| place));
         Ok(())
     });
 }
@@ -107,10 +118,10 @@ fn wrong_sizes(hub: &mut Hub, times: u64) -> u64 {
 }
 
 fn say(tally: &Tally) -> String {
-    let Tally { steps, conversations, reads, writes, cuts, digests } = tally;
+    let Tally { steps, conversations, reads, writes, payloads, cuts, digests } = tally;
     format!(
         "{steps} steps in {conversations} conversations and single, {reads} messages read, {writes} \
-         written, {cuts} cut, {digests} digests with their tags"
+         written, {payloads} payloads by themselves, {cuts} cut, {digests} digests with their tags"
     )
 }
 

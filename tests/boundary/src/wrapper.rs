@@ -1,13 +1,14 @@
 // SPDX-License-Identifier: MPL-2.0
 //! Document 01's calls by the Rust wrapper, host/rust. What its types rule out (keys that are neither
-//! 64 bytes nor none, another verdict than 0 and 1) is answered by the second implementation, and so is
-//! a short report buffer.
+//! 64 bytes nor none, another verdict than 0 and 1) is answered by the second implementation, and so are
+//! a short report buffer and what the wrapper does not have: payloads and streams.
 
 use hlidunsk as h;
 use second::compare::{Implementation, Piece, Second};
 use second::connection::{Answer, Connection};
 use second::header::{Framed, Header, Kind};
 use second::message::{Message, Place};
+use second::payload::{Connect, Parts};
 use second::refusal::Refusal;
 
 use crate::hub::refusal;
@@ -85,6 +86,27 @@ impl Implementation for Wrapper {
         let header =
             h::Header { message_type, flags, sequence, request, index, count, session, channel };
         h::write(&header, chain, payload, keys, output).map_err(refused)
+    }
+
+    fn write_presence_request(&mut self, output: &mut [u8]) -> Result<usize, Refusal> {
+        Second.write_presence_request(output)
+    }
+
+    fn write_connect(
+        &mut self,
+        mode: u16,
+        connect: Connect<'_>,
+        output: &mut [u8],
+    ) -> Result<usize, Refusal> {
+        Second.write_connect(mode, connect, output)
+    }
+
+    fn read_connect(&mut self, payload: &[u8]) -> Result<Parts, Refusal> {
+        Second.read_connect(payload)
+    }
+
+    fn wanted(&mut self, bytes: &[u8]) -> usize {
+        Second.wanted(bytes)
     }
 
     fn open(&mut self, fragment_size: u32) -> (Connection, Result<(), Refusal>) {
