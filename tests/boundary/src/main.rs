@@ -15,6 +15,7 @@ use std::time::{Duration, Instant};
 
 use boundary::guard::Room;
 use boundary::hub_h::{self, Hub};
+use boundary::payloads::any_payload;
 use boundary::samples::{self, samples};
 use boundary::sizes::{any_place, any_state, any_tag, every_wrong_size, long_message};
 use boundary::sizes::{wide_fields, wide_numbers};
@@ -65,6 +66,7 @@ fn beside(hub: &mut Hub, seed: u64, round: u64) {
             any_place(hub, &mut prng);
             any_tag(hub, &mut prng);
             wide_numbers(hub, &mut prng);
+            any_payload(hub, &mut prng);
         }
         Ok(())
     });
@@ -172,7 +174,7 @@ fn test(rounds: u64) {
     println!("boundary: in these steps {}", all_came(&comparison.other));
     println!(
         "boundary: alike: {} each of steps on states of any bytes, writes with wide words, places by \
-         any words, tags compared, numbers of 64 bits",
+         any words, tags compared, numbers of 64 bits, payloads of any words",
         4 * rounds
     );
     let mut faults = Comparison::new(Hub::default());

@@ -5,12 +5,13 @@
 use second::compare::{Comparison, Difference, Implementation, Second};
 use second::connection::{Answer, State};
 use second::crypto::hmac;
-use second::generate::{Case, WriteCase, case, cut_case, dress, gateway, write_case};
+use second::generate::{Case, WriteCase, case, cut_case, dress, gateway, payload_case, write_case};
 use second::header::Header;
 use second::prng::Prng;
 
 use crate::hub::{BEFORE, answer_of, by_name, fields_of, number_of};
 use crate::hub_h::{Hub, WRONG_BUFFER, header_words, is_short};
+use crate::payloads::{Call, Writer};
 use crate::state::{STATE, decode, encode, encode_next};
 
 /// Every size from 0 to a little more than the right one, but for that.
@@ -86,6 +87,28 @@ pub fn every_wrong_size(hub: &mut Hub, prng: &mut Prng, case: &Case, write: &Wri
         let mut line = [0x77; 64];
         let number = hub.list(message, &mut line, &mut length);
         call("list", number, line == [0x77; 64] && length == vec![fill; size]);
+    }
+    for size in wrong(13) {
+        let mut words = vec![fill; size];
+        let number = hub.read_connect(payload, &mut words);
+        call("read_connect", number, words == vec![fill; size]);
+    }
+    let mut judge = |prng: &mut Prng, writer: Writer, change: &dyn Fn(&mut Call)| {
+        let mut changed = Call::new(writer, payload_case(prng));
+        change(&mut changed);
+        call("a payload's writer", changed.judge(hub).0, true);
+    };
+    for (size, writer) in wrong(1).flat_map(|size| Writer::ALL.map(|writer| (size, writer))) {
+        judge(prng, writer, &|call| call.length = vec![fill; size]);
+    }
+    for writer in [Writer::ConnectionRequest, Writer::ConnectionResponse] {
+        for size in wrong(8) {
+            judge(prng, writer, &|call| (call.code, call.nonce) = (1, vec![7; size]));
+        }
+        for size in wrong(32) {
+            judge(prng, writer, &|call| (call.code, call.x) = (1, vec![7; size]));
+            judge(prng, writer, &|call| (call.code, call.y) = (1, vec![7; size]));
+        }
     }
     for size in wrong(64) {
         let before = prng.bytes(size);
