@@ -7,9 +7,12 @@ pub mod conversations;
 pub mod described;
 pub mod header;
 pub mod made_up;
+pub mod parts;
 pub mod payload;
 pub mod sealed;
+pub mod streams;
 pub mod trial;
+pub mod values;
 pub mod words;
 pub mod written;
 
@@ -82,8 +85,8 @@ pub fn all<I: Implementation>() -> Vec<Sweep<I>> {
     ]
 }
 
-/// The sweeps of what include/hub.h's calls leave in their words.
-pub fn of_words() -> Vec<Sweep<Hub>> {
+/// The sweeps of what include/hub.h alone says: what its calls leave in their words, payloads, streams.
+pub fn of_header() -> Vec<Sweep<Hub>> {
     vec![
         Sweep::new(
             "a read that is refused after one that was done",
@@ -93,6 +96,20 @@ pub fn of_words() -> Vec<Sweep<Hub>> {
         Sweep::new("the words of a header as a place", 25, words::header_as_place),
         Sweep::new("each field of the writer at its edge", 69, words::fields_at_edges),
         Sweep::new("a step that is refused after one that was done", 26, words::refused_after_step),
+        Sweep::new("values of payloads at their bounds and beyond", 2_294, values::bounds),
+        Sweep::new("payloads written into every size", 4_048, values::outputs),
+        Sweep::new("nonce, X, Y and length of every size", 1_152, values::fixed_sizes),
+        Sweep::new("Connect payloads read, each value", 88, parts::whole),
+        Sweep::new("Connect payloads cut at every length", 15_795, parts::cuts),
+        Sweep::new("Connect payloads with bytes after their end", 522, parts::longer),
+        Sweep::new("Connect payloads with a byte changed", 84_405, parts::changed),
+        Sweep::new("payloads of 0 to 90 bytes read", 19_656, parts::short),
+        Sweep::new("certificates and thumbprints read", 180, parts::credentials),
+        Sweep::new("the sample messages' payloads read", 25, parts::of_samples),
+        Sweep::new("payloads written, sent, opened and read", 264, parts::there_and_back),
+        Sweep::new("the next message, 0 to 50 bytes of it", 848, streams::cuts),
+        Sweep::new("the next message, every length", 65_536, streams::lengths),
+        Sweep::new("the sample messages as a stream", 4_846, streams::of_samples),
     ]
 }
 
