@@ -10,6 +10,7 @@ pub mod made_up;
 pub mod parts;
 pub mod payload;
 pub mod sealed;
+pub mod short;
 pub mod streams;
 pub mod trial;
 pub mod values;
@@ -85,7 +86,8 @@ pub fn all<I: Implementation>() -> Vec<Sweep<I>> {
     ]
 }
 
-/// The sweeps of what include/hub.h alone says: what its calls leave in their words, payloads, streams.
+/// The sweeps of what include/hub.h alone says: what its calls leave in their words, payloads,
+/// streams, short report buffers.
 pub fn of_header() -> Vec<Sweep<Hub>> {
     vec![
         Sweep::new(
@@ -110,6 +112,14 @@ pub fn of_header() -> Vec<Sweep<Hub>> {
         Sweep::new("the next message, 0 to 50 bytes of it", 848, streams::cuts),
         Sweep::new("the next message, every length", 65_536, streams::lengths),
         Sweep::new("the sample messages as a stream", 4_846, streams::of_samples),
+        Sweep::new("report buffers about a known length", 9_670, short::bounds),
+        Sweep::new(
+            "a short report buffer, every kind of message",
+            2_688,
+            short::messages_of_each_kind,
+        ),
+        Sweep::new("a report buffer of every size at the last piece", 41, short::complete),
+        Sweep::new("verdicts of 64 bits, every kind of message", 3_360, short::verdicts),
     ]
 }
 

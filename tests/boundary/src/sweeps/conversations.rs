@@ -186,7 +186,7 @@ pub fn enrolment<I: Implementation>(comparison: &mut Comparison<I>) -> Tried {
 }
 
 /// Messages of every kind, none of which a connection awaits in each state.
-fn kinds(gateway: &Gateway) -> Vec<Draft> {
+pub fn kinds(gateway: &Gateway) -> Vec<Draft> {
     let mut other = gateway.clone();
     other.offer = Offer { nonce: [1; 8], ..gateway.offer };
     other.certificate = vec![2; 3];
