@@ -12,6 +12,7 @@ pub mod payload;
 pub mod sealed;
 pub mod short;
 pub mod streams;
+pub mod texts;
 pub mod trial;
 pub mod values;
 pub mod words;
@@ -87,7 +88,7 @@ pub fn all<I: Implementation>() -> Vec<Sweep<I>> {
 }
 
 /// The sweeps of what include/hub.h alone says: what its calls leave in their words, payloads,
-/// streams, short report buffers.
+/// streams, short report buffers, texts.
 pub fn of_header() -> Vec<Sweep<Hub>> {
     vec![
         Sweep::new(
@@ -120,6 +121,7 @@ pub fn of_header() -> Vec<Sweep<Hub>> {
         ),
         Sweep::new("a report buffer of every size at the last piece", 41, short::complete),
         Sweep::new("verdicts of 64 bits, every kind of message", 3_360, short::verdicts),
+        Sweep::new("the text of each number", 1_770, texts::texts),
     ]
 }
 
