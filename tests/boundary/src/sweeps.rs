@@ -99,7 +99,7 @@ pub fn of_header() -> Vec<Sweep<Hub>> {
         Sweep::new("the words of a header as a place", 25, words::header_as_place),
         Sweep::new("each field of the writer at its edge", 69, words::fields_at_edges),
         Sweep::new("a step that is refused after one that was done", 26, words::refused_after_step),
-        Sweep::new("values of payloads at their bounds and beyond", 2_294, values::bounds),
+        Sweep::new("values of payloads at their bounds and beyond", 2_384, values::bounds),
         Sweep::new("payloads written into every size", 4_048, values::outputs),
         Sweep::new("nonce, X, Y and length of every size", 1_152, values::fixed_sizes),
         Sweep::new("Connect payloads read, each value", 88, parts::whole),

@@ -34,7 +34,7 @@ const MODES: [u64; 15] = [
 ];
 
 /// The same for Result, Status and type.
-const CODES: [u64; 22] = [
+const CODES: [u64; 23] = [
     0,
     1,
     2,
@@ -50,6 +50,7 @@ const CODES: [u64; 22] = [
     257,
     258,
     259,
+    65_536,
     65_537,
     65_538,
     1 << 32,
