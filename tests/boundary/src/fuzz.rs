@@ -12,7 +12,9 @@ use second::draft::{Damage, Draft};
 use second::generate::{Case, CutCase, WriteCase};
 use second::header::Header;
 
+use crate::hub::BEFORE;
 use crate::hub_h::Hub;
+use crate::payloads::{Call, Writer};
 
 /// The fuzzer's bytes, read from the front; after their end all is zero.
 struct Tape<'a>(&'a [u8]);
@@ -33,6 +35,19 @@ impl Tape<'_> {
         let (front, rest) = self.0.split_at(length);
         self.0 = rest;
         front.to_vec()
+    }
+
+    /// A small number, or one with a high bit.
+    fn word(&mut self) -> u64 {
+        match (self.number(2), self.byte()) {
+            (small, 0) => small,
+            (small, bit) => small | 1 << (bit % 64),
+        }
+    }
+
+    /// So many bytes of this value, or those of the tape.
+    fn fixed(&mut self, size: usize, fill: u8) -> Vec<u8> {
+        if self.byte() == 0 { vec![fill; size] } else { self.bytes() }
     }
 
     fn header(&mut self) -> Header {
@@ -76,21 +91,42 @@ impl Tape<'_> {
 
 const KEYS: [u8; 64] = [0x42; 64];
 
-/// A connection that starts in any state, and some messages to it.
-fn steps(comparison: &mut Comparison<Hub>, tape: &mut Tape<'_>) -> Result<(), Difference> {
-    let mut connection = Connection {
+/// A connection that starts in any state.
+fn connection(tape: &mut Tape<'_>) -> Connection {
+    Connection {
         fragment_size: tape.byte().into(),
         state: tape.byte() % 6,
         session: 1,
         expected: tape.byte().into(),
         ..Connection::default()
-    };
-    let (mut working, mut report) = (vec![0xAA; 300], vec![0x55; 16 * usize::from(tape.byte())]);
+    }
+}
+
+/// One that is in mid-report besides, by whatever it has heard.
+fn made_up(tape: &mut Tape<'_>) -> Connection {
+    Connection {
+        count: tape.byte().into(),
+        heard: tape.number(8),
+        channel: (tape.byte() & 1).into(),
+        last_length: tape.byte().into(),
+        ..connection(tape)
+    }
+}
+
+/// Some messages to a connection.
+fn steps(
+    comparison: &mut Comparison<Hub>,
+    tape: &mut Tape<'_>,
+    mut connection: Connection,
+    mut report: Vec<u8>,
+) -> Result<(), Difference> {
+    let mut working = vec![0xAA; 300];
     while !tape.0.is_empty() {
         let choice = tape.byte();
         let message = if choice & 3 == 3 { tape.bytes() } else { tape.draft().bytes(&KEYS) };
         let keys = if choice & 0xF0 == 0xF0 { tape.bytes() } else { KEYS.to_vec() };
-        let verdict = u32::from(choice >> 2 & 3);
+        let wide = if choice & 0xE0 == 0xA0 { 1 << (tape.byte() % 64) } else { 0 };
+        let verdict = u64::from(choice >> 2 & 3) | wide;
         let (kept, room) = (working.clone(), report.clone());
         let mut case = Case { connection, message, keys, working: kept, report: room, verdict };
         comparison.read(&case)?;
@@ -104,11 +140,53 @@ fn steps(comparison: &mut Comparison<Hub>, tape: &mut Tape<'_>) -> Result<(), Di
     Ok(())
 }
 
+/// A call of a payload's writer, by words of any width and buffers of any size.
+fn payload(tape: &mut Tape<'_>) -> Call {
+    Call {
+        writer: Writer::ALL[usize::from(tape.byte()) % 6],
+        kind: tape.word(),
+        mode: tape.word(),
+        code: tape.word(),
+        nonce: tape.fixed(8, 1),
+        x: tape.fixed(32, 2),
+        y: tape.fixed(32, 3),
+        length: vec![BEFORE; usize::from(1 ^ (tape.byte() % 4))],
+        out: vec![0xEE; tape.number(2) as usize],
+        certificate: vec![4; tape.number(2) as usize],
+        thumbprint: vec![5; tape.number(2) as usize],
+    }
+}
+
 /// One input of the fuzzer: its first byte chooses the call.
 pub fn one(comparison: &mut Comparison<Hub>, data: &[u8]) -> Result<(), Difference> {
     let mut tape = Tape(data);
-    match tape.byte() % 4 {
-        0 | 1 => steps(comparison, &mut tape),
+    match tape.byte() {
+        4 => {
+            payload(&mut tape).judge(&mut comparison.other);
+            Ok(())
+        }
+        5 => comparison.read_payload(tape.0),
+        6 => {
+            let report = vec![0x55; tape.number(2) as usize];
+            let connection = made_up(&mut tape);
+            steps(comparison, &mut tape, connection, report)
+        }
+        other => of_four(comparison, tape, other % 4),
+    }
+}
+
+/// The calls that the first byte's remainder chooses.
+fn of_four(
+    comparison: &mut Comparison<Hub>,
+    mut tape: Tape<'_>,
+    choice: u8,
+) -> Result<(), Difference> {
+    match choice {
+        0 | 1 => {
+            let connection = connection(&mut tape);
+            let report = vec![0x55; 16 * usize::from(tape.byte())];
+            steps(comparison, &mut tape, connection, report)
+        }
         2 => {
             let header = Header { sequence: tape.number(4) as u32, ..tape.header() };
             let (chain, keys) = (tape.bytes(), tape.bytes());
@@ -133,8 +211,17 @@ fn spell(kind: u8, flags: u8, index: u8, count: u8, payload: &[u8]) -> Vec<u8> {
     [&front, payload].concat()
 }
 
+/// The tape of a call of a payload's writer, into an output of 3,000 bytes.
+fn spell_payload(writer: u8, kind: u8, mode: [u8; 2], code: u8) -> Vec<u8> {
+    let [mode, bit] = mode;
+    let words = [0, kind, 0, 0, mode, bit, 0, code, 0];
+    [&[4, writer][..], &words, &[0, 0, 0, 0, 0x0B, 0xB8, 0, 11, 0, 5]].concat()
+}
+
 /// Tapes to start from: an enrolment and a report of two pieces, whole and each message by itself in
-/// the state that waits for it; a call of the writer and one of the cutter.
+/// the state that waits for it; a call of the writer and one of the cutter; a call of each payload's
+/// writer, one with a mode that is too wide, and each payload to be read; the last missing piece of a
+/// report, with a report buffer of its length and a short one.
 pub fn seeds() -> Vec<Vec<u8>> {
     let mut request = [0; 86];
     request[..20].copy_from_slice(b"\0\0\0\0\0\x20a nonce!\0\0\x40\0\0\x20");
@@ -154,6 +241,17 @@ pub fn seeds() -> Vec<Vec<u8>> {
     seeds.extend(messages.iter().map(|(state, message)| [&start(*state)[..], message].concat()));
     let write = [&[2, 0, 0, 0, 0, 4, 0, 6, 0, 0, 0, 1, 0, 0, 2, 0, 0, 0, 1, 0][..], b"a piece"];
     seeds.extend([write.concat(), [&[3, 0, 4, 0, 2][..], b"ten bytes."].concat()]);
+    seeds.extend((0..6).map(|writer| spell_payload(writer, 2, [1, 0], 1)));
+    seeds.extend([spell_payload(2, 2, [1, 0], 0), spell_payload(1, 2, [1, 16], 0)]);
+    let mut pending = request;
+    pending[2..4].copy_from_slice(&[1, 1]);
+    let device = b"\0\x01\x02\0\x03abc\0\x02de";
+    let read: [&[u8]; 6] =
+        [&request, &pending, b"\0\0\x01\x03", device, b"\0\x02\x06", b"\0\x02\x07\x04"];
+    seeds.extend(read.map(|payload| [&[5][..], payload].concat()));
+    let last_heard = [2, 0, 0, 0, 0, 0, 0, 0, 2, 0, 4, 8, 3, 0];
+    let (_, first) = &messages[5];
+    seeds.extend([12, 11].map(|room| [&[6, 0, room][..], &last_heard, first].concat()));
     seeds
 }
 

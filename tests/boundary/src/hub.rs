@@ -1,33 +1,42 @@
 // SPDX-License-Identifier: MPL-2.0
 //! Document 01's calls as the comparison asks for them, each by one call through the C boundary. What
 //! the comparison cannot see is tested here: that a refusal leaves the state as it was and every word
-//! that it hands out 0, and which buffer the words name.
+//! that it hands out 0, and which buffer the words name. A short report buffer, of which document 01
+//! does not speak, is answered by the second implementation once the call has refused it.
 
-use second::compare::{Implementation, Piece};
+use second::compare::{Implementation, Piece, Second};
 use second::connection::{Answer, Connection};
 use second::header::{Framed, Header, Kind};
 use second::message::{Message, Place};
+use second::payload::{Connect, Credentials, Offer, Parts};
 use second::refusal::Refusal;
 
-use crate::hub_h::{Hub, answer_words, header_words, kinds, piece_words, place_words, sealed};
+use crate::hub_h::{Hub, WRONG_BUFFER, answer_words, connect_words, header_words, kinds};
+use crate::hub_h::{piece_words, place_words, sealed};
 use crate::state::{STATE, decode, encode};
 
 /// What stands in an output before a call.
 pub const BEFORE: u64 = 0x5AA5_0FF0_C33C_9669;
 
 /// What a call returned, as a refusal.
-pub fn refusal(number: u8) -> Result<(), Refusal> {
-    match number {
-        0 => Ok(()),
-        _ => Err(Refusal::from_number(number).unwrap_or_else(|| panic!("{number} was returned"))),
+pub fn refusal(number: u32) -> Result<(), Refusal> {
+    match u8::try_from(number).map(Refusal::from_number) {
+        Ok(Some(refusal)) => Err(refusal),
+        _ if number == 0 => Ok(()),
+        _ => panic!("{number} was returned"),
     }
 }
 
 /// The same; every word that is handed out is 0 exactly where it is a refusal.
-fn unless_refused<const N: usize>(number: u8, words: [u64; N]) -> Result<[u64; N], Refusal> {
+fn unless_refused<const N: usize>(number: u32, words: [u64; N]) -> Result<[u64; N], Refusal> {
     let answer = refusal(number);
     assert_eq!(answer.is_err(), words == [0; N], "{number} was returned, and the words {words:?}");
     answer.map(|()| words)
+}
+
+/// What a call returns for such an answer.
+pub fn number_of<T>(answer: &Result<T, Refusal>) -> u32 {
+    answer.as_ref().map_or_else(|refusal| refusal.number().into(), |_| 0)
 }
 
 /// Words by hub.h's names, in the order of the names.
@@ -77,6 +86,22 @@ pub fn fields_of(header: &Header) -> [u64; 8] {
         fields[name] = value;
     }
     fields
+}
+
+/// What the words say of a Connect payload.
+pub fn parts_of(words: &[u64; 13]) -> Parts {
+    let [kind, mode, code, parts @ ..] = by_name(words, connect_words());
+    let part = |at: usize| fits(parts[2 * at])..fits(parts[2 * at] + parts[2 * at + 1]);
+    Parts {
+        kind: fits(kind),
+        mode: fits(mode),
+        code: fits(code),
+        nonce: part(0),
+        x: part(1),
+        y: part(2),
+        certificate: part(3),
+        thumbprint: part(4),
+    }
 }
 
 /// A step's answer.
@@ -155,6 +180,54 @@ impl Implementation for Hub {
         Ok(fits(unless_refused(number, length)?[0]))
     }
 
+    fn write_presence_request(&mut self, output: &mut [u8]) -> Result<usize, Refusal> {
+        let mut length = [BEFORE];
+        let number = Hub::write_presence_request(self, output, &mut length);
+        Ok(fits(unless_refused(number, length)?[0]))
+    }
+
+    fn write_connect(
+        &mut self,
+        mode: u16,
+        connect: Connect<'_>,
+        output: &mut [u8],
+    ) -> Result<usize, Refusal> {
+        let (mode, mut length) = (mode.into(), [BEFORE]);
+        let l = &mut length;
+        let number = match connect {
+            Connect::ConnectionRequest(Offer { nonce, x, y }) => {
+                self.write_connection_request(mode, [&nonce, &x, &y], output, l)
+            }
+            Connect::ConnectionPending(Offer { nonce, x, y }) => {
+                self.write_connection_response(mode, 1, [&nonce, &x, &y], output, l)
+            }
+            Connect::ConnectionResult(result) => {
+                self.write_connection_response(mode, result.into(), [&[]; 3], output, l)
+            }
+            Connect::AuthenticationRequest(Credentials { certificate, thumbprint }) => {
+                self.write_device_authentication(2, mode, certificate, thumbprint, output, l)
+            }
+            Connect::AuthenticationResponse(Credentials { certificate, thumbprint }) => {
+                self.write_device_authentication(3, mode, certificate, thumbprint, output, l)
+            }
+            Connect::DoneRequest => self.write_done_request(mode, output, l),
+            Connect::DoneResponse(status) => {
+                self.write_done_response(mode, status.into(), output, l)
+            }
+        };
+        Ok(fits(unless_refused(number, length)?[0]))
+    }
+
+    fn read_connect(&mut self, payload: &[u8]) -> Result<Parts, Refusal> {
+        let mut words = [BEFORE; 13];
+        let number = Hub::read_connect(self, payload, &mut words);
+        Ok(parts_of(&unless_refused(number, words)?))
+    }
+
+    fn wanted(&mut self, bytes: &[u8]) -> usize {
+        Hub::wanted(self, bytes) as usize
+    }
+
     fn open(&mut self, fragment_size: u32) -> (Connection, Result<(), Refusal>) {
         let mut state = [0xA5; STATE];
         let number = Hub::open(self, fragment_size.into(), &mut state);
@@ -168,13 +241,15 @@ impl Implementation for Hub {
         keys: &[u8],
         working: &mut [u8],
         report: &mut [u8],
-        verdict: u32,
+        verdict: u64,
     ) -> (Connection, Answer) {
         let before = encode(&connection);
         let (mut state, mut words) = (before, [BEFORE; 3]);
-        let verdict = verdict as u8;
         let number =
             Hub::step(self, &mut state, message, keys, working, report, verdict, &mut words);
+        if number == WRONG_BUFFER {
+            return Second.step(connection, message, keys, working, report, verdict);
+        }
         match unless_refused(number, words) {
             Err(refusal) => {
                 assert_eq!(state, before, "{refusal}, but the state was written");

@@ -4,12 +4,19 @@
 
 #![allow(unsafe_code)]
 
+use std::ffi::CStr;
+
 use crate::guard::Room;
+use crate::state::{STATE, decode};
 
 mod through {
+    use std::ffi::c_char;
+
     unsafe extern "C" {
         pub fn through_version() -> u32;
-        pub fn through_digest(b: *const u8, bn: usize, o: *mut u8, on: usize) -> u8;
+        pub fn through_text(n: u32) -> *const c_char;
+        pub fn through_no_entries() -> *const u8;
+        pub fn through_digest(b: *const u8, bn: usize, o: *mut u8, on: usize) -> u32;
         pub fn through_hmac(
             k: *const u8,
             kn: usize,
@@ -17,9 +24,9 @@ mod through {
             mn: usize,
             o: *mut u8,
             on: usize,
-        ) -> u8;
-        pub fn through_same_tag(a: *const u8, an: usize, b: *const u8, bn: usize) -> u8;
-        pub fn through_read_header(m: *const u8, mn: usize, h: *mut u64, hn: usize) -> u8;
+        ) -> u32;
+        pub fn through_same_tag(a: *const u8, an: usize, b: *const u8, bn: usize) -> u32;
+        pub fn through_read_header(m: *const u8, mn: usize, h: *mut u64, hn: usize) -> u32;
         pub fn through_read(
             m: *const u8,
             mn: usize,
@@ -29,7 +36,7 @@ mod through {
             wn: usize,
             h: *mut u64,
             hn: usize,
-        ) -> u8;
+        ) -> u32;
         pub fn through_payload(
             m: *const u8,
             mn: usize,
@@ -39,7 +46,7 @@ mod through {
             hn: usize,
             p: *mut u64,
             pn: usize,
-        ) -> u8;
+        ) -> u32;
         pub fn through_write(
             f: *const u64,
             fn_: usize,
@@ -53,8 +60,66 @@ mod through {
             on: usize,
             l: *mut u64,
             ln: usize,
-        ) -> u8;
-        pub fn through_open(f: u64, s: *mut u8, sn: usize) -> u8;
+        ) -> u32;
+        pub fn through_write_presence_request(o: *mut u8, on: usize, l: *mut u64, ln: usize)
+        -> u32;
+        pub fn through_write_connection_request(
+            m: u64,
+            n: *const u8,
+            nn: usize,
+            x: *const u8,
+            xn: usize,
+            y: *const u8,
+            yn: usize,
+            o: *mut u8,
+            on: usize,
+            l: *mut u64,
+            ln: usize,
+        ) -> u32;
+        pub fn through_write_connection_response(
+            m: u64,
+            r: u64,
+            n: *const u8,
+            nn: usize,
+            x: *const u8,
+            xn: usize,
+            y: *const u8,
+            yn: usize,
+            o: *mut u8,
+            on: usize,
+            l: *mut u64,
+            ln: usize,
+        ) -> u32;
+        pub fn through_write_device_authentication(
+            k: u64,
+            m: u64,
+            c: *const u8,
+            cn: usize,
+            t: *const u8,
+            tn: usize,
+            o: *mut u8,
+            on: usize,
+            l: *mut u64,
+            ln: usize,
+        ) -> u32;
+        pub fn through_write_done_request(
+            m: u64,
+            o: *mut u8,
+            on: usize,
+            l: *mut u64,
+            ln: usize,
+        ) -> u32;
+        pub fn through_write_done_response(
+            m: u64,
+            s: u64,
+            o: *mut u8,
+            on: usize,
+            l: *mut u64,
+            ln: usize,
+        ) -> u32;
+        pub fn through_read_connect(p: *const u8, pn: usize, c: *mut u64, cn: usize) -> u32;
+        pub fn through_wanted(b: *const u8, bn: usize) -> u32;
+        pub fn through_open(f: u64, s: *mut u8, sn: usize) -> u32;
         pub fn through_step(
             s: *mut u8,
             sn: usize,
@@ -66,11 +131,11 @@ mod through {
             wn: usize,
             r: *mut u8,
             rn: usize,
-            v: u8,
+            v: u64,
             a: *mut u64,
             an: usize,
-        ) -> u8;
-        pub fn through_cut(r: *const u8, rn: usize, f: u64, i: u64, p: *mut u64, pn: usize) -> u8;
+        ) -> u32;
+        pub fn through_cut(r: *const u8, rn: usize, f: u64, i: u64, p: *mut u64, pn: usize) -> u32;
         pub fn through_list(
             m: *const u8,
             mn: usize,
@@ -78,21 +143,26 @@ mod through {
             tn: usize,
             l: *mut u64,
             ln: usize,
-        ) -> u8;
+        ) -> u32;
         pub static through_version_here: u32;
-        pub static through_refusals: [u8; 27];
-        pub static through_sizes: [usize; 10];
-        pub static through_bounds: [usize; 6];
+        pub static through_refusals: [u32; 27];
+        pub static through_no_entries_n: usize;
+        pub static through_sizes: [usize; 13];
+        pub static through_bounds: [usize; 10];
         pub static through_header_words: [usize; 11];
         pub static through_place_words: [usize; 3];
         pub static through_answer_words: [usize; 4];
         pub static through_piece_words: [usize; 3];
+        pub static through_connect_words: [usize; 13];
         pub static through_state_places: [usize; 13];
         pub static through_kinds: [u64; 7];
         pub static through_sealed: [u64; 3];
         pub static through_types: [u64; 3];
         pub static through_flags: [u64; 5];
-        pub static through_connects: [u64; 6];
+        pub static through_connects: [u64; 7];
+        pub static through_modes: [u64; 3];
+        pub static through_codes: [u64; 5];
+        pub static through_states: [u64; 5];
     }
 }
 
@@ -108,19 +178,46 @@ macro_rules! constants {
 
 constants! {
     version_here: u32 = through_version_here, "The header's version.";
-    refusals: [u8; 27] = through_refusals, "Done, the refusals in document 01's order, wrong buffer.";
-    sizes: [usize; 10] = through_sizes, "State, header, fields, place, answer, piece, length, digest, keys, line.";
-    bounds: [usize; 6] = through_bounds, "Least and most message, most read, most sealed, pieces, F.";
+    refusals: [u32; 27] = through_refusals, "Done, the refusals in document 01's order, wrong buffer.";
+    no_entries_n: usize = through_no_entries_n, "Bytes of the chain without entries.";
+    sizes: [usize; 13] = through_sizes, "State, header, fields, place, answer, piece, length, digest, keys, line, connect, nonce, X and Y.";
+    bounds: [usize; 10] = through_bounds, "Least and most message, most read, most sealed, pieces, F, certificate, thumbprint, payload, reply.";
     header_words: [usize; 11] = through_header_words, "Type to size.";
     place_words: [usize; 3] = through_place_words, "Buffer, from, size.";
     answer_words: [usize; 4] = through_answer_words, "Kind, value, length, Status.";
     piece_words: [usize; 3] = through_piece_words, "Count, from, size.";
+    connect_words: [usize; 13] = through_connect_words, "Type, mode, code; nonce, X, Y, certificate and thumbprint, each from and size.";
     state_places: [usize; 13] = through_state_places, "Fragment size to last length, and the end.";
     kinds: [u64; 7] = through_kinds, "Refused, Reply, Again, Failure, Taken, Repeat, Complete.";
     sealed: [u64; 3] = through_sealed, "Plain, opened, still sealed.";
     types: [u64; 3] = through_types, "Discovery, Connect, Session.";
     flags: [u64; 5] = through_flags, "Acknowledge, HMAC, encrypted, both, wake.";
-    connects: [u64; 6] = through_connects, "The Connect types, in order.";
+    connects: [u64; 7] = through_connects, "The Connect types, in order, and Failure.";
+    modes: [u64; 3] = through_modes, "ConnectionMode: None, Proximal, Legacy.";
+    codes: [u64; 5] = through_codes, "Success, Pending, Failure_Authentication, _NotAllowed, _Unknown.";
+    states: [u64; 5] = through_states, "Waiting for a request, for authentication, Passed, Ready, Failed.";
+}
+
+/// `hub_text`.
+pub fn text(number: u32) -> String {
+    // SAFETY: a string of C, which nobody changes.
+    let text = unsafe { CStr::from_ptr(through::through_text(number)) };
+    text.to_str().expect("ASCII").to_owned()
+}
+
+/// `HUB_NO_ENTRIES`.
+pub fn no_entries() -> Vec<u8> {
+    // SAFETY: so many bytes are there.
+    unsafe { std::slice::from_raw_parts(through::through_no_entries(), no_entries_n()).to_vec() }
+}
+
+/// What a call returns where a buffer of fixed size or a word is of another size, or a report buffer
+/// is short.
+pub const WRONG_BUFFER: u32 = 255;
+
+/// Whether a step is lent a report buffer that is shorter than a report whose length is known.
+pub fn is_short(state: &[u8; STATE], report: usize) -> bool {
+    decode(state).known_length().is_some_and(|length| report < length)
 }
 
 /// The longest buffer that is lent: a report of 64 × 16,384 bytes and some.
@@ -173,7 +270,7 @@ impl Hub {
     }
 
     /// `hub_digest`.
-    pub fn digest(&mut self, bytes: &[u8], out: &mut [u8]) -> u8 {
+    pub fn digest(&mut self, bytes: &[u8], out: &mut [u8]) -> u32 {
         let (b, o) = (self.message.lend(bytes), self.out.lend(out));
         let number = unsafe { through::through_digest(b, bytes.len(), o, out.len()) };
         self.message.unchanged(bytes);
@@ -182,7 +279,7 @@ impl Hub {
     }
 
     /// `hub_hmac`.
-    pub fn hmac(&mut self, key: &[u8], message: &[u8], out: &mut [u8]) -> u8 {
+    pub fn hmac(&mut self, key: &[u8], message: &[u8], out: &mut [u8]) -> u32 {
         let (k, m) = (self.keys.lend(key), self.message.lend(message));
         let o = self.out.lend(out);
         let number = unsafe { through::through_hmac(k, key.len(), m, message.len(), o, out.len()) };
@@ -193,7 +290,7 @@ impl Hub {
     }
 
     /// `hub_same_tag`.
-    pub fn same_tag(&mut self, a: &[u8], b: &[u8]) -> u8 {
+    pub fn same_tag(&mut self, a: &[u8], b: &[u8]) -> u32 {
         let (x, y) = (self.message.lend(a), self.out.lend(b));
         let number = unsafe { through::through_same_tag(x, a.len(), y, b.len()) };
         self.message.unchanged(a);
@@ -202,7 +299,7 @@ impl Hub {
     }
 
     /// `hub_read_header`.
-    pub fn read_header(&mut self, message: &[u8], header: &mut [u64]) -> u8 {
+    pub fn read_header(&mut self, message: &[u8], header: &mut [u64]) -> u32 {
         let (m, h) = (self.message.lend(message), self.words.lend_words(header));
         let number = unsafe { through::through_read_header(m, message.len(), h, header.len()) };
         self.message.unchanged(message);
@@ -217,7 +314,7 @@ impl Hub {
         keys: &[u8],
         working: &mut [u8],
         header: &mut [u64],
-    ) -> u8 {
+    ) -> u32 {
         let (m, k) = (self.message.lend(message), self.keys.lend(keys));
         let (w, h) = (self.working.lend(working), self.words.lend_words(header));
         let (mn, kn, wn, hn) = (message.len(), keys.len(), working.len(), header.len());
@@ -236,7 +333,7 @@ impl Hub {
         working: &[u8],
         header: &[u64],
         place: &mut [u64],
-    ) -> u8 {
+    ) -> u32 {
         let (m, w) = (self.message.lend(message), self.working.lend(working));
         let (h, p) = (self.words.lend_words(header), self.more_words.lend_words(place));
         let (mn, wn, hn, pn) = (message.len(), working.len(), header.len(), place.len());
@@ -257,7 +354,7 @@ impl Hub {
         keys: &[u8],
         out: &mut [u8],
         length: &mut [u64],
-    ) -> u8 {
+    ) -> u32 {
         let (f, l) = (self.words.lend_words(fields), self.more_words.lend_words(length));
         let (c, p) = (self.chain.lend(chain), self.payload.lend(payload));
         let (k, o) = (self.keys.lend(keys), self.out.lend(out));
@@ -275,15 +372,140 @@ impl Hub {
         number
     }
 
+    /// `hub_write_presence_request`.
+    pub fn write_presence_request(&mut self, out: &mut [u8], length: &mut [u64]) -> u32 {
+        let (o, l) = (self.out.lend(out), self.words.lend_words(length));
+        let (on, ln) = (out.len(), length.len());
+        let number = unsafe { through::through_write_presence_request(o, on, l, ln) };
+        self.out.give_back(out);
+        self.words.give_back_words(length);
+        number
+    }
+
+    /// `hub_write_connection_request`, with nonce, X and Y.
+    pub fn write_connection_request(
+        &mut self,
+        mode: u64,
+        [nonce, x, y]: [&[u8]; 3],
+        out: &mut [u8],
+        length: &mut [u64],
+    ) -> u32 {
+        let (n, a, b) = (self.keys.lend(nonce), self.chain.lend(x), self.payload.lend(y));
+        let (o, l) = (self.out.lend(out), self.words.lend_words(length));
+        let (nn, an, bn, on, ln) = (nonce.len(), x.len(), y.len(), out.len(), length.len());
+        let number = unsafe {
+            through::through_write_connection_request(mode, n, nn, a, an, b, bn, o, on, l, ln)
+        };
+        self.keys.unchanged(nonce);
+        self.chain.unchanged(x);
+        self.payload.unchanged(y);
+        self.out.give_back(out);
+        self.words.give_back_words(length);
+        number
+    }
+
+    /// `hub_write_connection_response`, with nonce, X and Y.
+    pub fn write_connection_response(
+        &mut self,
+        mode: u64,
+        result: u64,
+        [nonce, x, y]: [&[u8]; 3],
+        out: &mut [u8],
+        length: &mut [u64],
+    ) -> u32 {
+        let (n, a, b) = (self.keys.lend(nonce), self.chain.lend(x), self.payload.lend(y));
+        let (o, l) = (self.out.lend(out), self.words.lend_words(length));
+        let (nn, an, bn, on, ln) = (nonce.len(), x.len(), y.len(), out.len(), length.len());
+        let number = unsafe {
+            through::through_write_connection_response(
+                mode, result, n, nn, a, an, b, bn, o, on, l, ln,
+            )
+        };
+        self.keys.unchanged(nonce);
+        self.chain.unchanged(x);
+        self.payload.unchanged(y);
+        self.out.give_back(out);
+        self.words.give_back_words(length);
+        number
+    }
+
+    /// `hub_write_device_authentication`.
+    pub fn write_device_authentication(
+        &mut self,
+        kind: u64,
+        mode: u64,
+        certificate: &[u8],
+        thumbprint: &[u8],
+        out: &mut [u8],
+        length: &mut [u64],
+    ) -> u32 {
+        let (c, t) = (self.chain.lend(certificate), self.payload.lend(thumbprint));
+        let (o, l) = (self.out.lend(out), self.words.lend_words(length));
+        let (cn, tn, on, ln) = (certificate.len(), thumbprint.len(), out.len(), length.len());
+        let number = unsafe {
+            through::through_write_device_authentication(kind, mode, c, cn, t, tn, o, on, l, ln)
+        };
+        self.chain.unchanged(certificate);
+        self.payload.unchanged(thumbprint);
+        self.out.give_back(out);
+        self.words.give_back_words(length);
+        number
+    }
+
+    /// `hub_write_done_request`.
+    pub fn write_done_request(&mut self, mode: u64, out: &mut [u8], length: &mut [u64]) -> u32 {
+        let (o, l) = (self.out.lend(out), self.words.lend_words(length));
+        let (on, ln) = (out.len(), length.len());
+        let number = unsafe { through::through_write_done_request(mode, o, on, l, ln) };
+        self.out.give_back(out);
+        self.words.give_back_words(length);
+        number
+    }
+
+    /// `hub_write_done_response`.
+    pub fn write_done_response(
+        &mut self,
+        mode: u64,
+        status: u64,
+        out: &mut [u8],
+        length: &mut [u64],
+    ) -> u32 {
+        let (o, l) = (self.out.lend(out), self.words.lend_words(length));
+        let (on, ln) = (out.len(), length.len());
+        let number = unsafe { through::through_write_done_response(mode, status, o, on, l, ln) };
+        self.out.give_back(out);
+        self.words.give_back_words(length);
+        number
+    }
+
+    /// `hub_read_connect`.
+    pub fn read_connect(&mut self, payload: &[u8], connect: &mut [u64]) -> u32 {
+        let (p, c) = (self.payload.lend(payload), self.words.lend_words(connect));
+        let number = unsafe { through::through_read_connect(p, payload.len(), c, connect.len()) };
+        self.payload.unchanged(payload);
+        self.words.give_back_words(connect);
+        number
+    }
+
+    /// `hub_wanted`.
+    pub fn wanted(&mut self, bytes: &[u8]) -> u32 {
+        let b = self.message.lend(bytes);
+        let number = unsafe { through::through_wanted(b, bytes.len()) };
+        self.message.unchanged(bytes);
+        number
+    }
+
     /// `hub_open`.
-    pub fn open(&mut self, fragment_size: u64, state: &mut [u8]) -> u8 {
+    pub fn open(&mut self, fragment_size: u64, state: &mut [u8]) -> u32 {
         let s = self.state.lend(state);
         let number = unsafe { through::through_open(fragment_size, s, state.len()) };
         self.state.give_back(state);
         number
     }
 
-    /// `hub_step`.
+    /// `hub_step`. A wrong buffer is answered exactly where the state or the answer has another size
+    /// or the report buffer is short, and then all is as it was. A report that is complete lies in its
+    /// buffer.
     pub fn step(
         &mut self,
         state: &mut [u8],
@@ -291,14 +513,20 @@ impl Hub {
         keys: &[u8],
         working: &mut [u8],
         report: &mut [u8],
-        verdict: u8,
+        verdict: u64,
         answer: &mut [u64],
-    ) -> u8 {
+    ) -> u32 {
         let (s, a) = (self.state.lend(state), self.words.lend_words(answer));
         let (m, k) = (self.message.lend(message), self.keys.lend(keys));
         let (w, r) = (self.working.lend(working), self.report.lend(report));
         let (sn, mn, kn, an) = (state.len(), message.len(), keys.len(), answer.len());
         let (wn, rn) = (working.len(), report.len());
+        let sized: Result<&[u8; STATE], _> = (&*state).try_into();
+        let right = an == sizes()[4] && sized.is_ok_and(|state| !is_short(state, rn));
+        let whole = |state: &[u8], working: &[u8], report: &[u8], answer: &[u64]| {
+            (state.to_vec(), working.to_vec(), report.to_vec(), answer.to_vec())
+        };
+        let before = (!right).then(|| whole(state, working, report, answer));
         let number =
             unsafe { through::through_step(s, sn, m, mn, k, kn, w, wn, r, rn, verdict, a, an) };
         self.state.give_back(state);
@@ -307,16 +535,27 @@ impl Hub {
         self.working.give_back(working);
         self.report.give_back(report);
         self.words.give_back_words(answer);
-        self.numbers[usize::from(number)] += 1;
+        self.numbers[number as usize] += 1;
+        assert_eq!(number == WRONG_BUFFER, !right, "{number} was returned");
+        if let Some(before) = before {
+            assert!(
+                before == whole(state, working, report, answer),
+                "a wrong buffer, and a change"
+            );
+        }
         if number == 0 {
-            let kind = answer[answer_words()[0]] as usize;
-            *self.kinds.get_mut(kind).expect("a kind of hub.h") += 1;
+            let [kind, _, length, _] = answer_words().map(|name| answer[name]);
+            *self.kinds.get_mut(kind as usize).expect("a kind of hub.h") += 1;
+            assert!(
+                kind != kinds()[6] || length <= rn as u64,
+                "{length} bytes of {rn} are complete"
+            );
         }
         number
     }
 
     /// `hub_cut`.
-    pub fn cut(&mut self, report: &[u8], size: u64, index: u64, piece: &mut [u64]) -> u8 {
+    pub fn cut(&mut self, report: &[u8], size: u64, index: u64, piece: &mut [u64]) -> u32 {
         let (r, p) = (self.report.lend(report), self.words.lend_words(piece));
         let number = unsafe { through::through_cut(r, report.len(), size, index, p, piece.len()) };
         self.report.unchanged(report);
@@ -325,7 +564,7 @@ impl Hub {
     }
 
     /// `hub_list`.
-    pub fn list(&mut self, message: &[u8], line: &mut [u8], length: &mut [u64]) -> u8 {
+    pub fn list(&mut self, message: &[u8], line: &mut [u8], length: &mut [u64]) -> u32 {
         let (m, t) = (self.message.lend(message), self.out.lend(line));
         let l = self.words.lend_words(length);
         let (mn, tn, ln) = (message.len(), line.len(), length.len());

@@ -3,8 +3,8 @@
 //!
 //! [`hub_h`] has the calls of include/hub.h on guarded memory ([`guard`]), [`state`] the connection's
 //! bytes; [`hub`] gives them to the second implementation's comparison, [`wrapper`] does so for
-//! host/rust. [`sizes`] tests what the comparison does not reach, [`samples`] a fault at every place,
-//! [`sweeps`] the boundary cases of CASES.md, [`fuzz`] whatever libFuzzer comes up with.
+//! host/rust. [`sizes`] and [`payloads`] test what the comparison does not reach, [`samples`] a fault at
+//! every place, [`sweeps`] the boundary cases of CASES.md, [`fuzz`] whatever libFuzzer comes up with.
 
 #![deny(unsafe_code)]
 #![warn(missing_docs)]
@@ -14,6 +14,7 @@ pub mod fuzz;
 pub mod guard;
 pub mod hub;
 pub mod hub_h;
+pub mod payloads;
 pub mod samples;
 pub mod sizes;
 pub mod state;

@@ -15,6 +15,7 @@ use std::time::{Duration, Instant};
 
 use boundary::guard::Room;
 use boundary::hub_h::{self, Hub};
+use boundary::payloads::any_payload;
 use boundary::samples::{self, samples};
 use boundary::sizes::{any_place, any_state, any_tag, every_wrong_size, long_message};
 use boundary::sizes::{wide_fields, wide_numbers};
@@ -22,8 +23,10 @@ use boundary::state::{decode, encode};
 use boundary::sweeps;
 use boundary::wrapper::Wrapper;
 use second::compare::{Comparison, Difference, Implementation, Tally};
+use second::connection::State;
 use second::generate::{case, write_case};
 use second::prng::Prng;
+use second::writer::message_length;
 
 /// The seed of `./test`: "HUB.H".
 const SEED: u64 = 0x48_55_42_2E_48;
@@ -63,24 +66,34 @@ fn beside(hub: &mut Hub, seed: u64, round: u64) {
             any_place(hub, &mut prng);
             any_tag(hub, &mut prng);
             wide_numbers(hub, &mut prng);
+            any_payload(hub, &mut prng);
         }
         Ok(())
     });
 }
 
-/// The header's constants are what the library and document 01 go by.
+/// The header's constants are what the library, document 01 and MS-CDP (2.2.2.3) go by.
 fn constants(hub: &Hub) {
     agree("constants", || {
         assert_eq!(hub.version(), hub_h::version_here());
-        let numbers: Vec<u8> = (0..=25).chain([255]).collect();
+        let numbers: Vec<u32> = (0..=25).chain([255]).collect();
         assert_eq!(hub_h::refusals()[..], numbers);
-        assert_eq!(hub_h::sizes(), [151, 11, 8, 3, 3, 3, 1, 32, 64, 64]);
-        assert_eq!(hub_h::bounds(), [42, 18_530, 65_535, 65_456, 64, 16_384]);
+        assert_eq!(hub_h::sizes(), [151, 11, 8, 3, 3, 3, 1, 32, 64, 64, 13, 8, 32]);
+        let bounds = [42, 18_530, 65_535, 65_456, 64, 16_384, 2_048, 512, 2_567, 2_650];
+        assert_eq!(hub_h::bounds(), bounds);
+        let (chain, payload) = (8 * 257 + 2, 7 + 2_048 + 512);
+        assert_eq!(message_length(true, chain, 16_384), bounds[1]);
+        assert_eq!([payload, message_length(true, 2, payload)], bounds[8..]);
+        assert_eq!(hub_h::no_entries(), [0, 0]);
         assert_eq!(hub_h::kinds(), [0, 1, 2, 3, 4, 5, 6]);
         assert_eq!(hub_h::sealed(), [0, 1, 2]);
         assert_eq!(hub_h::types(), [1, 2, 4]);
         assert_eq!(hub_h::flags(), [1, 2, 4, 6, 8]);
-        assert_eq!(hub_h::connects(), [0, 1, 2, 3, 6, 7]);
+        assert_eq!(hub_h::connects(), [0, 1, 2, 3, 6, 7, 8]);
+        assert_eq!(hub_h::modes(), [0, 1, 2]);
+        assert_eq!(hub_h::codes(), [0, 1, 2, 3, 4]);
+        assert_eq!(hub_h::states(), State::ALL.map(|state| state as u64));
+        assert_eq!(hub_h::connect_words(), std::array::from_fn(|place| place));
         Ok(())
     });
 }
@@ -107,30 +120,36 @@ fn wrong_sizes(hub: &mut Hub, times: u64) -> u64 {
 }
 
 fn say(tally: &Tally) -> String {
-    let Tally { steps, conversations, reads, writes, cuts, digests } = tally;
+    let Tally { steps, conversations, reads, writes, payloads, cuts, digests } = tally;
     format!(
         "{steps} steps in {conversations} conversations and single, {reads} messages read, {writes} \
-         written, {cuts} cut, {digests} digests with their tags"
+         written, {payloads} payloads by themselves, {cuts} cut, {digests} digests with their tags"
     )
 }
 
-/// Every refusal of document 01 and every kind of answer came in the steps; says which was rarest.
+/// Every refusal of document 01, every kind of answer and a short report buffer came in the steps;
+/// says which was rarest.
 fn all_came(hub: &Hub) -> String {
     let refusals = (1..=25).map(|number| (hub.numbers[number], format!("refusal {number}")));
     let kinds = (1..=6).map(|kind| (hub.kinds[kind], format!("kind {kind}")));
-    let (times, rarest) = refusals.chain(kinds).min().expect("some");
+    let short = hub.numbers[hub_h::WRONG_BUFFER as usize];
+    let all = refusals.chain(kinds).chain([(short, "short report buffer".into())]);
+    let (times, rarest) = all.min().expect("some");
     agree(&rarest, || {
         assert!(times > 0, "{rarest} never came");
         Ok(())
     });
-    format!("all 25 refusals and 6 kinds of answers came, the rarest {times} times ({rarest})")
+    format!(
+        "all 25 refusals and 6 kinds of answers came, the rarest {times} times ({rarest}), and {short} \
+         times a report buffer was short"
+    )
 }
 
 /// The boundary cases of CASES.md, a line for each sweep.
 fn every_sweep() {
     let mut comparison = Comparison::new(Hub::default());
     let (mut sweeps, mut cases) = (0, 0);
-    for sweep in sweeps::all().into_iter().chain(sweeps::of_words()) {
+    for sweep in sweeps::all().into_iter().chain(sweeps::of_header()) {
         agree(sweep.name, || sweep.run(&mut comparison));
         println!("boundary: {}: {} cases alike", sweep.name, sweep.cases);
         (sweeps, cases) = (sweeps + 1, cases + sweep.cases);
@@ -155,7 +174,7 @@ fn test(rounds: u64) {
     println!("boundary: in these steps {}", all_came(&comparison.other));
     println!(
         "boundary: alike: {} each of steps on states of any bytes, writes with wide words, places by \
-         any words, tags compared, numbers of 64 bits",
+         any words, tags compared, numbers of 64 bits, payloads of any words",
         4 * rounds
     );
     let mut faults = Comparison::new(Hub::default());

@@ -5,16 +5,14 @@
 use second::compare::{Comparison, Difference, Implementation, Second};
 use second::connection::{Answer, State};
 use second::crypto::hmac;
-use second::generate::{Case, WriteCase, case, cut_case, dress, gateway, write_case};
+use second::generate::{Case, WriteCase, case, cut_case, dress, gateway, payload_case, write_case};
 use second::header::Header;
 use second::prng::Prng;
 
-use crate::hub::{BEFORE, answer_of, by_name, fields_of};
-use crate::hub_h::{Hub, header_words};
+use crate::hub::{BEFORE, answer_of, by_name, fields_of, number_of};
+use crate::hub_h::{Hub, WRONG_BUFFER, header_words, is_short};
+use crate::payloads::{Call, Writer};
 use crate::state::{STATE, decode, encode, encode_next};
-
-/// What a call returns where a buffer of fixed size, or a word, is of another size.
-pub const WRONG_BUFFER: u8 = 255;
 
 /// Every size from 0 to a little more than the right one, but for that.
 fn wrong(right: usize) -> impl Iterator<Item = usize> {
@@ -25,7 +23,7 @@ fn wrong(right: usize) -> impl Iterator<Item = usize> {
 /// how many calls that were.
 pub fn every_wrong_size(hub: &mut Hub, prng: &mut Prng, case: &Case, write: &WriteCase) -> u64 {
     let mut calls = 0;
-    let mut call = |what: &str, number: u8, unchanged: bool| {
+    let mut call = |what: &str, number: u32, unchanged: bool| {
         assert!(number == WRONG_BUFFER && unchanged, "{what}: {number}, unchanged: {unchanged}");
         calls += 1;
     };
@@ -59,7 +57,7 @@ pub fn every_wrong_size(hub: &mut Hub, prng: &mut Prng, case: &Case, write: &Wri
         call("cut", number, words == vec![fill; size]);
         let (mut state, mut after) = (encode(&case.connection), case.clone());
         let (working, report) = (&mut after.working, &mut after.report);
-        let verdict = case.verdict as u8;
+        let verdict = case.verdict;
         let number = hub.step(&mut state, message, keys, working, report, verdict, &mut words);
         let unchanged = words == vec![fill; size] && state == encode(&case.connection);
         call("step", number, unchanged && after == *case);
@@ -70,7 +68,7 @@ pub fn every_wrong_size(hub: &mut Hub, prng: &mut Prng, case: &Case, write: &Wri
         call("open", hub.open(prng.word() >> prng.below(64), &mut state), state == before);
         let (mut after, mut words) = (case.clone(), [fill; 3]);
         let (working, report) = (&mut after.working, &mut after.report);
-        let verdict = case.verdict as u8;
+        let verdict = case.verdict;
         let number = hub.step(&mut state, message, keys, working, report, verdict, &mut words);
         call("step", number, state == before && words == [fill; 3] && after == *case);
     }
@@ -90,6 +88,28 @@ pub fn every_wrong_size(hub: &mut Hub, prng: &mut Prng, case: &Case, write: &Wri
         let number = hub.list(message, &mut line, &mut length);
         call("list", number, line == [0x77; 64] && length == vec![fill; size]);
     }
+    for size in wrong(13) {
+        let mut words = vec![fill; size];
+        let number = hub.read_connect(payload, &mut words);
+        call("read_connect", number, words == vec![fill; size]);
+    }
+    let mut judge = |prng: &mut Prng, writer: Writer, change: &dyn Fn(&mut Call)| {
+        let mut changed = Call::new(writer, payload_case(prng));
+        change(&mut changed);
+        call("a payload's writer", changed.judge(hub).0, true);
+    };
+    for (size, writer) in wrong(1).flat_map(|size| Writer::ALL.map(|writer| (size, writer))) {
+        judge(prng, writer, &|call| call.length = vec![fill; size]);
+    }
+    for writer in [Writer::ConnectionRequest, Writer::ConnectionResponse] {
+        for size in wrong(8) {
+            judge(prng, writer, &|call| (call.code, call.nonce) = (1, vec![7; size]));
+        }
+        for size in wrong(32) {
+            judge(prng, writer, &|call| (call.code, call.x) = (1, vec![7; size]));
+            judge(prng, writer, &|call| (call.code, call.y) = (1, vec![7; size]));
+        }
+    }
     for size in wrong(64) {
         let before = prng.bytes(size);
         let (mut line, mut length) = (before.clone(), [fill]);
@@ -99,35 +119,39 @@ pub fn every_wrong_size(hub: &mut Hub, prng: &mut Prng, case: &Case, write: &Wri
     calls
 }
 
-/// A step on a state of any bytes, against the second implementation on what they stand for.
+/// A step on a state of any bytes, by the case's other parts, against the second implementation on
+/// what the bytes stand for; a short report buffer is a wrong one. Answers what was returned, and the
+/// words.
+pub fn step_on(hub: &mut Hub, state: &[u8; STATE], case: &Case) -> (u32, [u64; 3]) {
+    let mut ours = Case { connection: decode(state), ..case.clone() };
+    let (mut after, mut theirs, mut words) = (*state, ours.clone(), [BEFORE; 3]);
+    let (working, report) = (&mut theirs.working, &mut theirs.report);
+    let Case { message, keys, verdict, .. } = case;
+    let number = hub.step(&mut after, message, keys, working, report, *verdict, &mut words);
+    let (expected, handed) = if is_short(state, case.report.len()) {
+        ((WRONG_BUFFER, *state), words == [BEFORE; 3])
+    } else {
+        let (next, answer) = ours.step();
+        match answer {
+            Answer::Refused(refusal) => ((refusal.number().into(), *state), words == [0; 3]),
+            _ => ((0, encode_next(state, &next)), answer_of(&words) == answer),
+        }
+    };
+    assert!((number, after) == expected && handed, "{state:?} {case:?}: {number} {words:?}");
+    assert!(ours == theirs, "{state:?} {case:?}: buffers");
+    (number, words)
+}
+
+/// A step on a state of any bytes.
 pub fn any_state(hub: &mut Hub, prng: &mut Prng) {
-    let mut ours = case(prng);
-    let mut state = encode(&ours.connection);
+    let case = case(prng);
+    let mut state = encode(&case.connection);
     match prng.below(4) {
         0 => state = prng.array(),
         1 => state[9..].copy_from_slice(&prng.array::<{ STATE - 9 }>()),
         _ => (0..prng.between(1, 4)).for_each(|_| state[prng.below(STATE)] = prng.word() as u8),
     }
-    ours.connection = decode(&state);
-    let (mut theirs, before, mut words) = (ours.clone(), state, [7; 3]);
-    let (next, answer) = ours.step();
-    let (working, report) = (&mut theirs.working, &mut theirs.report);
-    let verdict = theirs.verdict as u8;
-    let number =
-        hub.step(&mut state, &theirs.message, &theirs.keys, working, report, verdict, &mut words);
-    if let Answer::Refused(refusal) = answer {
-        assert!(
-            number == refusal.number() && state == before && words == [0; 3],
-            "{before:?} {ours:?}: {number} {words:?}, {refusal}"
-        );
-    } else {
-        assert!(
-            number == 0 && answer_of(&words) == answer,
-            "{before:?} {ours:?}: {number} {words:?}"
-        );
-        assert_eq!(state, encode_next(&before, &next), "{before:?} {ours:?}");
-    }
-    assert!(ours == theirs, "{before:?} {ours:?}: buffers");
+    step_on(hub, &state, &case);
 }
 
 /// The fields by their words; none where a word is too wide for its field.
@@ -149,7 +173,7 @@ fn header_by(fields: &[u64; 8]) -> Option<Header> {
 /// The writer with these words for its fields. A word too wide for its field is a wrong buffer,
 /// and then nothing is changed, whatever else is wrong; else it is as the second implementation has
 /// it, and the length of what is refused is 0. Answers what was returned.
-pub fn write_words(hub: &mut Hub, fields: &[u64; 8], case: &WriteCase) -> u8 {
+pub fn write_words(hub: &mut Hub, fields: &[u64; 8], case: &WriteCase) -> u32 {
     let WriteCase { chain, payload, keys, output, .. } = case;
     let (mut out, mut length) = (output.clone(), [BEFORE]);
     let number = hub.write(fields, chain, payload, keys, &mut out, &mut length);
@@ -160,7 +184,7 @@ pub fn write_words(hub: &mut Hub, fields: &[u64; 8], case: &WriteCase) -> u8 {
             expected.header = header;
             match expected.write() {
                 Ok(written) => (0, written as u64),
-                Err(refusal) => (refusal.number(), 0),
+                Err(refusal) => (refusal.number().into(), 0),
             }
         }
     };
@@ -216,7 +240,7 @@ pub fn any_tag(hub: &mut Hub, prng: &mut Prng) {
         1 => b[prng.below(32)] ^= 1 << prng.below(8),
         _ => {}
     }
-    assert_eq!(hub.same_tag(&a, &b), u8::from(a != b), "{a:?} {b:?}");
+    assert_eq!(hub.same_tag(&a, &b), u32::from(a != b), "{a:?} {b:?}");
     let (key, data) = (prng.below(200), prng.below(300));
     let (key, data) = (prng.bytes(key), prng.bytes(data));
     let mut out = [0; 32];
@@ -231,7 +255,7 @@ pub fn wide_numbers(hub: &mut Hub, prng: &mut Prng) {
     let mut state = [0xA5; STATE];
     let number = hub.open(wide, &mut state);
     let (connection, opened) = Second.open(size);
-    assert_eq!(number, opened.map_or_else(|refusal| refusal.number(), |()| 0), "F = {wide}");
+    assert_eq!(number, number_of(&opened), "F = {wide}");
     assert_eq!(state, encode(&connection), "F = {wide}");
     let cut = cut_case(prng);
     let index = prng.word() >> prng.below(64);
@@ -239,7 +263,7 @@ pub fn wide_numbers(hub: &mut Hub, prng: &mut Prng) {
     let number = hub.cut(&cut.report, cut.fragment_size.into(), index, &mut piece);
     let narrow = u32::try_from(index).unwrap_or(u32::MAX);
     let (count, range, answer) = Second.cut(&cut.report, cut.fragment_size, narrow);
-    assert_eq!(number, answer.map_or_else(|refusal| refusal.number(), |()| 0), "{cut:?} {index}");
+    assert_eq!(number, number_of(&answer), "{cut:?} {index}");
     assert_eq!(piece, [count.into(), range.start as u64, range.len() as u64], "{cut:?} {index}");
 }
 

@@ -7,9 +7,14 @@ pub mod conversations;
 pub mod described;
 pub mod header;
 pub mod made_up;
+pub mod parts;
 pub mod payload;
 pub mod sealed;
+pub mod short;
+pub mod streams;
+pub mod texts;
 pub mod trial;
+pub mod values;
 pub mod words;
 pub mod written;
 
@@ -77,13 +82,14 @@ pub fn all<I: Implementation>() -> Vec<Sweep<I>> {
         Sweep::new("verdict 0, then everything", 31, conversations::failed),
         Sweep::new("reports in every order, disturbed, empty", 813, conversations::reports),
         Sweep::new("fragment sizes at their edges, 24 and 25", 92, conversations::sizes),
-        Sweep::new("19, 17, 18, 21, 20, 22, 23 in their order", 25, conversations::conflicts),
+        Sweep::new("19, 17, 18, 21, 20, 22, 23 in their order", 27, conversations::conflicts),
         Sweep::new("indexes heard at and above the count", 240, made_up::heard),
     ]
 }
 
-/// The sweeps of what include/hub.h's calls leave in their words.
-pub fn of_words() -> Vec<Sweep<Hub>> {
+/// The sweeps of what include/hub.h alone says: what its calls leave in their words, payloads,
+/// streams, short report buffers, texts.
+pub fn of_header() -> Vec<Sweep<Hub>> {
     vec![
         Sweep::new(
             "a read that is refused after one that was done",
@@ -93,6 +99,29 @@ pub fn of_words() -> Vec<Sweep<Hub>> {
         Sweep::new("the words of a header as a place", 25, words::header_as_place),
         Sweep::new("each field of the writer at its edge", 69, words::fields_at_edges),
         Sweep::new("a step that is refused after one that was done", 26, words::refused_after_step),
+        Sweep::new("values of payloads at their bounds and beyond", 2_384, values::bounds),
+        Sweep::new("payloads written into every size", 4_048, values::outputs),
+        Sweep::new("nonce, X, Y and length of every size", 1_152, values::fixed_sizes),
+        Sweep::new("Connect payloads read, each value", 88, parts::whole),
+        Sweep::new("Connect payloads cut at every length", 15_795, parts::cuts),
+        Sweep::new("Connect payloads with bytes after their end", 522, parts::longer),
+        Sweep::new("Connect payloads with a byte changed", 84_405, parts::changed),
+        Sweep::new("payloads of 0 to 90 bytes read", 19_656, parts::short),
+        Sweep::new("certificates and thumbprints read", 180, parts::credentials),
+        Sweep::new("the sample messages' payloads read", 25, parts::of_samples),
+        Sweep::new("payloads written, sent, opened and read", 264, parts::there_and_back),
+        Sweep::new("the next message, 0 to 50 bytes of it", 848, streams::cuts),
+        Sweep::new("the next message, every length", 65_536, streams::lengths),
+        Sweep::new("the sample messages as a stream", 4_846, streams::of_samples),
+        Sweep::new("report buffers about a known length", 9_670, short::bounds),
+        Sweep::new(
+            "a short report buffer, every kind of message",
+            2_688,
+            short::messages_of_each_kind,
+        ),
+        Sweep::new("a report buffer of every size at the last piece", 41, short::complete),
+        Sweep::new("verdicts of 64 bits, every kind of message", 3_360, short::verdicts),
+        Sweep::new("the text of each number", 1_770, texts::texts),
     ]
 }
 

@@ -1,12 +1,14 @@
 // SPDX-License-Identifier: MPL-2.0
 //! Document 01's calls by the Rust wrapper, host/rust. What its types rule out (keys that are neither
-//! 64 bytes nor none, another verdict than 0 and 1) is answered by the second implementation.
+//! 64 bytes nor none, another verdict than 0 and 1) is answered by the second implementation, and so are
+//! a short report buffer and what the wrapper does not have: payloads and streams.
 
 use hlidunsk as h;
 use second::compare::{Implementation, Piece, Second};
 use second::connection::{Answer, Connection};
 use second::header::{Framed, Header, Kind};
 use second::message::{Message, Place};
+use second::payload::{Connect, Parts};
 use second::refusal::Refusal;
 
 use crate::hub::refusal;
@@ -16,7 +18,7 @@ use crate::state::{decode, encode};
 pub struct Wrapper;
 
 fn refused(by: h::Refusal) -> Refusal {
-    refusal(by.number()).expect_err("a refusal")
+    refusal(by.number().into()).expect_err("a refusal")
 }
 
 fn header(of: h::Header) -> Header {
@@ -86,6 +88,27 @@ impl Implementation for Wrapper {
         h::write(&header, chain, payload, keys, output).map_err(refused)
     }
 
+    fn write_presence_request(&mut self, output: &mut [u8]) -> Result<usize, Refusal> {
+        Second.write_presence_request(output)
+    }
+
+    fn write_connect(
+        &mut self,
+        mode: u16,
+        connect: Connect<'_>,
+        output: &mut [u8],
+    ) -> Result<usize, Refusal> {
+        Second.write_connect(mode, connect, output)
+    }
+
+    fn read_connect(&mut self, payload: &[u8]) -> Result<Parts, Refusal> {
+        Second.read_connect(payload)
+    }
+
+    fn wanted(&mut self, bytes: &[u8]) -> usize {
+        Second.wanted(bytes)
+    }
+
     fn open(&mut self, fragment_size: u32) -> (Connection, Result<(), Refusal>) {
         match h::Connection::open(fragment_size.into()) {
             Ok(opened) => (decode(opened.as_bytes()), Ok(())),
@@ -100,9 +123,10 @@ impl Implementation for Wrapper {
         keys: &[u8],
         working: &mut [u8],
         report: &mut [u8],
-        verdict: u32,
+        verdict: u64,
     ) -> (Connection, Answer) {
-        let (Some(keys), 0..=1) = (keys_of(keys), verdict) else {
+        let short = connection.known_length().is_some_and(|length| report.len() < length);
+        let (Some(keys), 0..=1, false) = (keys_of(keys), verdict, short) else {
             return Second.step(connection, message, keys, working, report, verdict);
         };
         let mut hub = h::Connection::from_bytes(encode(&connection));

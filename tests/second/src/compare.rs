@@ -9,11 +9,12 @@ use crate::connection::{Answer, Connection};
 use crate::crypto::{hmac, sha256};
 use crate::cutter::cut;
 use crate::draft::Damage;
-use crate::generate::{Case, Conversation, CutCase, WriteCase};
-use crate::generate::{case, conversation, cut_case, write_case};
+use crate::generate::{Case, Conversation, CutCase, PayloadCase, WriteCase};
+use crate::generate::{case, connect_bytes, conversation, cut_case, payload_case, write_case};
 use crate::header::{Framed, Header, read_header};
-use crate::listing::line;
-use crate::message::{Message, read_message};
+use crate::listing::{line, wanted};
+use crate::message::{Message, part, read_message};
+use crate::payload::{Connect, Parts, read_connect, write_connect, write_presence_request};
 use crate::prng::Prng;
 use crate::refusal::Refusal;
 use crate::writer::write_message;
@@ -41,6 +42,23 @@ pub trait Implementation {
         output: &mut [u8],
     ) -> Result<usize, Refusal>;
 
+    /// The writer of a Presence Request's payload.
+    fn write_presence_request(&mut self, output: &mut [u8]) -> Result<usize, Refusal>;
+
+    /// The writers of Connect payloads.
+    fn write_connect(
+        &mut self,
+        mode: u16,
+        connect: Connect<'_>,
+        output: &mut [u8],
+    ) -> Result<usize, Refusal>;
+
+    /// The reader of Connect payloads.
+    fn read_connect(&mut self, payload: &[u8]) -> Result<Parts, Refusal>;
+
+    /// How many bytes the next message of a stream has.
+    fn wanted(&mut self, bytes: &[u8]) -> usize;
+
     /// Opening a connection: the connection answered, and what refused it.
     fn open(&mut self, fragment_size: u32) -> (Connection, Result<(), Refusal>);
 
@@ -52,7 +70,7 @@ pub trait Implementation {
         keys: &[u8],
         working: &mut [u8],
         report: &mut [u8],
-        verdict: u32,
+        verdict: u64,
     ) -> (Connection, Answer);
 
     /// The cutter: the count, where in the report the piece lies, and what refused it.
@@ -99,6 +117,27 @@ impl Implementation for Second {
         write_message(header, chain, payload, keys, output)
     }
 
+    fn write_presence_request(&mut self, output: &mut [u8]) -> Result<usize, Refusal> {
+        write_presence_request(output)
+    }
+
+    fn write_connect(
+        &mut self,
+        mode: u16,
+        connect: Connect<'_>,
+        output: &mut [u8],
+    ) -> Result<usize, Refusal> {
+        write_connect(mode, connect, output)
+    }
+
+    fn read_connect(&mut self, payload: &[u8]) -> Result<Parts, Refusal> {
+        read_connect(payload)
+    }
+
+    fn wanted(&mut self, bytes: &[u8]) -> usize {
+        wanted(bytes)
+    }
+
     fn open(&mut self, fragment_size: u32) -> (Connection, Result<(), Refusal>) {
         Connection::open(fragment_size)
     }
@@ -110,7 +149,7 @@ impl Implementation for Second {
         keys: &[u8],
         working: &mut [u8],
         report: &mut [u8],
-        verdict: u32,
+        verdict: u64,
     ) -> (Connection, Answer) {
         connection.step(message, keys, working, report, verdict)
     }
@@ -149,6 +188,8 @@ pub struct Tally {
     pub reads: u64,
     /// Calls of the writer.
     pub writes: u64,
+    /// Payloads written by their own writers, or read by theirs.
+    pub payloads: u64,
     /// Calls of the cutter.
     pub cuts: u64,
     /// Digests, with and without a key.
@@ -177,8 +218,8 @@ impl<I: Implementation> Comparison<I> {
         Comparison { other, tally: Tally::default() }
     }
 
-    /// Sixty single steps, one conversation, and four each of calls of the writer, of the cutter
-    /// and of the digests.
+    /// Sixty single steps, one conversation, and four each of calls of the writer, of the cutter, of
+    /// the digests, and of the payloads' writers and reader.
     pub fn round(&mut self, prng: &mut Prng) -> Result<(), Difference> {
         for _ in 0..60 {
             let case = case(prng);
@@ -191,20 +232,30 @@ impl<I: Implementation> Comparison<I> {
             let length = prng.below(300);
             self.digest(&prng.array(), &prng.bytes(length))?;
         }
-        self.converse(&conversation(prng))
+        self.converse(&conversation(prng))?;
+        for _ in 0..4 {
+            self.write_payload(&payload_case(prng))?;
+            self.read_payload(&connect_bytes(prng))?;
+        }
+        Ok(())
     }
 
-    /// The header reader, the listing's line and the message reader on a case's message.
+    /// The header reader, the listing's line, the message reader and the length in a stream on a
+    /// case's message; and the reader of Connect payloads on its payload.
     pub fn read(&mut self, case: &Case) -> Result<(), Difference> {
         let message = &case.message;
+        same(message, wanted(message), self.other.wanted(message))?;
         same(message, read_header(message), self.other.read_header(message))?;
         same(message, line(message), self.other.line(message))?;
         let (mut ours, mut theirs) = (case.working.clone(), case.working.clone());
         let our_answer = read_message(message, &case.keys, &mut ours);
         let their_answer = self.other.read_message(message, &case.keys, &mut theirs);
-        same(case, (our_answer, ours), (their_answer, theirs))?;
+        same(case, (&our_answer, &ours), (&their_answer, &theirs))?;
         self.tally.reads += 1;
-        Ok(())
+        match our_answer {
+            Ok(read) => self.read_payload(part(Some(&read.payload), message, &ours)),
+            Err(_) => Ok(()),
+        }
     }
 
     /// One step.
@@ -258,6 +309,28 @@ impl<I: Implementation> Comparison<I> {
         let their_answer = self.other.write_message(header, chain, payload, keys, &mut theirs);
         same(case, (our_answer, ours.output), (their_answer, theirs))?;
         self.tally.writes += 1;
+        Ok(())
+    }
+
+    /// One call of a Connect payload's writer, and the Presence Request's with the same output.
+    pub fn write_payload(&mut self, case: &PayloadCase) -> Result<(), Difference> {
+        let (mut ours, mut theirs) = (case.clone(), case.output.clone());
+        let our_answer = ours.write();
+        let their_answer = self.other.write_connect(case.mode, case.connect(), &mut theirs);
+        same(case, (our_answer, ours.output), (their_answer, theirs))?;
+        let (mut ours, mut theirs) = (case.output.clone(), case.output.clone());
+        let our_answer = write_presence_request(&mut ours);
+        let their_answer = self.other.write_presence_request(&mut theirs);
+        same(&case.output, (our_answer, ours), (their_answer, theirs))?;
+        self.tally.payloads += 2;
+        Ok(())
+    }
+
+    /// The reader of Connect payloads on any bytes, and the length of a message that starts so.
+    pub fn read_payload(&mut self, bytes: &[u8]) -> Result<(), Difference> {
+        same(&bytes, read_connect(bytes), self.other.read_connect(bytes))?;
+        same(&bytes, wanted(bytes), self.other.wanted(bytes))?;
+        self.tally.payloads += 1;
         Ok(())
     }
 

@@ -128,7 +128,7 @@ impl Connection {
         keys: &[u8],
         working: &mut [u8],
         report: &mut [u8],
-        verdict: u32,
+        verdict: u64,
     ) -> (Connection, Answer) {
         self.try_step(message, keys, working, report, verdict)
             .unwrap_or_else(|refusal| (self, Answer::Refused(refusal)))
@@ -141,7 +141,7 @@ impl Connection {
         keys: &[u8],
         working: &mut [u8],
         report: &mut [u8],
-        verdict: u32,
+        verdict: u64,
     ) -> Result<Next, Refusal> {
         require(verdict <= 1, Refusal::Verdict)?;
         check_fragment_size(self.fragment_size)?;

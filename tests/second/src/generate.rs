@@ -2,7 +2,8 @@
 //! Inputs for comparing two implementations, drawn from a [`Prng`], so that a seed names an input.
 //!
 //! [`mod@step`] makes single steps with faults of every kind, [`mod@conversation`] whole
-//! conversations over a bad link, [`mod@write`] calls of the writer and of the cutter.
+//! conversations over a bad link, [`mod@write`] calls of the writer and of the cutter,
+//! [`mod@payload`] calls of the payloads' writers and bytes for their reader.
 
 use crate::connection::State;
 use crate::draft::Draft;
@@ -13,11 +14,13 @@ use crate::prng::Prng;
 
 pub mod conversation;
 pub mod fault;
+pub mod payload;
 pub mod step;
 pub mod write;
 
 pub use conversation::{Conversation, Delivery, Link, conversation};
 pub use fault::Fault;
+pub use payload::{PayloadCase, connect_bytes, payload_case};
 pub use step::{Case, case, connection, draft};
 pub use write::{CutCase, WriteCase, cut_case, write_case};
 

@@ -3,11 +3,20 @@
 
 use std::cmp::Ordering;
 
-use crate::connection::{Answer, Connection, Next};
-use crate::header::Header;
+use crate::connection::{Answer, Connection, Next, check_fragment_size};
+use crate::header::{Header, MOST_PIECES};
 use crate::refusal::{Refusal, require};
 
 impl Connection {
+    /// The length of the report that is under way, once the piece with the last index has come; none
+    /// where F or the count is out of its bounds.
+    pub fn known_length(&self) -> Option<usize> {
+        check_fragment_size(self.fragment_size).ok()?;
+        let last = self.count.checked_sub(1).filter(|last| *last < MOST_PIECES)?;
+        let length = self.fragment_size as usize * usize::from(last) + self.last_length as usize;
+        (self.heard >> last & 1 == 1).then_some(length)
+    }
+
     /// Takes one piece, whose header has passed refusal 7.
     pub(crate) fn join(
         self,

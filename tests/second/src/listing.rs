@@ -9,6 +9,14 @@ use crate::refusal::Refusal;
 /// Where in a message its MessageLength stands.
 const LENGTH: std::ops::Range<usize> = 2..4;
 
+/// How many bytes the next message of a stream has, by what has come of it: MessageLength, at least
+/// 42; 42 where MessageLength has not come yet.
+pub fn wanted(bytes: &[u8]) -> usize {
+    let length =
+        bytes.get(LENGTH).map_or(0, |said| usize::from(said[0]) * 256 + usize::from(said[1]));
+    length.max(SHORTEST)
+}
+
 /// The messages of a stream: MessageLength bytes at a time, at least 42, or what is left. A read
 /// that fails is its end.
 pub struct Messages<R>(R);
@@ -42,8 +50,8 @@ impl<R: Read> Iterator for Messages<R> {
         let mut message = Vec::new();
         self.fill(&mut message, SHORTEST);
         if message.len() == SHORTEST {
-            let length = u16::from_be_bytes([message[LENGTH.start], message[LENGTH.start + 1]]);
-            self.fill(&mut message, length.into());
+            let length = wanted(&message);
+            self.fill(&mut message, length);
         }
         (!message.is_empty()).then_some(message)
     }

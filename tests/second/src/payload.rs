@@ -1,15 +1,21 @@
 // SPDX-License-Identifier: MPL-2.0
-//! What a payload may be: the Presence Request, six Connect payloads, or a piece of a report.
-//! Refusal 14.
+//! What a payload may be: the Presence Request, six Connect payloads, or a piece of a report. Reading
+//! and judging them, where the parts of a Connect payload lie, and writing them: refusals 14 and 22.
+
+use std::ops::Range;
 
 use crate::bytes::Cursor;
 use crate::header::Kind;
-use crate::refusal::Refusal;
+use crate::refusal::{Refusal, require};
 
 /// HMACSize in every Connection Request and Response.
 pub const HMAC_SIZE: u16 = 32;
 /// The fragment size that every Connection Request and Response names, and the largest F.
 pub const FRAGMENT_SIZE: u32 = 16_384;
+/// Most of ConnectionMode, of a Result, and of a Status.
+const MOST_MODE: u16 = 2;
+const MOST_RESULT: u8 = 3;
+const MOST_STATUS: u8 = 4;
 /// Length of X and of Y.
 pub const KEY_LENGTH: u16 = 32;
 /// Longest certificate.
@@ -71,15 +77,15 @@ pub enum Payload<'a> {
 pub fn read_payload(kind: Kind, sealed: bool, bytes: &[u8]) -> Result<Payload<'_>, Refusal> {
     let payload = match kind {
         Kind::Discovery => (bytes == [0]).then_some(Payload::PresenceRequest),
-        Kind::Connect => connect(sealed, bytes),
+        Kind::Connect => connect(sealed, bytes).map(|(mode, read)| Payload::Connect(mode, read)),
         Kind::Session => Some(Payload::Piece(bytes)),
     };
     payload.ok_or(Refusal::Payload)
 }
 
-fn connect(sealed: bool, bytes: &[u8]) -> Option<Payload<'_>> {
+fn connect(sealed: bool, bytes: &[u8]) -> Option<(u16, Connect<'_>)> {
     let mut rest = Cursor::new(bytes);
-    let mode = rest.u16().filter(|mode| *mode <= 2)?;
+    let mode = rest.u16().filter(|mode| *mode <= MOST_MODE)?;
     let connect = match (rest.u8()?, sealed) {
         (0, false) => {
             fixed(rest.u8()?, 0)?;
@@ -87,15 +93,15 @@ fn connect(sealed: bool, bytes: &[u8]) -> Option<Payload<'_>> {
         }
         (1, false) => match rest.u8()? {
             1 => Connect::ConnectionPending(offer(&mut rest)?),
-            result => Connect::ConnectionResult(Some(result).filter(|r| *r <= 3)?),
+            result => Connect::ConnectionResult(Some(result).filter(|r| *r <= MOST_RESULT)?),
         },
         (2, true) => Connect::AuthenticationRequest(credentials(&mut rest)?),
         (3, true) => Connect::AuthenticationResponse(credentials(&mut rest)?),
         (6, true) => Connect::DoneRequest,
-        (7, true) => Connect::DoneResponse(rest.u8().filter(|status| *status <= 4)?),
+        (7, true) => Connect::DoneResponse(rest.u8().filter(|status| *status <= MOST_STATUS)?),
         _ => return None,
     };
-    (rest.left() == 0).then_some(Payload::Connect(mode, connect))
+    (rest.left() == 0).then_some((mode, connect))
 }
 
 /// The fields from HMACSize on.
@@ -123,6 +129,67 @@ fn fixed<T: PartialEq>(found: T, value: T) -> Option<()> {
     (found == value).then_some(())
 }
 
+/// What stands in a Connect payload, and where: a part that its type does not have is empty, at the
+/// payload's start.
+#[derive(Clone, Debug, Default, PartialEq, Eq)]
+pub struct Parts {
+    /// Its type.
+    pub kind: u8,
+    /// ConnectionMode.
+    pub mode: u16,
+    /// Result or Status; 0 where the type has neither.
+    pub code: u8,
+    /// Nonce.
+    pub nonce: Range<usize>,
+    /// X.
+    pub x: Range<usize>,
+    /// Y.
+    pub y: Range<usize>,
+    /// Certificate.
+    pub certificate: Range<usize>,
+    /// Thumbprint.
+    pub thumbprint: Range<usize>,
+}
+
+/// The parts of a Connect payload, whether it came plain or sealed; refuses with 14.
+pub fn read_connect(bytes: &[u8]) -> Result<Parts, Refusal> {
+    let (mode, connect) =
+        connect(false, bytes).or_else(|| connect(true, bytes)).ok_or(Refusal::Payload)?;
+    let parts = match connect {
+        Connect::ConnectionRequest(_) => offered(0, 0),
+        Connect::ConnectionPending(_) => offered(1, 1),
+        Connect::ConnectionResult(result) => Parts { kind: 1, code: result, ..Parts::default() },
+        Connect::AuthenticationRequest(shown) => shown.parts(2),
+        Connect::AuthenticationResponse(shown) => shown.parts(3),
+        Connect::DoneRequest => Parts { kind: 6, ..Parts::default() },
+        Connect::DoneResponse(status) => Parts { kind: 7, code: status, ..Parts::default() },
+    };
+    Ok(Parts { mode, ..parts })
+}
+
+/// The parts of a payload of 86 bytes: 4 before HMACSize (2), the nonce, the fragment size (4), and
+/// X and Y, each with its length (2) in front.
+fn offered(kind: u8, code: u8) -> Parts {
+    Parts { kind, code, nonce: 6..14, x: 20..52, y: 54..86, ..Parts::default() }
+}
+
+/// Writes a Presence Request's payload at the front of `output` and answers its length; refuses with
+/// 22. A refusal leaves the output as it was, a success what is beyond the payload.
+pub fn write_presence_request(output: &mut [u8]) -> Result<usize, Refusal> {
+    put(&Payload::PresenceRequest.to_bytes(), output)
+}
+
+/// The same for a Connect payload; refuses with 14 what [`read_payload`] would, then with 22.
+pub fn write_connect(mode: u16, connect: Connect<'_>, output: &mut [u8]) -> Result<usize, Refusal> {
+    require(mode <= MOST_MODE && connect.is_allowed(), Refusal::Payload)?;
+    put(&Payload::Connect(mode, connect).to_bytes(), output)
+}
+
+fn put(bytes: &[u8], output: &mut [u8]) -> Result<usize, Refusal> {
+    output.get_mut(..bytes.len()).ok_or(Refusal::Room)?.copy_from_slice(bytes);
+    Ok(bytes.len())
+}
+
 impl Payload<'_> {
     /// The payload's bytes.
     pub fn to_bytes(&self) -> Vec<u8> {
@@ -137,6 +204,20 @@ impl Payload<'_> {
 }
 
 impl Connect<'_> {
+    /// Whether its values are within their bounds. (Result 1 has an offer.)
+    fn is_allowed(&self) -> bool {
+        match self {
+            Connect::ConnectionRequest(_) | Connect::ConnectionPending(_) => true,
+            Connect::ConnectionResult(result) => *result != 1 && *result <= MOST_RESULT,
+            Connect::AuthenticationRequest(shown) | Connect::AuthenticationResponse(shown) => {
+                (1..=MOST_CERTIFICATE.into()).contains(&shown.certificate.len())
+                    && shown.thumbprint.len() <= MOST_THUMBPRINT.into()
+            }
+            Connect::DoneRequest => true,
+            Connect::DoneResponse(status) => *status <= MOST_STATUS,
+        }
+    }
+
     fn to_bytes(self) -> Vec<u8> {
         match self {
             Connect::ConnectionRequest(offer) => [&[0, 0][..], &offer.to_bytes()].concat(),
@@ -160,6 +241,13 @@ impl Offer {
 }
 
 impl Credentials<'_> {
+    /// Where they lie: 3 bytes, then each with its length (2) in front.
+    fn parts(&self, kind: u8) -> Parts {
+        let certificate = 5..5 + self.certificate.len();
+        let thumbprint = certificate.end + 2..certificate.end + 2 + self.thumbprint.len();
+        Parts { kind, certificate, thumbprint, ..Parts::default() }
+    }
+
     fn to_bytes(self) -> Vec<u8> {
         let length = |part: &[u8]| (part.len() as u16).to_be_bytes();
         let (certificate, thumbprint) = (self.certificate, self.thumbprint);

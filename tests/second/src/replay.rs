@@ -13,7 +13,7 @@ const LONGEST: usize = u16::MAX as usize;
 pub struct Player {
     connection: Connection,
     keys: [u8; 64],
-    verdict: u32,
+    verdict: u64,
     working: Vec<u8>,
     report: Vec<u8>,
 }
@@ -29,7 +29,7 @@ pub struct Report<'a> {
 
 impl Player {
     /// A player of fragment size F, with room for any report; refuses with 24.
-    pub fn new(keys: [u8; 64], fragment_size: u32, verdict: u32) -> Result<Player, Refusal> {
+    pub fn new(keys: [u8; 64], fragment_size: u32, verdict: u64) -> Result<Player, Refusal> {
         let (connection, opened) = Connection::open(fragment_size);
         opened?;
         let room = fragment_size as usize * usize::from(MOST_PIECES);

@@ -5,9 +5,10 @@ mod common;
 
 use second::compare::{Comparison, Difference, Implementation, Piece, Second, Tally};
 use second::connection::{Answer, Connection, State};
-use second::generate::{Case, WriteCase, case, write_case};
+use second::generate::{Case, WriteCase, case, payload_case, write_case};
 use second::header::{Framed, Header};
 use second::message::Message;
+use second::payload::{Connect, Parts};
 use second::prng::Prng;
 use second::refusal::Refusal;
 
@@ -18,9 +19,9 @@ fn it_agrees_with_itself() {
     for _ in 0..100 {
         comparison.round(&mut prng).unwrap();
     }
-    let Tally { steps, conversations, reads, writes, cuts, digests } = comparison.tally;
+    let Tally { steps, conversations, reads, writes, payloads, cuts, digests } = comparison.tally;
     assert_eq!((conversations, reads, writes, cuts, digests), (100, 6_000, 400, 400, 400));
-    assert!(steps > 10_000);
+    assert!(steps > 10_000 && payloads > 3_000);
 }
 
 /// A fault at every place on each kind of message, in the state that waits for it.
@@ -62,6 +63,11 @@ enum Error {
     WorkingTouchedByRefusal,
     LengthOffByOne,
     OutputTouchedBeyond,
+    PayloadRoomFirst,
+    PayloadTouchedByRefusal,
+    PresenceLength,
+    PartOffByOne,
+    NothingWanted,
     OpenForgetsF,
     RepeatCounted,
     AllHeardTold,
@@ -113,6 +119,41 @@ impl Implementation for Spoilt {
         Ok(length + usize::from(self.0 == Error::LengthOffByOne))
     }
 
+    fn write_presence_request(&mut self, output: &mut [u8]) -> Result<usize, Refusal> {
+        let length = Second.write_presence_request(output)?;
+        Ok(length + usize::from(self.0 == Error::PresenceLength))
+    }
+
+    fn write_connect(
+        &mut self,
+        mode: u16,
+        connect: Connect<'_>,
+        output: &mut [u8],
+    ) -> Result<usize, Refusal> {
+        let written = Second.write_connect(mode, connect, output);
+        match (self.0, written) {
+            (Error::PayloadRoomFirst, Err(Refusal::Payload)) if output.len() < 4 => {
+                Err(Refusal::Room)
+            }
+            (Error::PayloadTouchedByRefusal, Err(Refusal::Room)) => {
+                output.first_mut().into_iter().for_each(|byte| *byte = byte.wrapping_add(1));
+                written
+            }
+            _ => written,
+        }
+    }
+
+    fn read_connect(&mut self, payload: &[u8]) -> Result<Parts, Refusal> {
+        let mut parts = Second.read_connect(payload)?;
+        parts.thumbprint.start += usize::from(self.0 == Error::PartOffByOne);
+        Ok(parts)
+    }
+
+    fn wanted(&mut self, bytes: &[u8]) -> usize {
+        let nothing = self.0 == Error::NothingWanted && bytes.len() < 4;
+        if nothing { 0 } else { Second.wanted(bytes) }
+    }
+
     fn open(&mut self, fragment_size: u32) -> (Connection, Result<(), Refusal>) {
         let (mut connection, opened) = Second.open(fragment_size);
         if self.0 == Error::OpenForgetsF {
@@ -128,7 +169,7 @@ impl Implementation for Spoilt {
         keys: &[u8],
         working: &mut [u8],
         report: &mut [u8],
-        verdict: u32,
+        verdict: u64,
     ) -> (Connection, Answer) {
         let before = report.to_vec();
         let (mut next, mut answer) = connection.step(message, keys, working, report, verdict);
@@ -177,6 +218,11 @@ fn it_notices_every_kind_of_error() {
         Error::WorkingTouchedByRefusal,
         Error::LengthOffByOne,
         Error::OutputTouchedBeyond,
+        Error::PayloadRoomFirst,
+        Error::PayloadTouchedByRefusal,
+        Error::PresenceLength,
+        Error::PartOffByOne,
+        Error::NothingWanted,
         Error::OpenForgetsF,
         Error::RepeatCounted,
         Error::AllHeardTold,
@@ -190,7 +236,7 @@ fn it_notices_every_kind_of_error() {
     ] {
         let mut prng = Prng::new(2);
         let mut comparison = Comparison::new(Spoilt(error));
-        let found = (0..20).find_map(|_| comparison.round(&mut prng).err());
+        let found = (0..40).find_map(|_| comparison.round(&mut prng).err());
         let Some(Difference(text)) = found else { panic!("{error:?} was not noticed") };
         assert!(text.contains("this one:") && text.contains("the other:"));
     }
@@ -211,4 +257,5 @@ fn single_steps_alone_find_a_hub_that_stores_nothing() {
     let mut comparison = Comparison::new(Spoilt(Error::NothingStored));
     assert!((0..500).any(|_| comparison.step(&case(&mut prng)).is_err()));
     assert!((0..500).all(|_| comparison.write(&write_case(&mut prng)).is_ok()));
+    assert!((0..500).all(|_| comparison.write_payload(&payload_case(&mut prng)).is_ok()));
 }

@@ -290,7 +290,7 @@ fn states_that_do_not_exist() {
 
 #[test]
 fn verdicts_and_fragment_sizes() {
-    for verdict in [2, 3, 255, 256, u32::MAX] {
+    for verdict in [2, 3, 255, 256, 257, 1 << 32, (1 << 32) + 1, u64::MAX] {
         let mut hub = Hub::new(8, AwaitingRequest);
         assert_eq!(refused(hub.take_bytes(&[], verdict)), 25);
         hub.connection.fragment_size = 0;

@@ -8,10 +8,12 @@ use std::collections::BTreeMap;
 use common::{gateway, number};
 use second::connection::{Answer, Connection, State};
 use second::generate::{
-    Case, Conversation, Fault, Link, case, conversation, cut_case, dress, stream, write_case,
+    Case, Conversation, Fault, Link, case, connect_bytes, conversation, cut_case, dress,
+    payload_case, stream, write_case,
 };
 use second::listing::list;
 use second::message::read_message;
+use second::payload::read_connect;
 use second::prng::Prng;
 
 /// An answer's name: refusals by number.
@@ -63,6 +65,8 @@ fn the_same_seed_gives_the_same_inputs() {
         assert_eq!(case(&mut a), case(&mut b));
         assert_eq!(write_case(&mut a), write_case(&mut b));
         assert_eq!(cut_case(&mut a), cut_case(&mut b));
+        assert_eq!(payload_case(&mut a), payload_case(&mut b));
+        assert_eq!(connect_bytes(&mut a), connect_bytes(&mut b));
         assert_eq!(conversation(&mut a).deliveries, conversation(&mut b).deliveries);
         assert_eq!(a.word(), b.word());
     }
@@ -157,6 +161,31 @@ fn the_writer_and_the_cutter_are_refused_in_every_way() {
     }
     assert_eq!(written.iter().filter(|times| **times > 0).count(), 9);
     assert!(cuts[0] > 1_000 && cuts[7] > 1_000 && cuts[24] > 100, "{cuts:?}");
+}
+
+/// How often each type of payload is answered 0, 14 and 22 by its writer, and is read or not.
+#[test]
+fn every_payload_is_written_and_read_and_refused() {
+    let mut prng = Prng::new(10);
+    let (mut written, mut read) = (BTreeMap::new(), BTreeMap::new());
+    for _ in 0..20_000 {
+        let mut case = payload_case(&mut prng);
+        let before = case.output.clone();
+        let result = case.write();
+        let kept = *result.as_ref().unwrap_or(&0);
+        assert_eq!(case.output[kept..], before[kept..]);
+        *written.entry((case.kind, number(result))).or_insert(0) += 1;
+        let bytes = connect_bytes(&mut prng);
+        let parts = read_connect(&bytes);
+        let kind = parts.as_ref().map_or(bytes.get(2).copied(), |parts| Some(parts.kind));
+        *read.entry((kind, number(parts))).or_insert(0) += 1;
+    }
+    for kind in [0, 1, 2, 3, 6, 7] {
+        for refusal in [0, 14, 22] {
+            assert!(written[&(kind, refusal)] > 20, "{kind} {refusal}: {written:?}");
+        }
+        assert!(read[&(Some(kind), 0)] > 20 && read[&(Some(kind), 14)] > 20, "{kind}: {read:?}");
+    }
 }
 
 /// Plays a conversation: the answers, and how many reports came whole.

@@ -47,6 +47,8 @@ fn join(hub: &mut Hub, sequence: u32, report: &[u8], order: &[usize], between: &
             }
         }
         assert_eq!(hub.report, buffer);
+        let known = came[pieces.len() - 1] && !came.iter().all(|came| *came);
+        assert_eq!(hub.connection.known_length(), known.then_some(report.len()));
     }
     assert!(came.iter().all(|came| *came), "the order names every piece");
 }
@@ -331,4 +333,20 @@ fn heard_sets_that_are_made_up() {
     hub.connection = Connection { heard: 0, count: 9, channel: 1, ..hub.connection };
     assert_eq!(hub.take(&gateway.piece(0, 0, 2, b"abcd")), Answer::Taken(1));
     assert_eq!((hub.connection.count, hub.connection.channel), (2, channel));
+}
+
+#[test]
+fn a_length_is_known_within_bounds_alone() {
+    let known = |fragment_size, count, heard, last_length| {
+        let connection =
+            Connection { fragment_size, count, heard, last_length, ..Connection::default() };
+        connection.known_length()
+    };
+    assert_eq!(known(4, 3, 1 << 2, 3), Some(11));
+    assert_eq!(known(4, 3, !(1 << 2), 3), None);
+    assert_eq!((known(1, 1, 1, 0), known(0, 1, 1, 0)), (Some(0), None));
+    assert_eq!(known(16_384, 64, 1 << 63, 16_384), Some(1_048_576));
+    assert_eq!(known(16_385, 64, 1 << 63, 16_384), None);
+    assert_eq!((known(4, 0, u64::MAX, 3), known(4, 65, u64::MAX, 3)), (None, None));
+    assert_eq!((known(4, u16::MAX, u64::MAX, 3), known(4, 1, 1, 65_535)), (None, Some(65_535)));
 }

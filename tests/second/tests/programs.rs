@@ -129,7 +129,7 @@ fn a_listing_cut_at_every_byte_ends_with_what_was_whole() {
 }
 
 /// The lines of a replay and the reports it gives.
-fn replay(capture: &[u8], verdict: u32) -> (String, Vec<(u32, Vec<u8>)>) {
+fn replay(capture: &[u8], verdict: u64) -> (String, Vec<(u32, Vec<u8>)>) {
     let keys = sample("keys.bin").try_into().unwrap();
     let mut player = Player::new(keys, FRAGMENT_SIZE, verdict).unwrap();
     let (mut lines, mut reports) = (String::new(), Vec::new());

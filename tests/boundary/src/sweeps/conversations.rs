@@ -53,7 +53,7 @@ impl<'a, I: Implementation> Talk<'a, I> {
     }
 
     /// A message comes; the answer starts so. A refusal and a repeated reply change nothing.
-    fn hear(&mut self, message: &[u8], verdict: u32, expected: &str) -> Done {
+    fn hear(&mut self, message: &[u8], verdict: u64, expected: &str) -> Done {
         let mut case = Case {
             connection: self.connection,
             message: message.to_vec(),
@@ -77,7 +77,7 @@ impl<'a, I: Implementation> Talk<'a, I> {
         Ok(())
     }
 
-    fn draft(&mut self, draft: &Draft, verdict: u32, expected: &str) -> Done {
+    fn draft(&mut self, draft: &Draft, verdict: u64, expected: &str) -> Done {
         let message = draft.bytes(&self.gateway.keys);
         self.hear(&message, verdict, expected)
     }
@@ -186,7 +186,7 @@ pub fn enrolment<I: Implementation>(comparison: &mut Comparison<I>) -> Tried {
 }
 
 /// Messages of every kind, none of which a connection awaits in each state.
-fn kinds(gateway: &Gateway) -> Vec<Draft> {
+pub fn kinds(gateway: &Gateway) -> Vec<Draft> {
     let mut other = gateway.clone();
     other.offer = Offer { nonce: [1; 8], ..gateway.offer };
     other.certificate = vec![2; 3];
@@ -288,18 +288,20 @@ pub fn conflicts<I: Implementation>(comparison: &mut Comparison<I>) -> Tried {
             (ROOM, piece(1, 0, 3, &[1; 3]), "refused 20"),
             (ROOM, piece(1, 2, 3, &[]), "refused 20"),
             (ROOM, piece(1, 2, 3, &[1; 5]), "refused 20"),
-            (ROOM, piece(1, 2, 3, &[1; 3]), "taken 1"),
+            (10, piece(1, 2, 3, &[1; 5]), "refused 20"),
+            (10, piece(1, 2, 3, &[1; 3]), "refused 22"),
+            (8, piece(1, 1, 3, &[3; 4]), "taken 1"),
+            (7, piece(1, 1, 3, &[3, 3, 3, 2]), "refused 22"),
+            (7, piece(1, 1, 3, &[3; 5]), "refused 20"),
+            (3, piece(1, 0, 3, &[4; 4]), "refused 22"),
+            (11, piece(1, 2, 3, &[1; 3]), "taken 2"),
             (ROOM, piece(1, 0, 2, &[1; 9]), "refused 21"),
             (ROOM, other_channel, "refused 21"),
             (ROOM, piece(1, 2, 3, &[1; 5]), "refused 20"),
             (ROOM, piece(1, 2, 3, &[1; 2]), "refused 23"),
             (ROOM, piece(1, 2, 3, &[1, 1, 2]), "refused 23"),
-            (ROOM, piece(1, 2, 3, &[1; 3]), "repeat 1"),
-            (10, piece(1, 2, 3, &[1, 1, 2]), "refused 22"),
-            (10, piece(1, 2, 3, &[1; 5]), "refused 20"),
-            (10, piece(1, 1, 3, &[3; 4]), "taken 2"),
-            (3, piece(1, 0, 3, &[4; 4]), "refused 22"),
-            (ROOM, piece(1, 0, 3, &[4; 4]), "complete 11 in 3 pieces"),
+            (11, piece(1, 2, 3, &[1; 3]), "repeat 2"),
+            (11, piece(1, 0, 3, &[4; 4]), "complete 11 in 3 pieces"),
             (0, piece(2, 0, 1, &[]), "complete 0 in 1 pieces"),
             (ROOM, authentication, "refused 15"),
         ];

@@ -33,7 +33,7 @@ impl Described {
 }
 
 /// Bytes with these at these places.
-fn with(mut bytes: Vec<u8>, parts: &[(usize, &[u8])]) -> Vec<u8> {
+pub fn with(mut bytes: Vec<u8>, parts: &[(usize, &[u8])]) -> Vec<u8> {
     for (place, part) in parts {
         bytes[*place..place + part.len()].copy_from_slice(part);
     }
@@ -42,7 +42,7 @@ fn with(mut bytes: Vec<u8>, parts: &[(usize, &[u8])]) -> Vec<u8> {
 
 /// A payload of this size: mode, type and the byte after it, and all else as the shapes of 86
 /// bytes have it.
-fn of_86(mode: u8, kind: u8, code: u8, size: usize) -> Vec<u8> {
+pub fn of_86(mode: u8, kind: u8, code: u8, size: usize) -> Vec<u8> {
     let front = [0, mode, kind, code];
     let parts: [(usize, &[u8]); 5] =
         [(0, &front), (4, &[0, 32]), (14, &[0, 0, 64, 0]), (18, &[0, 32]), (52, &[0, 32])];
@@ -52,7 +52,7 @@ fn of_86(mode: u8, kind: u8, code: u8, size: usize) -> Vec<u8> {
 }
 
 /// Whether it is one of the shapes but those of certificates.
-fn is_good(sealed: bool, mode: u8, kind: u8, code: u8, size: usize) -> bool {
+pub fn is_good(sealed: bool, mode: u8, kind: u8, code: u8, size: usize) -> bool {
     let shape = match (kind, code) {
         (0, 0) | (1, 1) => !sealed && size == 86,
         (1, 0 | 2 | 3) => !sealed && size == 4,

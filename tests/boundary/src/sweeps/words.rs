@@ -13,14 +13,14 @@ use super::header::with_fault;
 use super::trial::{KEYS, fields, noise, step_of};
 use super::written::piece;
 use super::{Tried, as_expected, each};
-use crate::hub::{BEFORE, fields_of};
-use crate::hub_h::{self, Hub, header_words};
+use crate::hub::{BEFORE, fields_of, number_of};
+use crate::hub_h::{self, Hub, WRONG_BUFFER, header_words};
 use crate::samples::samples;
-use crate::sizes::{WRONG_BUFFER, write_words};
+use crate::sizes::write_words;
 use crate::state::encode;
 
 /// A call that is refused, and with which number.
-type Refused = (u8, Case);
+type Refused = (u32, Case);
 
 /// A sealed Session message that is the whole report of a connection of F = 16, waiting for it.
 fn whole() -> Draft {
@@ -33,7 +33,7 @@ fn step(draft: &Draft) -> Case {
 
 /// The reader's refusals, 14 once sealed and once plain.
 fn refused_reads() -> Vec<Refused> {
-    let faults = (1..=9).map(|number| (number, with_fault(sealed(), number).bytes()));
+    let faults = (1..=9).map(|number: u8| (number.into(), with_fault(sealed(), number).bytes()));
     let mut calls: Vec<Refused> =
         faults.map(|(number, bytes)| (number, step_of(bytes, State::Ready))).collect();
     let [mut no_keys, mut flipped, mut short] = [(); 3].map(|()| step(&whole()));
@@ -112,7 +112,7 @@ pub fn refused_after_read(comparison: &mut Comparison<Hub>) -> Tried {
         let mut theirs = case.working.clone();
         let found = hub.read(&case.message, &case.keys, &mut theirs, &mut words);
         as_expected(case, &(*number, [0; 11]), &(found, words))?;
-        as_expected(case, &Err(*number), &second.read().map(|_| ()).map_err(|by| by.number()))?;
+        as_expected(case, number, &number_of(&second.read()))?;
         as_expected(case, &second.working, &theirs)?;
         hub.place_is(message, &working, &words, 0, &(0..0));
         hub.place_is(&case.message, &theirs, &words, 0, &(0..0));
@@ -143,7 +143,7 @@ pub fn header_as_place(comparison: &mut Comparison<Hub>) -> Tried {
 
 /// Calls of the writer: a sealed piece, a Presence Request, and one of which all but the fields is
 /// wrong; each with what it is answered.
-fn calls() -> [(WriteCase, u8); 3] {
+fn calls() -> [(WriteCase, u32); 3] {
     let sealed = piece(&[0, 0], (28, 32)).case;
     let plain = WriteCase {
         header: fields(Kind::Discovery, 0),
@@ -208,10 +208,10 @@ pub fn refused_after_step(comparison: &mut Comparison<Hub>) -> Tried {
 }
 
 /// A step by hub.h: the number, the state after it and the report buffer.
-fn one_step(hub: &mut Hub, case: &Case, words: &mut [u64; 3]) -> (u8, [u8; 151], Vec<u8>) {
+fn one_step(hub: &mut Hub, case: &Case, words: &mut [u64; 3]) -> (u32, [u8; 151], Vec<u8>) {
     let (mut state, mut after) = (encode(&case.connection), case.clone());
     let (working, report) = (&mut after.working, &mut after.report);
-    let verdict = case.verdict as u8;
+    let verdict = case.verdict;
     let number = hub.step(&mut state, &case.message, &case.keys, working, report, verdict, words);
     (number, state, after.report)
 }

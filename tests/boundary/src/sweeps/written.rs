@@ -9,7 +9,7 @@ use super::trial::{Writing, fields, noise};
 use super::{Tried, each, pairs};
 
 /// Chains of no entry, of one and of eight.
-const CHAINS: [&[u8]; 3] = [
+pub const CHAINS: [&[u8]; 3] = [
     b"\x00\x00",
     b"\x02\x03jkl\x00\x00",
     b"\x01\x00\x02\x01a\x03\x02bc\x01\x03def\x02\x00\x03\x01g\x01\x02hi\x02\x03jkl\x00\x00",

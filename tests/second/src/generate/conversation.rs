@@ -70,7 +70,7 @@ pub struct Delivery {
     /// The message.
     pub message: Vec<u8>,
     /// The verdict, 0 or 1.
-    pub verdict: u32,
+    pub verdict: u64,
 }
 
 /// An enrolment and some reports, as they arrive at the hub.
@@ -105,7 +105,7 @@ struct Talk<'a> {
     hub: Connection,
     working: Vec<u8>,
     report: Vec<u8>,
-    verdict: u32,
+    verdict: u64,
     deliveries: Vec<Delivery>,
 }
 
@@ -127,7 +127,7 @@ pub fn conversation(prng: &mut Prng) -> Conversation {
         hub: Connection::open(fragment_size).0,
         working: vec![0; working],
         report: vec![0; room],
-        verdict: u32::from(!prng.chance(5)),
+        verdict: u64::from(!prng.chance(5)),
         deliveries: Vec::new(),
         gateway,
         prng,
@@ -158,7 +158,7 @@ impl Talk<'_> {
 
     fn deliver(&mut self, message: Vec<u8>) -> Answer {
         let asked = self.hub.state == State::AwaitingAuthentication as u8;
-        let verdict = if asked { self.verdict } else { self.prng.below(2) as u32 };
+        let verdict = if asked { self.verdict } else { self.prng.below(2) as u64 };
         let (working, report) = (&mut self.working, &mut self.report);
         let keys = &self.gateway.keys;
         let (next, answer) = self.hub.step(&message, keys, working, report, verdict);

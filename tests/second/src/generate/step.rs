@@ -25,7 +25,7 @@ pub struct Case {
     /// The report buffer.
     pub report: Vec<u8>,
     /// The verdict, 0 or 1 or not.
-    pub verdict: u32,
+    pub verdict: u64,
 }
 
 impl Case {
@@ -162,6 +162,9 @@ fn piece(prng: &mut Prng, gateway: &Gateway, connection: &Connection, report: &[
     draft
 }
 
+/// Verdicts that are none; the lower bits of some are 0 or 1.
+const VERDICTS: [u64; 9] = [2, 3, 255, 256, 257, 1 << 32, (1 << 32) + 1, (1 << 63) + 1, u64::MAX];
+
 /// A step on a message with 0 to 3 faults, now and then on random bytes; keys, buffers and verdict
 /// may be faulty too.
 pub fn case(prng: &mut Prng) -> Case {
@@ -176,7 +179,7 @@ pub fn case(prng: &mut Prng) -> Case {
     let message = if prng.chance(3) { noise(prng) } else { draft.bytes(&gateway.keys) };
     let working = working_buffer(prng, message.len());
     let keys = keys(prng, gateway.keys);
-    let verdict = if prng.chance(2) { prng.pick(&[2, 3, 255]) } else { prng.below(2) as u32 };
+    let verdict = if prng.chance(2) { prng.pick(&VERDICTS) } else { prng.below(2) as u64 };
     Case { connection, message, keys, working, report, verdict }
 }
 
@@ -192,15 +195,18 @@ fn noise(prng: &mut Prng) -> Vec<u8> {
     noise
 }
 
-/// Room for the report so far, or about.
+/// Room for the report so far, or about; mostly for all of it where its length is known.
 fn report_buffer(prng: &mut Prng, connection: &Connection) -> Vec<u8> {
     let size = connection.fragment_size.clamp(1, FRAGMENT_SIZE) as usize;
     let whole = size * prng.pick(&[1, 2, 3, usize::from(connection.count.clamp(1, 64))]);
+    let known = connection.known_length();
     let length = match prng.below(10) {
         0 => whole - 1,
         1 => prng.below(whole),
         2 => 0,
-        _ => whole + prng.below(9),
+        3 => known.unwrap_or(whole).saturating_sub(1),
+        4 => known.unwrap_or(whole),
+        _ => whole.max(known.unwrap_or(0)) + prng.below(9),
     };
     prng.bytes(length)
 }

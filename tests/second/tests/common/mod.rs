@@ -61,7 +61,7 @@ impl Hub {
         self.take_bytes(&draft.bytes(&self.gateway.keys), 1)
     }
 
-    pub fn take_bytes(&mut self, message: &[u8], verdict: u32) -> Answer {
+    pub fn take_bytes(&mut self, message: &[u8], verdict: u64) -> Answer {
         let (working, report) = (&mut self.working, &mut self.report);
         let keys = &self.gateway.keys;
         let (next, answer) = self.connection.step(message, keys, working, report, verdict);
