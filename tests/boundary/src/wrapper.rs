@@ -1,14 +1,15 @@
 // SPDX-License-Identifier: MPL-2.0
 //! Document 01's calls by the Rust wrapper, host/rust. What its types rule out (keys that are neither
-//! 64 bytes nor none, another verdict than 0 and 1) is answered by the second implementation, and so are
-//! a short report buffer and what the wrapper does not have: payloads and streams.
+//! 64 bytes nor none, another verdict than 0 and 1, a type, mode, Result or Status that document 01
+//! does not have) is answered by the second implementation.
 
 use hlidunsk as h;
+use hlidunsk::payload as p;
 use second::compare::{Implementation, Piece, Second};
 use second::connection::{Answer, Connection};
 use second::header::{Framed, Header, Kind};
 use second::message::{Message, Place};
-use second::payload::{Connect, Parts};
+use second::payload::{Connect, Credentials, Offer, Parts};
 use second::refusal::Refusal;
 
 use crate::hub::refusal;
@@ -18,16 +19,17 @@ use crate::state::{decode, encode};
 pub struct Wrapper;
 
 fn refused(by: h::Refusal) -> Refusal {
-    refusal(by.number().into()).expect_err("a refusal")
+    refusal(by.number()).expect_err("a refusal")
 }
 
 fn header(of: h::Header) -> Header {
     let h::Header { message_type, flags, sequence, request, index, count, session, channel } = of;
+    let message_type = message_type.number();
     Header { message_type, flags, sequence, request, index, count, session, channel }
 }
 
 fn kind(of: h::Header) -> Kind {
-    Kind::from_number(of.message_type).expect("a kind")
+    Kind::from_number(of.message_type.number()).expect("a kind")
 }
 
 /// The keys as the wrapper takes them: 64 bytes, or none.
@@ -39,6 +41,90 @@ fn keys_of(keys: &[u8]) -> Option<Option<&h::Keys>> {
 fn place(part: &[u8], whole: &[u8]) -> Option<std::ops::Range<usize>> {
     let start = (part.as_ptr() as usize).checked_sub(whole.as_ptr() as usize)?;
     (start + part.len() <= whole.len()).then_some(start..start + part.len())
+}
+
+/// The type of a reply.
+fn type_of(reply: h::Reply) -> u8 {
+    match reply {
+        h::Reply::ConnectionResponse => 1,
+        h::Reply::DeviceAuthenticationResponse => 3,
+        h::Reply::DoneResponse(p::Status::Success) => 7,
+        h::Reply::DoneResponse(status) => panic!("{status:?}"),
+    }
+}
+
+/// A Connect payload in the wrapper's types, where they have it.
+fn typed(mode: u16, connect: Connect<'_>) -> Option<p::Connect<'_>> {
+    use p::{Connect as Typed, ConnectionResult};
+    let mode = p::Mode::from_number(mode)?;
+    let half = |offer: Offer| p::Exchange { nonce: offer.nonce, x: offer.x, y: offer.y };
+    let response = |result| Typed::ConnectionResponse { mode, result };
+    Some(match connect {
+        Connect::ConnectionRequest(offer) => {
+            Typed::ConnectionRequest { mode, exchange: half(offer) }
+        }
+        Connect::ConnectionPending(offer) => response(ConnectionResult::Pending(half(offer))),
+        Connect::ConnectionResult(0) => response(ConnectionResult::Success),
+        Connect::ConnectionResult(2) => response(ConnectionResult::FailureAuthentication),
+        Connect::ConnectionResult(3) => response(ConnectionResult::FailureNotAllowed),
+        Connect::ConnectionResult(_) => return None,
+        Connect::AuthenticationRequest(Credentials { certificate, thumbprint }) => {
+            Typed::DeviceAuthenticationRequest { mode, certificate, thumbprint }
+        }
+        Connect::AuthenticationResponse(Credentials { certificate, thumbprint }) => {
+            Typed::DeviceAuthenticationResponse { mode, certificate, thumbprint }
+        }
+        Connect::DoneRequest => Typed::DoneRequest { mode },
+        Connect::DoneResponse(status) => {
+            Typed::DoneResponse { mode, status: p::Status::from_number(status)? }
+        }
+    })
+}
+
+/// The numbers of a Connect payload that was read, and where in it its parts lie. The wrapper copies
+/// nonce, X and Y, so their places are those of document 01, and the bytes there are compared.
+fn parts_of(read: p::Connect<'_>, payload: &[u8]) -> Parts {
+    use p::{Connect as Typed, ConnectionResult};
+    let numbers = |kind, code| Parts {
+        kind,
+        mode: read.mode().number(),
+        code,
+        nonce: 0..0,
+        x: 0..0,
+        y: 0..0,
+        certificate: 0..0,
+        thumbprint: 0..0,
+    };
+    let exchanged = |kind, code, half: p::Exchange| {
+        let (nonce, x, y) = (6..14, 20..52, 54..86);
+        assert_eq!(payload[nonce.clone()], half.nonce);
+        assert_eq!(payload[x.clone()], half.x);
+        assert_eq!(payload[y.clone()], half.y);
+        Parts { nonce, x, y, ..numbers(kind, code) }
+    };
+    let shown = |kind, certificate, thumbprint| Parts {
+        certificate: place(certificate, payload).expect("a part of the payload"),
+        thumbprint: place(thumbprint, payload).expect("a part of the payload"),
+        ..numbers(kind, 0)
+    };
+    match read {
+        Typed::ConnectionRequest { exchange, .. } => exchanged(0, 0, exchange),
+        Typed::ConnectionResponse { result, .. } => match result {
+            ConnectionResult::Success => numbers(1, 0),
+            ConnectionResult::Pending(exchange) => exchanged(1, 1, exchange),
+            ConnectionResult::FailureAuthentication => numbers(1, 2),
+            ConnectionResult::FailureNotAllowed => numbers(1, 3),
+        },
+        Typed::DeviceAuthenticationRequest { certificate, thumbprint, .. } => {
+            shown(2, certificate, thumbprint)
+        }
+        Typed::DeviceAuthenticationResponse { certificate, thumbprint, .. } => {
+            shown(3, certificate, thumbprint)
+        }
+        Typed::DoneRequest { .. } => numbers(6, 0),
+        Typed::DoneResponse { status, .. } => numbers(7, status.number()),
+        other => panic!("{other:?}"),
+    }
 }
 
 impl Implementation for Wrapper {
@@ -78,18 +164,28 @@ impl Implementation for Wrapper {
         keys: &[u8],
         output: &mut [u8],
     ) -> Result<usize, Refusal> {
-        let Some(keys) = keys_of(keys) else {
+        let (Some(keys), Some(kind)) =
+            (keys_of(keys), h::MessageType::from_number(header.message_type))
+        else {
             return Second.write_message(header, chain, payload, keys, output);
         };
-        let Header { message_type, flags, sequence, request, index, count, session, channel } =
+        let Header { message_type: _, flags, sequence, request, index, count, session, channel } =
             *header;
-        let header =
-            h::Header { message_type, flags, sequence, request, index, count, session, channel };
+        let header = h::Header {
+            message_type: kind,
+            flags,
+            sequence,
+            request,
+            index,
+            count,
+            session,
+            channel,
+        };
         h::write(&header, chain, payload, keys, output).map_err(refused)
     }
 
     fn write_presence_request(&mut self, output: &mut [u8]) -> Result<usize, Refusal> {
-        Second.write_presence_request(output)
+        p::PresenceRequest.write(output).map_err(refused)
     }
 
     fn write_connect(
@@ -98,19 +194,23 @@ impl Implementation for Wrapper {
         connect: Connect<'_>,
         output: &mut [u8],
     ) -> Result<usize, Refusal> {
-        Second.write_connect(mode, connect, output)
+        let Some(typed) = typed(mode, connect) else {
+            return Second.write_connect(mode, connect, output);
+        };
+        typed.write(output).map_err(refused)
     }
 
     fn read_connect(&mut self, payload: &[u8]) -> Result<Parts, Refusal> {
-        Second.read_connect(payload)
+        let read = p::Connect::read(payload).map_err(refused)?;
+        Ok(parts_of(read, payload))
     }
 
     fn wanted(&mut self, bytes: &[u8]) -> usize {
-        Second.wanted(bytes)
+        h::wanted(bytes)
     }
 
     fn open(&mut self, fragment_size: u32) -> (Connection, Result<(), Refusal>) {
-        match h::Connection::open(fragment_size.into()) {
+        match h::Connection::open(fragment_size as usize) {
             Ok(opened) => (decode(opened.as_bytes()), Ok(())),
             Err(by) => (Connection::default(), Err(refused(by))),
         }
@@ -125,35 +225,42 @@ impl Implementation for Wrapper {
         report: &mut [u8],
         verdict: u64,
     ) -> (Connection, Answer) {
-        let short = connection.known_length().is_some_and(|length| report.len() < length);
-        let (Some(keys), 0..=1, false) = (keys_of(keys), verdict, short) else {
+        let (Some(typed), 0..=1) = (keys_of(keys), verdict) else {
             return Second.step(connection, message, keys, working, report, verdict);
         };
         let mut hub = h::Connection::from_bytes(encode(&connection));
-        let answer = match hub.step(message, keys, working, report, verdict == 1) {
+        let start = report.as_ptr();
+        let short = connection.known_length().is_some_and(|length| report.len() < length);
+        let stepped = hub.step(message, typed, working, report, verdict == 1);
+        if short {
+            assert_eq!(stepped, Err(h::Refusal::WrongBuffer));
+            assert_eq!(*hub.as_bytes(), encode(&connection), "written beside a wrong buffer");
+            return Second.step(connection, message, keys, working, report, verdict);
+        }
+        let answer = match stepped {
             Err(by) => Answer::Refused(refused(by)),
-            Ok(h::Answer::Reply { connect, status: 0 }) => Answer::Reply(connect),
-            Ok(h::Answer::Again { connect, status: 0 }) => Answer::Again(connect),
-            Ok(h::Answer::Reply { status, .. } | h::Answer::Again { status, .. }) => {
-                panic!("Status {status}")
-            }
+            Ok(h::Answer::Reply(reply)) => Answer::Reply(type_of(reply)),
+            Ok(h::Answer::Again(reply)) => Answer::Again(type_of(reply)),
             Ok(h::Answer::Failure) => Answer::Failure,
             Ok(h::Answer::Taken { heard }) => Answer::Taken(heard as u32),
             Ok(h::Answer::Repeat { heard }) => Answer::Repeat(heard as u32),
-            Ok(h::Answer::Complete { heard, length }) => Answer::Complete(length, heard as u32),
+            Ok(h::Answer::Complete { heard, report }) => {
+                assert_eq!(report.as_ptr(), start, "the report does not begin with its buffer");
+                Answer::Complete(report.len(), heard as u32)
+            }
         };
         (decode(hub.as_bytes()), answer)
     }
 
     fn cut(&mut self, report: &[u8], fragment_size: u32, index: u32) -> Piece {
-        match h::cut(report, fragment_size.into(), index.into()) {
+        match h::cut(report, fragment_size as usize, index as usize) {
             Ok(piece) => (piece.count, place(piece.bytes, report).expect("a part"), Ok(())),
             Err(by) => (0, 0..0, Err(refused(by))),
         }
     }
 
     fn line(&mut self, message: &[u8]) -> Result<String, Refusal> {
-        h::list(message).map_err(refused)
+        h::list(message).map(|line| line.to_string()).map_err(refused)
     }
 
     fn sha256(&mut self, data: &[u8]) -> [u8; 32] {
