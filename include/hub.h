@@ -658,7 +658,8 @@ uint32_t hub_write_done_response(uint64_t mode, uint64_t status, uint8_t *out, s
  * connect   HUB_CONNECT words.
  *
  * Returns   HUB_DONE, HUB_WRONG_BUFFER (connect), then 14 where the payload is none of the six of document 01, plain or sealed.
- * On done   connect holds the words of hub_connect_word. Each part that it names lies in the payload; those that this type has not are 0, 0.
+ * On done   connect holds the words of hub_connect_word. Each part that it names lies in the payload; those that this type has not are 0, 0. (A
+ *           thumbprint that is there and empty has its place after the certificate, and no bytes.)
  * On refusal connect is all zero: every part is empty.
  * Proved    ConnectBack: of a payload that the calls above wrote, the words are what was given, and the bytes at the places. ConnectLies: the parts
  *           lie in the payload, on every payload.
