@@ -6,7 +6,7 @@ use mathlib.Core.Bool.{cond}
 use lib.Dec.{eqb}
 use lib.ListN.{length}
 
--- The number of a call that was lent a buffer of the wrong size, or a word too wide for its field; document 01 does not use it.
+-- The number of a call that was lent a buffer of the wrong size, or given a word too wide for its field; document 01 does not use it.
 abbrev pub wrongBuffer : ℕ
 wrongBuffer = 255
 

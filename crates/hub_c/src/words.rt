@@ -7,7 +7,7 @@ ghost use lib.ListN.{getD, length};
 ghost use lib.Seq.{sets};
 ghost use Rattle.writer.specs.Answers.{wrote};
 
-// The number of a call that was lent a buffer of the wrong size, or a word too wide for its field.
+// The number of a call that was lent a buffer of the wrong size, or given a word too wide for its field.
 pub(crate) const WRONG_BUFFER: u32 = 255;
 
 // The words of a place, of an answer and of a piece.
