@@ -1,10 +1,10 @@
 -- SPDX-License-Identifier: MPL-2.0
 -- The report that a step hands out lies in the report buffer. Where the last missing piece has the last index, 22 has seen to it; else that piece
 -- came before, the report's length was known, and a shorter buffer was a wrong one.
-use Rattle.laws.proofs.Kit.{ℕ, _+_, _-_, _*_, _<_, _≤_, _≡_, refl, sym, _∙_, ap, Bool, true, false, true≢false, not, List, _++_, length, eqb, eqb-true}
-use Rattle.laws.proofs.Kit.{eqb-false, ne-eqb, ltb, ltb-false, le-ltb, not-false, _&&_, _||_, arith}
+use Rattle.laws.proofs.Kit.{ℕ, _+_, _-_, _*_, _<_, _≤_, _≡_, refl, sym, _∙_, Bool, true, false, not, List, _++_, length, eqb, eqb-true}
+use Rattle.laws.proofs.Kit.{eqb-false, ne-eqb, ltb, ltb-false, le-ltb, not-false, _||_, arith}
 use Prim.Native.Nat.{zero-le}
-use Rattle.laws.specs.Rows.{first, testOf}
+use Rattle.laws.specs.Rows.{first}
 use Rattle.laws.proofs.Bools.{or-false, or-none, and-false-right}
 use Rattle.laws.proofs.Cases.{on}
 use Rattle.laws.proofs.Firsts.{first-append, neither, row-false}
@@ -32,7 +32,7 @@ use Rattle.hub.proofs.StepCases.{hear-cases, step-cases}
 use Rattle.state.specs.Layout.{stateSize}
 use Rattle.state.specs.State.{bitAt, connectionAt}
 use Rattle.hub_c.specs.Sizes.{answerSize}
-use Rattle.hub_c.specs.Answered.{uncut, shortReport, wrongStep, WithinReport}
+use Rattle.hub_c.specs.Answered.{shortReport, WithinReport}
 
 -- A fragment size and a number of pieces as a report has them.
 pub cut-right : (t : Bool) (F count : ℕ) → t ≡ badSize F → (t || eqb count 0 || ltb most count) ≡ false → (F ≤ 16384) × (0 < count) × (count ≤ most)
@@ -63,7 +63,8 @@ module _ (F : ℕ) (h : Progress) (p : Piece) (bytes report : List ℕ) (e : joi
       let f = fitting F h p bytes report e .0 in
       let marked = full-has (p .count) (mark (h .heard) (p .index)) d (p .count - 1) (omega (arith, f .under)) in
       let other = ne-eqb (p .count - 1) (p .index) (λ z. eqb-false (p .index + 1) (p .count) l (omega (arith, f .under))) in
-      sym (mark-has (h .heard) (p .index) (p .count - 1) (omega (arith, f .under, f .few)) ∙ rw other (or-none (has (h .heard) (p .count - 1)))) ∙ marked
+      let before = mark-has (h .heard) (p .index) (p .count - 1) (omega (arith, f .under, f .few)) in
+      sym (before ∙ rw other (or-none (has (h .heard) (p .count - 1)))) ∙ marked
 
 module _ (c : Connection) (long : length (c .progress .heard) ≡ most) where
   -- A report whose length is known lies in the buffer.

@@ -44,8 +44,8 @@ abbrev pub wrongStep : (state report answer : List ℕ) → Bool
 wrongStep state report answer =
     (not (eqb (length state) stateSize) || not (eqb (length answer) answerSize)) || shortReport (connectionAt state) (length report)
 
--- The report that a step hands out lies in the report buffer: whatever the connection and the buffers hold, the length in the answer of a step that was
--- lent no wrong buffer is at most the report buffer's. (The word is the report's length at Complete; in every other answer it is 0.)
+-- The report that a step hands out lies in the report buffer: whatever the connection and the buffers hold, the length in the answer of a step
+-- that was lent no wrong buffer is at most the report buffer's. (The word is the report's length at Complete; in every other answer it is 0.)
 abbrev pub WithinReport : Type 0
 WithinReport = (state message keys working report answer : List ℕ) (verdict : ℕ) → wrongStep state report answer ≡ false
     → said (step (connectionAt state) message keys working report verdict .answer) .detail ≤ length report

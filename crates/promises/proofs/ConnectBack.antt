@@ -1,8 +1,9 @@
 -- SPDX-License-Identifier: MPL-2.0
--- A Connect payload taken apart. What was written is what the readers of fields read (`fields-back`), and it is not refused; the places of nonce, X and Y
--- are those from which a Connection Request's format reads them. What is accepted as a payload that has them has 86 bytes.
-use Rattle.laws.proofs.Kit.{ℕ, zero, suc, _+_, _≤_, _<_, _≡_, refl, sym, _∙_, ap, Bool, true, false, true≢false, not, _&&_, and-false, List, [], _∷_, length}
+-- A Connect payload taken apart. What was written is what the readers of fields read (`fields-back`), and it is not refused; the places of nonce,
+-- X and Y are those from which a Connection Request's format reads them. What is accepted as a payload that has them has 86 bytes.
+use Rattle.laws.proofs.Kit.{ℕ, zero, suc, _+_, _≤_, _<_, _≡_, refl, sym, _∙_, ap, Bool, true, false, true≢false, not, _&&_, List, [], _∷_, length}
 use Rattle.laws.proofs.Kit.{getD, List·getD-eq-default, le-of-suc-le-suc, not-suc-le-zero, eqb, eqb-true, leb, ltb, ltb-false, not-false, cond, arith}
+use Rattle.laws.proofs.Kit.{and-false}
 use Prim.Native.Nat.{zero-le}
 use borrow.Author.Tests.{not-true}
 use Rattle.laws.proofs.Bools.{and-true, or-none}

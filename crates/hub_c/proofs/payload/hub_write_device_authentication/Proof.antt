@@ -16,6 +16,7 @@ pub hub-write-device-authentication-spec : {M : Type 1} → statement M
 hub-write-device-authentication-spec =
     tie.close (tie.spec
     _ (λ c. rw (← c .before .wrong-words .ensures, c .if1 .taken) (refl, (refl, refl)))
-    (λ c. let good : tie.Else1 = search in omega (arith, words-right _ _ _ (sym (good .before .wrong-words .ensures) ∙ good .if1 .left))) (λ c. let good : tie.Else1 = search in omega (arith, words-right _ _ _ (sym (good .before .wrong-words .ensures) ∙ good .if1 .left))) _
+    (λ c. let good : tie.Else1 = search in omega (arith, words-right _ _ _ (sym (good .before .wrong-words .ensures) ∙ good .if1 .left)))
+    (λ c. let good : tie.Else1 = search in omega (arith, words-right _ _ _ (sym (good .before .wrong-words .ensures) ∙ good .if1 .left))) _
     (λ c κs. let good : tie.Else1 = search in words-right _ _ _ (sym (good .before .wrong-words .ensures) ∙ good .if1 .left) .0)
     (λ c. search needs) (λ c. search needs) returns-2)
