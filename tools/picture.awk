@@ -177,8 +177,8 @@ END {
     if (all) { list(); exit }
     label = 10
     beside = 38
-    print answers " messages came (./run --all lists them). A cell is a piece of a report, and"
-    print "its number says as which it came. \"again\" is an enrolment step that came again."
+    if (gap) print answers " messages came; ./run --all lists them one by one."
+    print "A cell is a piece, numbered as it came; \"again\" is a repeated enrolment step."
     report = ""
     now = -1
     if (moving) draw()
