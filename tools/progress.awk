@@ -4,12 +4,13 @@
 #     shown    how many lines of the log have been shown
 #     told     how many of the crates that are done have had their line
 #     weight   the seconds, by the plan, of what was done when something was done last
-#     at       when that was
+#     at       how many seconds had gone when that was
 
 BEGIN {
     getline < state
-    shown = $1 + 0; told = $2 + 0; weight = $3 + 0; at = $4 == "" ? began : $4 + 0
+    shown = $1; told = $2; weight = $3; at = $4
     close(state)
+    gone = now - began
 }
 part == "plan" {
     item = $1 " " $2
@@ -72,13 +73,13 @@ function name_of(item) { return substr(item, index(item, " ") + 1) }
 
 # What is left by the plan, as fast as it has gone so far. The plan itself counts for twenty seconds of that, so that the first small crates decide nothing.
 function reckon(    i, item, rest, scale) {
-    if (heavy > weight) { weight = heavy; at = now }
+    if (heavy > weight + 0) { weight = heavy; at = gone }
     for (i = 1; i <= items; i++) {
         item = planned[i]
         if (!(item in done) && (stale || !(item in old))) rest += seconds[item]
     }
-    scale = (at - began + 20) / (weight + 20)
-    left = rest * scale - (now - at)
+    scale = (at + 20) / (weight + 20)
+    left = rest * scale - (gone - at)
     if (left < 0) left = 0
     all_done = dones >= items
 }
@@ -90,7 +91,7 @@ function about() {
     if (left < 90) return ", about a minute left"
     return ", about " int(left / 60 + 0.5) " min left"
 }
-function times() { return clock(now - began) " gone" (items ? about() : "") }
+function times() { return clock(gone) " gone" (items ? about() : "") }
 
 # ---- what is shown
 
@@ -136,7 +137,7 @@ function plain_lines(    i, item) {
 # The line that is drawn anew: a bar, what was done last, and the times. It never reaches the last column, where a terminal would go on to the next line.
 function moving_line(    most, bar, full, i, text, item, room) {
     most = (columns > 20 ? columns : 80) - 1
-    full = now - began + left > 0 ? int(10 * (now - began) / (now - began + left)) : 0
+    full = gone + left > 0 ? int(10 * gone / (gone + left)) : 0
     for (i = 1; i <= 10; i++) bar = bar (i <= full ? "#" : ".")
     if (last == "") text = of["crate"] ? of["crate"] " crates to prove" : "proving"
     else text = kind_of(last) " " number[last] " of " of[kind_of(last)] ", " name_of(last)
@@ -151,7 +152,7 @@ function moving_line(    most, bar, full, i, text, item, room) {
 function summary(    text) {
     text = of["crate"] == 1 ? "1 crate is proved" : of["crate"] " crates are proved"
     if (unchanged) text = text (unchanged == of["crate"] ? ", as before" : ", " unchanged " of them before")
-    print name ": " text "; " clock(now - began)
+    print name ": " text "; " clock(gone)
 }
 
 END {
@@ -164,5 +165,5 @@ END {
     if (!moving) plain_lines()
     else if (!ended) moving_line()
     if (ended && status == 0 && !lines && of["crate"]) summary()
-    print shown, told, weight, at > state
+    print shown + 0, told + 0, weight + 0, at + 0 > state
 }
