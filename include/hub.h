@@ -5,8 +5,8 @@
  * The library enrols gateways and joins their reports, over the Connected Devices Platform protocol (MS-CDP) as docs/01-scope.md, here called
  * document 01, describes it. Every function below is proved to do exactly what its contract in crates/hub_c says, on every input; the
  * sentences of this header are those contracts in words. What "proved" rests on is in docs/TRUST.md. This header itself is not proved: that
- * it fits the library is tested (tests/boundary), over a million steps against an independent second implementation. What stands under docs/ in
- * the project is installed under share/doc/hlidunsk. The library is for x86-64 Linux.
+ * it fits the library is tested (tests/boundary), over a million steps against an independent second implementation. The files that are
+ * named docs/ here are installed under share/doc/hlidunsk. The library is for x86-64 Linux.
  *
  *
  * MESSAGES, PIECES, REPORTS
