@@ -2,8 +2,9 @@
 -- The payload writers in words: when a buffer or a word is wrong, and else what the writer of a format answers and leaves.
 use Prim.Native.Nat.{ℕ}
 use mathlib.Core.List.{List, [], _∷_}
-use mathlib.Core.Bool.{Bool, cond, not, _||_}
+use mathlib.Core.Bool.{Bool, cond, not, _&&_, _||_}
 use lib.Dec.{eqb, ltb}
+use lib.ListN.{length}
 use Rattle.payloads.specs.Format.{Format, Values}
 use Rattle.payloads.specs.declared.reading.Request.{Request}
 use Rattle.writer.specs.Answers.{wrote}
@@ -25,6 +26,15 @@ wrongWords size mode code = not (eqb size 1) || ltb 65535 mode || ltb 255 code
 -- Nonce, X or Y has another size.
 unfoldable pub wrongExchange : (nonce x y : ℕ) → Bool
 wrongExchange nonce x y = not (eqb nonce nonceSize) || not (eqb x coordinateSize) || not (eqb y coordinateSize)
+
+-- A buffer or a word of a Connection Request is wrong.
+abbrev pub wrongRequest : (mode : ℕ) → (nonce x y size : List ℕ) → Bool
+wrongRequest mode nonce x y size = wrongWords (length size) mode 0 || wrongExchange (length nonce) (length x) (length y)
+
+-- A buffer or a word of a Connection Response is wrong. Only one that is Pending looks at nonce, X and Y.
+abbrev pub wrongResponse : (mode result : ℕ) → (nonce x y size : List ℕ) → Bool
+wrongResponse mode result nonce x y size =
+    wrongWords (length size) mode result || (eqb result 1 && wrongExchange (length nonce) (length x) (length y))
 
 -- Nonce, X and Y together.
 abbrev pub exchangeOf : (nonce x y : List ℕ) → Request

@@ -13,13 +13,14 @@ use writer::payload::write_done_request;
 use writer::payload::write_done_response;
 use writer::payload::write_presence_request;
 ghost use mathlib.Core.Path.{_≡_};
-ghost use mathlib.Core.Bool.{true, false, _||_, _&&_};
+ghost use mathlib.Core.Bool.{true, false, _&&_};
 ghost use lib.ListN.{length};
 ghost use lib.Dec.{eqb};
 ghost use Rattle.payloads.specs.Format.{_and_};
 ghost use Rattle.payloads.specs.Shapes.{presenceRequest, connectionRequest, deviceAuthentication, doneRequest, doneResponse};
 ghost use Rattle.writer.specs.Payload.{exchangeValues, responseFormat, responseValues};
-ghost use Rattle.hub_c.specs.Payload.{nonceSize, coordinateSize, wrongWords, wrongExchange, exchangeOf, numberGiven, bytesGiven, lengthGiven};
+ghost use Rattle.hub_c.specs.Payload.{nonceSize, coordinateSize, wrongWords, wrongExchange, wrongRequest, wrongResponse};
+ghost use Rattle.hub_c.specs.Payload.{exchangeOf, numberGiven, bytesGiven, lengthGiven};
 
 // The bytes of a nonce, and of X and of Y.
 const NONCE: usize = 8;
@@ -90,14 +91,11 @@ pub extern "C" fn hub_write_connection_request(
     out: &mut [u8],
     size: &mut [u64],
 ) -> u32
-    ensures { λ r. ⌜ r ≡ numberGiven (wrongWords (length (now (size .entry))) mode 0
-        || wrongExchange (length (now (nonce .entry))) (length (now (x .entry))) (length (now (y .entry))))
+    ensures { λ r. ⌜ r ≡ numberGiven (wrongRequest mode (now (nonce .entry)) (now (x .entry)) (now (y .entry)) (now (size .entry)))
         connectionRequest (exchangeValues mode (exchangeOf (now (nonce .entry)) (now (x .entry)) (now (y .entry)))) (now (out .entry)) ⌝ }
-    ensures { λ _. ⌜ now (out .exit) ≡ bytesGiven (wrongWords (length (now (size .entry))) mode 0
-        || wrongExchange (length (now (nonce .entry))) (length (now (x .entry))) (length (now (y .entry))))
+    ensures { λ _. ⌜ now (out .exit) ≡ bytesGiven (wrongRequest mode (now (nonce .entry)) (now (x .entry)) (now (y .entry)) (now (size .entry)))
         connectionRequest (exchangeValues mode (exchangeOf (now (nonce .entry)) (now (x .entry)) (now (y .entry)))) (now (out .entry)) ⌝ }
-    ensures { λ _. ⌜ now (size .exit) ≡ lengthGiven (wrongWords (length (now (size .entry))) mode 0
-        || wrongExchange (length (now (nonce .entry))) (length (now (x .entry))) (length (now (y .entry))))
+    ensures { λ _. ⌜ now (size .exit) ≡ lengthGiven (wrongRequest mode (now (nonce .entry)) (now (x .entry)) (now (y .entry)) (now (size .entry)))
         connectionRequest (exchangeValues mode (exchangeOf (now (nonce .entry)) (now (x .entry)) (now (y .entry)))) (now (out .entry))
         (now (size .entry)) ⌝ }
 {
@@ -134,17 +132,14 @@ pub extern "C" fn hub_write_connection_response(
     out: &mut [u8],
     size: &mut [u64],
 ) -> u32
-    ensures { λ r. ⌜ r ≡ numberGiven (wrongWords (length (now (size .entry))) mode result
-        || (eqb result 1 && wrongExchange (length (now (nonce .entry))) (length (now (x .entry))) (length (now (y .entry)))))
-        (responseFormat (eqb result 1)) (responseValues (eqb result 1) mode result
+    ensures { λ r. ⌜ r ≡ numberGiven (wrongResponse mode result (now (nonce .entry)) (now (x .entry)) (now (y .entry))
+        (now (size .entry))) (responseFormat (eqb result 1)) (responseValues (eqb result 1) mode result
         (exchangeOf (now (nonce .entry)) (now (x .entry)) (now (y .entry)))) (now (out .entry)) ⌝ }
-    ensures { λ _. ⌜ now (out .exit) ≡ bytesGiven (wrongWords (length (now (size .entry))) mode result
-        || (eqb result 1 && wrongExchange (length (now (nonce .entry))) (length (now (x .entry))) (length (now (y .entry)))))
-        (responseFormat (eqb result 1)) (responseValues (eqb result 1) mode result
+    ensures { λ _. ⌜ now (out .exit) ≡ bytesGiven (wrongResponse mode result (now (nonce .entry)) (now (x .entry)) (now (y .entry))
+        (now (size .entry))) (responseFormat (eqb result 1)) (responseValues (eqb result 1) mode result
         (exchangeOf (now (nonce .entry)) (now (x .entry)) (now (y .entry)))) (now (out .entry)) ⌝ }
-    ensures { λ _. ⌜ now (size .exit) ≡ lengthGiven (wrongWords (length (now (size .entry))) mode result
-        || (eqb result 1 && wrongExchange (length (now (nonce .entry))) (length (now (x .entry))) (length (now (y .entry)))))
-        (responseFormat (eqb result 1)) (responseValues (eqb result 1) mode result
+    ensures { λ _. ⌜ now (size .exit) ≡ lengthGiven (wrongResponse mode result (now (nonce .entry)) (now (x .entry)) (now (y .entry))
+        (now (size .entry))) (responseFormat (eqb result 1)) (responseValues (eqb result 1) mode result
         (exchangeOf (now (nonce .entry)) (now (x .entry)) (now (y .entry)))) (now (out .entry)) (now (size .entry)) ⌝ }
 {
     let pending = result == PENDING_RESULT;
