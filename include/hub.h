@@ -689,9 +689,10 @@ uint32_t hub_open(uint64_t fragment_size, uint8_t *state, size_t state_n);
  * keys      the 64 key bytes of this gateway. Until they are agreed on give none (a null pointer, 0): a plain message does not look at
  *           them, and a sealed one is refused with 10.
  * working   at least as long as the message's sealed part.
- * report    the report buffer of this connection: the same at each step (see Reports above). Once the piece with the last index has come the
- *           report's length is known, and from then on, until it is complete, a shorter buffer is HUB_WRONG_BUFFER, whatever the message. (Of a
- *           connection that is made up this is said where F is 1 to 16,384, the count 1 to 64 and the last index heard.)
+ * report    the report buffer of this connection: the same at each step (see Reports above). Until a report's first piece has come any will do, none
+ *           too (a null pointer, 0). Once the piece with the last index has come the report's length is known, and from then on, until it is
+ *           complete, a shorter buffer is HUB_WRONG_BUFFER, whatever the message. (Of a connection that is made up this is said where F is 1 to
+ *           16,384, the count 1 to 64 and the last index heard.)
  * verdict   1 if the certificate that this message may show is accepted, else 0. Only a Device Authentication Request in state
  *           HUB_WAITING_FOR_AUTHENTICATION looks at it (see Verdicts above). Every other number is refused with 25.
  * answer    HUB_ANSWER words.
@@ -708,7 +709,7 @@ uint32_t hub_open(uint64_t fragment_size, uint8_t *state, size_t state_n);
  * On refusal answer is 0, 0, 0 (HUB_REFUSED); state and report are as they were. So is working for 1 to 13, 24 and 25; for the others its first
  *           bytes hold the opened sealed part of a sealed message.
  * Proved    StepExact, LeavesAlone, WorkingBuffer, ByHostStates, StepsByState, RepeatedStep, RepeatedBytes, OnlyByZero, HeardCount, DemandThree,
- *           WithinReport.
+ *           WithinReport, AnyBufferFirst.
  */
 HUB_ANSWER_MATTERS
 uint32_t hub_step(uint8_t *state, size_t state_n, const uint8_t *message, size_t message_n, const uint8_t *keys, size_t keys_n, uint8_t *working,

@@ -32,7 +32,7 @@ use Rattle.hub.proofs.StepCases.{hear-cases, step-cases}
 use Rattle.state.specs.Layout.{stateSize}
 use Rattle.state.specs.State.{bitAt, connectionAt}
 use Rattle.hub_c.specs.Sizes.{answerSize}
-use Rattle.hub_c.specs.Answered.{shortReport, WithinReport}
+use Rattle.hub_c.specs.Answered.{shortReport, WithinReport, AnyBufferFirst}
 
 -- A fragment size and a number of pieces as a report has them.
 pub cut-right : (t : Bool) (F count : ℕ) → t ≡ badSize F → (t || eqb count 0 || ltb most count) ≡ false → (F ≤ 16384) × (0 < count) × (count ≤ most)
@@ -118,3 +118,8 @@ within-report state message keys working report answer verdict right =
     let c = connectionAt state in
     let short = or-false (not (eqb (length state) stateSize) || not (eqb (length answer) answerSize)) (shortReport c (length report)) right .1 in
     step-within c (heard-length state) message keys working report verdict short
+
+-- No count is remembered.
+pub any-buffer-first : AnyBufferFirst
+unfolding shortReport
+any-buffer-first c number room e = on (badSize (c .size)) (λ z. rw z) (λ z. rw (z, e))

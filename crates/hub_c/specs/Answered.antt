@@ -8,6 +8,7 @@ use lib.Dec.{eqb, ltb}
 use lib.ListN.{length}
 use Rattle.joining.specs.Cut.{badSize}
 use Rattle.joining.specs.Heard.{most, has}
+use Rattle.joining.specs.Join.{expecting}
 use Rattle.hub.specs.declared.Connection.{Connection}
 use Rattle.hub.specs.declared.Stepped.{Stepped}
 use Rattle.hub.specs.Answers.{said}
@@ -49,3 +50,7 @@ wrongStep state report answer =
 abbrev pub WithinReport : Type 0
 WithinReport = (state message keys working report answer : List ℕ) (verdict : ℕ) → wrongStep state report answer ≡ false
     → said (step (connectionAt state) message keys working report verdict .answer) .detail ≤ length report
+
+-- The premise is met by every buffer while nothing is heard of a report: none is too short, not even an empty one.
+abbrev pub AnyBufferFirst : Type 0
+AnyBufferFirst = (c : Connection) (number room : ℕ) → c .progress ≡ expecting number → shortReport c room ≡ false
