@@ -16,15 +16,15 @@ static const struct fields sent = {0, 0, 2, SESSION, 7};
 /* Answers whether the call was refused. */
 static int call(enum operation operation, size_t n)
 {
-    static uint64_t words[HUB_HEADER];
+    static uint64_t words[HUB_HEADER_WORDS];
     struct fields read;
     switch (operation) {
     case ENCRYPT: ours.peer->cbc_encrypt(keys, keys + 16, source, n, target); break;
     case DECRYPT: ours.peer->cbc_decrypt(keys, keys + 16, source, n, target); break;
     case DIGEST: ours.peer->sha256(source, n, target); break;
     case MAC: ours.peer->hmac(keys + 32, source, 0, source, n, target); break;
-    case READ_HEADER: return hub_read_header(message, sealed_size(n), words, HUB_HEADER) != 0;
-    case LIST: return hub_list(message, sealed_size(n), target, HUB_LINE, words, 1) != 0;
+    case READ_HEADER: return hub_read_header(message, sealed_size(n), words, HUB_HEADER_WORDS) != 0;
+    case LIST: return hub_list(message, sealed_size(n), target, HUB_LINE_BYTES, words, 1) != 0;
     case SEAL: return ours.seal(ours.peer, &sent, source, n, keys, target) == 0;
     case OPEN: return ours.open(ours.peer, message, sealed_size(n), keys, working, MESSAGE, &read) < 0;
     case STEP: return ours.step(ours.peer, n, message, sealed_size(n), keys, working, MESSAGE, report, 2 * n) < 0;

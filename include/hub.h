@@ -57,8 +57,8 @@
  * Fragment size. F, the bytes of a piece, is agreed on outside the protocol, and both sides use the same. It is not the fragment size of a
  * Connection Request, which document 01 fixes at 16,384 and which nothing here looks at.
  *
- * Replies. On HUB_REPLY the caller writes the reply, sends it, and keeps its bytes. A gateway that hears none in its time sends its request again,
- * the same bytes; then the hub's answer is HUB_AGAIN: send the same bytes again too. Writing them anew is as good if every field, the payload and
+ * Replies. On HUB_KIND_REPLY the caller writes the reply, sends it, and keeps its bytes. A gateway that hears none in its time sends its request again,
+ * the same bytes; then the hub's answer is HUB_KIND_AGAIN: send the same bytes again too. Writing them anew is as good if every field, the payload and
  * the keys are the same, for then the bytes are too; a Connection Response with another nonce, or another payload under numbers that were used, is
  * not. The replies of one connection are three messages of at most HUB_MOST_REPLY bytes each.
  *
@@ -67,8 +67,8 @@
  * step without keys, and put that in the place of the first (open_anew in host/c/hub.c). A gateway whose sealed requests get no reply starts over
  * with its Connection Request.
  *
- * Failure. On HUB_FAILURE the verdict was 0. MS-CDP (2.2.2.3.10) says: "If the authentication process itself fails to complete, an empty payload is
- * returned", and gives this message the type number 8, HUB_CONNECT_FAILURE. How it is sent is the caller's: hub_write refuses it with 14, since
+ * Failure. On HUB_KIND_FAILURE the verdict was 0. MS-CDP (2.2.2.3.10) says: "If the authentication process itself fails to complete, an empty payload is
+ * returned", and gives this message the type number 8, HUB_AUTHENTICATION_FAILURE. How it is sent is the caller's: hub_write refuses it with 14, since
  * document 01 has no such payload. The connection is in state HUB_FAILED from then on, where every message is refused: only hub_open helps.
  *
  * Verdicts. The verdict matters for one message alone, a Device Authentication Request, which is sealed, in state HUB_WAITING_FOR_AUTHENTICATION.
@@ -78,7 +78,7 @@
  *
  * Reports. Lend a connection the same report buffer at each step, and leave it alone, until the report is complete; then take the report before the
  * next step. A connection comes from hub_open and goes through hub_step alone. Then the first answer[HUB_ANSWER_LENGTH] bytes of report are, at
- * HUB_COMPLETE, the report as it was sent (DemandThree). Whatever is lent, that number is never more than report_n (WithinReport). Document 01 has
+ * HUB_KIND_COMPLETE, the report as it was sent (DemandThree). Whatever is lent, that number is never more than report_n (WithinReport). Document 01 has
  * no message by which a hub says that a report came: the gateway sends each piece as often as its link needs, and one report after the other.
  *
  * Refusals. Most are harmless, and a hub drops the message and goes on: connection and report buffer are as they were. 17 is what late copies of a
@@ -115,13 +115,13 @@
  *               complete: what is in it is compared with pieces that come twice.
  *     chain     additional headers with their end: HUB_NO_ENTRIES where there are none. Bytes after the end are refused with 8.
  *     payload   what a message carries. HUB_MOST_PAYLOAD bytes are enough for every payload of Discovery and Connect.
- *     out       where a message or a payload is written: HUB_MOST_MESSAGE bytes are enough for every message that hub_write makes.
+ *     out       where a message or a payload is written: HUB_MOST_WRITTEN bytes are enough for every message that hub_write makes.
  *
  *
  * WHAT A CALL ANSWERS
  *
  * Each call returns a number of 32 bits: HUB_DONE (0); or the number of a refusal in document 01 (1 to 25), which is the first row of document 01's
- * table that applies, in the order given with the call; or HUB_WRONG_BUFFER (255). (hub_same_tag, hub_wanted and hub_version return what is said
+ * table that applies, in the order given with the call; or HUB_WRONG_BUFFER (255). (hub_tags_differ, hub_wanted and hub_version return what is said
  * there.) All 32 bits are defined. A later version may return further numbers: treat one that you do not know as a refusal.
  *
  * On a refusal, 1 to 25, every byte of every buffer is exactly as it was before, and every word that the call hands out (header, length, answer,
@@ -138,7 +138,7 @@
  *
  * SECRETS, TIME, STACK
  *
- * hub_hmac and hub_same_tag make no branch and no memory access that depends on the bytes they are given; this is tested with valgrind
+ * hub_hmac and hub_tags_differ make no branch and no memory access that depends on the bytes they are given; this is tested with valgrind
  * (tests/memory) and not proved. AES reads tables at places that depend on keys and data, so hub_read, hub_write and hub_step are NOT
  * constant-time: see docs/SECURITY.md. Copies on the stack are not erased.
  *
@@ -157,7 +157,7 @@
  *     hub_write_connection_request      320
  *     hub_read_connect                  192
  *     hub_version                        64
- *     hub_same_tag                       64
+ *     hub_tags_differ                       64
  *     hub_wanted                         64
  *     hub_payload                        64
  *     hub_write_presence_request         64
@@ -194,23 +194,23 @@ extern "C" {
 #define HUB_VERSION 0x00010000u
 
 /* Sizes of the buffers of fixed size; bytes, or words of 64 bits where so said. */
-#define HUB_STATE 151     /* a connection */
-#define HUB_HEADER 11     /* words: a header that was read, and the place of its payload */
-#define HUB_FIELDS 8      /* words: the fields of a header to be written */
-#define HUB_PLACE 3       /* words: where a payload lies */
-#define HUB_CONNECT 13    /* words: what a Connect payload says */
-#define HUB_ANSWER 3      /* words: what a step answers */
-#define HUB_PIECE 3       /* words: a piece of a report */
-#define HUB_LENGTH 1      /* words: how many bytes were written */
-#define HUB_DIGEST 32     /* a SHA-256 digest, and a tag */
-#define HUB_KEYS 64       /* keys */
-#define HUB_NONCE 8       /* a nonce */
-#define HUB_COORDINATE 32 /* X, and Y, of a public key */
-#define HUB_LINE 64       /* a line of the listing */
+#define HUB_STATE_BYTES 151     /* a connection */
+#define HUB_HEADER_WORDS 11     /* words: a header that was read, and the place of its payload */
+#define HUB_FIELDS_WORDS 8      /* words: the fields of a header to be written */
+#define HUB_PLACE_WORDS 3       /* words: where a payload lies */
+#define HUB_CONNECT_WORDS 13    /* words: what a Connect payload says */
+#define HUB_ANSWER_WORDS 3      /* words: what a step answers */
+#define HUB_PIECE_WORDS 3       /* words: a piece of a report */
+#define HUB_LENGTH_WORDS 1      /* words: how many bytes were written */
+#define HUB_DIGEST_BYTES 32     /* a SHA-256 digest, and a tag */
+#define HUB_KEYS_BYTES 64       /* keys */
+#define HUB_NONCE_BYTES 8       /* a nonce */
+#define HUB_COORDINATE_BYTES 32 /* X, and Y, of a public key */
+#define HUB_LINE_BYTES 64       /* a line of the listing */
 
 /* Bounds of document 01. */
 #define HUB_LEAST_MESSAGE 42         /* the shortest message */
-#define HUB_MOST_MESSAGE 18530       /* the longest message that hub_write makes */
+#define HUB_MOST_WRITTEN 18530       /* the longest message that hub_write makes */
 #define HUB_MOST_READ 65535          /* the longest message that is read */
 #define HUB_MOST_SEALED 65456        /* the longest sealed part of a message that is read */
 #define HUB_MOST_PIECES 64           /* the most pieces of a report */
@@ -325,22 +325,22 @@ static inline const char *hub_text(uint32_t number)
     }
 }
 
-/* Places of the words of a header: HUB_FIELDS of them are given to hub_write, HUB_HEADER come from hub_read_header and hub_read. */
+/* Places of the words of a header: HUB_FIELDS_WORDS of them are given to hub_write, HUB_HEADER_WORDS come from hub_read_header and hub_read. */
 enum hub_header_word {
-    HUB_TYPE = 0,     /* MessageType, a hub_type */
-    HUB_FLAGS = 1,    /* MessageFlags */
-    HUB_SEQUENCE = 2, /* SequenceNumber */
-    HUB_REQUEST = 3,  /* RequestID */
-    HUB_INDEX = 4,    /* FragmentIndex */
-    HUB_COUNT = 5,    /* FragmentCount */
-    HUB_SESSION = 6,  /* SessionID */
-    HUB_CHANNEL = 7,  /* ChannelID */
-    HUB_SEALED = 8,   /* what HUB_FROM and HUB_SIZE name, a hub_sealed */
-    HUB_FROM = 9,     /* where the payload, or the sealed part, starts */
-    HUB_SIZE = 10     /* how many bytes it has */
+    HUB_HEADER_TYPE = 0,     /* MessageType, a hub_type */
+    HUB_HEADER_FLAGS = 1,    /* MessageFlags */
+    HUB_HEADER_SEQUENCE = 2, /* SequenceNumber */
+    HUB_HEADER_REQUEST = 3,  /* RequestID */
+    HUB_HEADER_INDEX = 4,    /* FragmentIndex */
+    HUB_HEADER_COUNT = 5,    /* FragmentCount */
+    HUB_HEADER_SESSION = 6,  /* SessionID */
+    HUB_HEADER_CHANNEL = 7,  /* ChannelID */
+    HUB_HEADER_SEALED = 8,   /* what HUB_HEADER_FROM and HUB_HEADER_SIZE name, a hub_sealed */
+    HUB_HEADER_FROM = 9,     /* where the payload, or the sealed part, starts */
+    HUB_HEADER_SIZE = 10     /* how many bytes it has */
 };
 
-/* The values of HUB_SEALED. hub_read_header gives the first and the last, hub_read the first two. */
+/* The values of HUB_HEADER_SEALED. hub_read_header gives the first and the last, hub_read the first two. */
 enum hub_sealed {
     HUB_PLAIN = 0,       /* the payload, in the message: it is plain */
     HUB_OPENED = 1,      /* the payload, in the working buffer: it was sealed */
@@ -350,8 +350,8 @@ enum hub_sealed {
 /* MessageType. */
 enum hub_type { HUB_TYPE_DISCOVERY = 1, HUB_TYPE_CONNECT = 2, HUB_TYPE_SESSION = 4 };
 
-/* MessageFlags. A message is sealed where both bits of HUB_SEAL are set. */
-enum hub_flag { HUB_FLAG_ACKNOWLEDGE = 1, HUB_FLAG_HMAC = 2, HUB_FLAG_ENCRYPTED = 4, HUB_SEAL = 6, HUB_FLAG_WAKE = 8 };
+/* MessageFlags. A message is sealed where both bits of HUB_FLAGS_SEALED are set. */
+enum hub_flag { HUB_FLAG_ACKNOWLEDGE = 1, HUB_FLAG_HMAC = 2, HUB_FLAG_ENCRYPTED = 4, HUB_FLAGS_SEALED = 6, HUB_FLAG_WAKE = 8 };
 
 /* The types of Connect payloads: the byte after ConnectionMode. Types 0 and 1 are plain, the others sealed; the other way is 14. */
 enum hub_connect {
@@ -361,7 +361,7 @@ enum hub_connect {
     HUB_AUTHENTICATION_RESPONSE = 3, /* Device Authentication Response */
     HUB_DONE_REQUEST = 6,            /* Authentication Done Request */
     HUB_DONE_RESPONSE = 7,           /* Authentication Done Response */
-    HUB_CONNECT_FAILURE = 8          /* Authentication Failure: see Failure above; no call here reads or writes it */
+    HUB_AUTHENTICATION_FAILURE = 8          /* Authentication Failure: see Failure above; no call here reads or writes it */
 };
 
 /* ConnectionMode of a Connect payload, by MS-CDP's names. Document 01 takes 0 to 2 and makes nothing of it. */
@@ -381,16 +381,16 @@ enum hub_connect_word {
     HUB_CONNECT_TYPE = 0, /* a hub_connect */
     HUB_CONNECT_MODE = 1, /* ConnectionMode, a hub_mode */
     HUB_CONNECT_CODE = 2, /* a hub_code: type 1, the Result; type 7, the Status; else 0 */
-    HUB_NONCE_FROM = 3,   /* types 0, and 1 where it is Pending: nonce, X and Y; else 0 */
-    HUB_NONCE_SIZE = 4,
-    HUB_X_FROM = 5,
-    HUB_X_SIZE = 6,
-    HUB_Y_FROM = 7,
-    HUB_Y_SIZE = 8,
-    HUB_CERTIFICATE_FROM = 9, /* types 2 and 3: certificate and thumbprint; else 0 */
-    HUB_CERTIFICATE_SIZE = 10,
-    HUB_THUMBPRINT_FROM = 11,
-    HUB_THUMBPRINT_SIZE = 12
+    HUB_CONNECT_NONCE_FROM = 3,   /* types 0, and 1 where it is Pending: nonce, X and Y; else 0 */
+    HUB_CONNECT_NONCE_SIZE = 4,
+    HUB_CONNECT_X_FROM = 5,
+    HUB_CONNECT_X_SIZE = 6,
+    HUB_CONNECT_Y_FROM = 7,
+    HUB_CONNECT_Y_SIZE = 8,
+    HUB_CONNECT_CERTIFICATE_FROM = 9, /* types 2 and 3: certificate and thumbprint; else 0 */
+    HUB_CONNECT_CERTIFICATE_SIZE = 10,
+    HUB_CONNECT_THUMBPRINT_FROM = 11,
+    HUB_CONNECT_THUMBPRINT_SIZE = 12
 };
 
 /* Places of the words that hub_payload writes. */
@@ -410,15 +410,15 @@ enum hub_answer_word {
 
 /* The kinds of a step's answers. */
 enum hub_kind {
-    HUB_REFUSED = 0, /* the step was refused, by the number that it returned */
-    HUB_REPLY = 1,   /* send the Connect payload of this type: 1 (Connection Response; Result, nonce and key in it are the caller's),
+    HUB_KIND_REFUSED = 0, /* the step was refused, by the number that it returned */
+    HUB_KIND_REPLY = 1,   /* send the Connect payload of this type: 1 (Connection Response; Result, nonce and key in it are the caller's),
                         3 (Device Authentication Response, with the hub's own certificate), 7 (Authentication Done Response, with
                         the Status of HUB_ANSWER_STATUS) */
-    HUB_AGAIN = 2,   /* the message came before and nothing has changed; send the same reply again (see Replies above) */
-    HUB_FAILURE = 3, /* the verdict was 0: send Authentication Failure, which the caller makes without hub_write (see Failure above) */
-    HUB_TAKEN = 4,   /* a new piece is in the report buffer; others are missing */
-    HUB_REPEAT = 5,  /* a piece that had come, with the same bytes; nothing has changed */
-    HUB_COMPLETE = 6 /* the last missing piece: the report is the report buffer's first bytes */
+    HUB_KIND_AGAIN = 2,   /* the message came before and nothing has changed; send the same reply again (see Replies above) */
+    HUB_KIND_FAILURE = 3, /* the verdict was 0: send Authentication Failure, which the caller makes without hub_write (see Failure above) */
+    HUB_KIND_TAKEN = 4,   /* a new piece is in the report buffer; others are missing */
+    HUB_KIND_REPEAT = 5,  /* a piece that had come, with the same bytes; nothing has changed */
+    HUB_KIND_COMPLETE = 6 /* the last missing piece: the report is the report buffer's first bytes */
 };
 
 /* Places of the words that hub_cut writes. */
@@ -469,7 +469,7 @@ uint32_t hub_version(void);
  * SHA-256 (FIPS 180-4).
  *
  * bytes     what is hashed; any size. FIPS 180-4 ends below 2^61 bytes, which is more than a machine has: from there on out is all zero.
- * out       HUB_DIGEST bytes.
+ * out       HUB_DIGEST_BYTES.
  *
  * Returns   HUB_DONE, HUB_WRONG_BUFFER (out).
  * On done   out holds the digest.
@@ -483,7 +483,7 @@ uint32_t hub_digest(const uint8_t *bytes, size_t bytes_n, uint8_t *out, size_t o
  *
  * key       the key; any size. (A key over 64 bytes is hashed first, as RFC 2104 says.)
  * message   what is tagged; any bytes and any size: it need not be a message of document 01. (2^61 bytes: see hub_digest.)
- * out       HUB_DIGEST bytes.
+ * out       HUB_DIGEST_BYTES.
  *
  * Returns   HUB_DONE, HUB_WRONG_BUFFER (out).
  * On done   out holds the tag.
@@ -495,13 +495,13 @@ uint32_t hub_hmac(const uint8_t *key, size_t key_n, const uint8_t *message, size
 /*
  * Compares two tags. All bytes of both are read, wherever they differ.
  *
- * a, b      HUB_DIGEST bytes each.
+ * a, b      HUB_DIGEST_BYTES each.
  *
  * Returns   0 if they are alike, 1 if not, HUB_WRONG_BUFFER (a or b).
  * Proved    the contract: 0 exactly where the bytes are the same.
  */
 HUB_ANSWER_MATTERS
-uint32_t hub_same_tag(const uint8_t *a, size_t a_n, const uint8_t *b, size_t b_n);
+uint32_t hub_tags_differ(const uint8_t *a, size_t a_n, const uint8_t *b, size_t b_n);
 
 /*
  * Says where a stream of messages that come back to back has its next message: how many bytes it has, by its first bytes.
@@ -522,10 +522,10 @@ uint32_t hub_wanted(const uint8_t *bytes, size_t bytes_n);
  * Reads the header of a message and its chain. It needs no keys.
  *
  * message   one whole message.
- * header    HUB_HEADER words.
+ * header    HUB_HEADER_WORDS.
  *
  * Returns   HUB_DONE, HUB_WRONG_BUFFER (header), then 1 to 9 in this order.
- * On done   header holds the fields, and by HUB_FROM and HUB_SIZE where in the message the payload lies (HUB_SEALED is HUB_PLAIN) or, for a sealed
+ * On done   header holds the fields, and by HUB_HEADER_FROM and HUB_HEADER_SIZE where in the message the payload lies (HUB_HEADER_SEALED is HUB_PLAIN) or, for a sealed
  *           message, its sealed part (HUB_STILL_SEALED). Given to hub_payload, the words of a sealed message answer 0, 0, 0: they name no payload.
  * On refusal header is all zero: an empty header, and the empty part at the message's start.
  * Proved    HeaderExact; the contract (`readHeader` in crates/wire/specs/Reader.antt; `foundHeader` in
@@ -540,10 +540,10 @@ uint32_t hub_read_header(const uint8_t *message, size_t message_n, uint64_t *hea
  * message   one whole message.
  * keys      the 64 key bytes.
  * working   at least as long as the message's sealed part.
- * header    HUB_HEADER words.
+ * header    HUB_HEADER_WORDS.
  *
  * Returns   HUB_DONE, HUB_WRONG_BUFFER (header), then 1 to 14 in this order; 10 to 13 for sealed messages only.
- * On done   header holds the fields, and by HUB_FROM and HUB_SIZE where the payload lies: in the message (HUB_SEALED is HUB_PLAIN) or in the working
+ * On done   header holds the fields, and by HUB_HEADER_FROM and HUB_HEADER_SIZE where the payload lies: in the message (HUB_HEADER_SEALED is HUB_PLAIN) or in the working
  *           buffer (HUB_OPENED). Of a sealed message the first bytes of working hold the opened sealed part: payload size (4 bytes), payload,
  *           padding; the rest is unchanged. A plain message leaves all of it unchanged.
  * On refusal header is all zero: an empty header, and the empty part at the message's start, which is what hub_payload then answers. On 14 of a
@@ -559,12 +559,12 @@ uint32_t hub_read(const uint8_t *message, size_t message_n, const uint8_t *keys,
  *
  * message   the message.
  * working   the working buffer.
- * header    HUB_HEADER words, as hub_read wrote them, on a refusal too; only HUB_SEALED, HUB_FROM and HUB_SIZE are looked at.
- * place     HUB_PLACE words.
+ * header    HUB_HEADER_WORDS, as hub_read wrote them, on a refusal too; only HUB_HEADER_SEALED, HUB_HEADER_FROM and HUB_HEADER_SIZE are looked at.
+ * place     HUB_PLACE_WORDS.
  *
  * Returns   HUB_DONE, HUB_WRONG_BUFFER (header or place).
  * On done   place holds the buffer (0 message, 1 working), the payload's start in it and its length; or 0, 0, 0, the empty part at the message's
- *           start, where header names a part that the buffer does not have, or HUB_SEALED is neither HUB_PLAIN nor HUB_OPENED. So after a
+ *           start, where header names a part that the buffer does not have, or HUB_HEADER_SEALED is neither HUB_PLAIN nor HUB_OPENED. So after a
  *           refused hub_read, and for the words that hub_read_header wrote of a sealed message, it is 0, 0, 0. A part of working is the payload
  *           until the next call that is lent working to write.
  * Proved    PlaceHanded: by the words of hub_read it is the part that document 01's choosing function hands out, on a refusal too (`payload` in
@@ -575,9 +575,9 @@ uint32_t hub_payload(const uint8_t *message, size_t message_n, const uint8_t *wo
                      uint64_t *place, size_t place_n);
 
 /*
- * Writes a message; sealed where both bits of HUB_SEAL are set in its flags.
+ * Writes a message; sealed where both bits of HUB_FLAGS_SEALED are set in its flags.
  *
- * fields    HUB_FIELDS words, see hub_header_word. A word too wide for its field is HUB_WRONG_BUFFER, for every field alike: a type over 255;
+ * fields    HUB_FIELDS_WORDS, see hub_header_word. A word too wide for its field is HUB_WRONG_BUFFER, for every field alike: a type over 255;
  *           flags, an index or a count over 65,535; a SequenceNumber over 2^32 - 1. The vector is made of SessionID, SequenceNumber, index and
  *           count: never write two sealed messages with the same four under the same keys (see Vectors above).
  * chain     the additional headers with their end: HUB_NO_ENTRIES, HUB_NO_ENTRIES_N where there are none. Bytes after the end are 8.
@@ -585,7 +585,7 @@ uint32_t hub_payload(const uint8_t *message, size_t message_n, const uint8_t *wo
  * keys      the 64 key bytes; a plain message does not look at them.
  * out       at least as long as the message: 42 + entries of the chain + payload where it is plain, else 74 + entries +
  *           (payload + 4 rounded up to a multiple of 16). It may overlap no other buffer.
- * length    HUB_LENGTH words.
+ * length    HUB_LENGTH_WORDS.
  *
  * Returns   HUB_DONE, HUB_WRONG_BUFFER (fields or length; a word of fields too wide), then 5, 6, 7, 8, 10 (sealed messages), 14, 20, 22 in this
  *           order.
@@ -601,10 +601,10 @@ uint32_t hub_write(const uint64_t *fields, size_t fields_n, const uint8_t *chain
  * The payloads of Discovery and Connect: six writers, and a reader of Connect payloads. A writer puts its payload at the start of out, for hub_write.
  *
  * mode      ConnectionMode, 0 to 2: see hub_mode.
- * nonce     HUB_NONCE bytes, random and new for each request, and for each response that is not sent again.
- * x, y      HUB_COORDINATE bytes each: the public key of the sender's half of the key agreement.
+ * nonce     HUB_NONCE_BYTES, random and new for each request, and for each response that is not sent again.
+ * x, y      HUB_COORDINATE_BYTES each: the public key of the sender's half of the key agreement.
  * out       at least as long as the payload: HUB_MOST_PAYLOAD bytes are enough for all. It may overlap no other buffer.
- * length    HUB_LENGTH words.
+ * length    HUB_LENGTH_WORDS.
  *
  * Returns   HUB_DONE, HUB_WRONG_BUFFER (length; nonce, x or y; a word too wide for its field: a mode over 65,535, another over 255), then 14 where
  *           a value is not as document 01 says, then 22 where out is too short.
@@ -654,8 +654,8 @@ uint32_t hub_write_done_response(uint64_t mode, uint64_t status, uint8_t *out, s
  * Reads a Connect payload: its type, and what stands in it.
  *
  * payload   the payload, as hub_payload says where it lies; any bytes. The payload alone does not tell a Connect message from a Session message: ask
- *           header[HUB_TYPE] first.
- * connect   HUB_CONNECT words.
+ *           header[HUB_HEADER_TYPE] first.
+ * connect   HUB_CONNECT_WORDS.
  *
  * Returns   HUB_DONE, HUB_WRONG_BUFFER (connect), then 14 where the payload is none of the six of document 01, plain or sealed.
  * On done   connect holds the words of hub_connect_word. Each part that it names lies in the payload; those that this type has not are 0, 0. (A
@@ -671,7 +671,7 @@ uint32_t hub_read_connect(const uint8_t *payload, size_t payload_n, uint64_t *co
  * Opens a connection: state 0, expecting the report of SequenceNumber 0.
  *
  * fragment_size   F, 1 to 16,384: the bytes of each piece but the last.
- * state           HUB_STATE bytes.
+ * state           HUB_STATE_BYTES.
  *
  * Returns   HUB_DONE, HUB_WRONG_BUFFER (state), 24.
  * On done   state holds the connection.
@@ -684,7 +684,7 @@ uint32_t hub_open(uint64_t fragment_size, uint8_t *state, size_t state_n);
 /*
  * Takes one message that has come in.
  *
- * state     HUB_STATE bytes: the connection.
+ * state     HUB_STATE_BYTES: the connection.
  * message   the message, as it came.
  * keys      the 64 key bytes of this gateway. Until they are agreed on give none (a null pointer, 0): a plain message does not look at
  *           them, and a sealed one is refused with 10.
@@ -695,18 +695,18 @@ uint32_t hub_open(uint64_t fragment_size, uint8_t *state, size_t state_n);
  *           16,384, the count 1 to 64 and the last index heard.)
  * verdict   1 if the certificate that this message may show is accepted, else 0. Only a Device Authentication Request in state
  *           HUB_WAITING_FOR_AUTHENTICATION looks at it (see Verdicts above). Every other number is refused with 25.
- * answer    HUB_ANSWER words.
+ * answer    HUB_ANSWER_WORDS.
  *
  * Returns   HUB_DONE, HUB_WRONG_BUFFER (state, answer, or a report that is too short), then the first that applies of 25; 24; 1 to 9; 10 to 13
  *           (sealed messages); 14; 16; 15; 19, 17, 18, 21, 20, 22, 23.
- * On done   answer holds what to do (see hub_kind; words that a kind does not use are 0), state the next connection. HUB_TAKEN, HUB_REPEAT and
- *           HUB_COMPLETE tell how many of the indexes below the message's FragmentCount are heard, its own with them. HUB_TAKEN and HUB_COMPLETE:
- *           the piece is in report from F times its index on, no other byte of it changed. HUB_COMPLETE: the report has
+ * On done   answer holds what to do (see hub_kind; words that a kind does not use are 0), state the next connection. HUB_KIND_TAKEN, HUB_KIND_REPEAT and
+ *           HUB_KIND_COMPLETE tell how many of the indexes below the message's FragmentCount are heard, its own with them. HUB_KIND_TAKEN and HUB_KIND_COMPLETE:
+ *           the piece is in report from F times its index on, no other byte of it changed. HUB_KIND_COMPLETE: the report has
  *           answer[HUB_ANSWER_LENGTH] bytes, never more than report_n; its SequenceNumber was the expected one before this step; and where the
  *           connection came from hub_open and hub_step alone, and the report buffer was the same and left alone since the report's first piece, it is
- *           the first bytes of report. The other kinds leave report unchanged; HUB_AGAIN and HUB_REPEAT state too. The first bytes of working hold
+ *           the first bytes of report. The other kinds leave report unchanged; HUB_KIND_AGAIN and HUB_KIND_REPEAT state too. The first bytes of working hold
  *           the opened sealed part of a sealed message.
- * On refusal answer is 0, 0, 0 (HUB_REFUSED); state and report are as they were. So is working for 1 to 13, 24 and 25; for the others its first
+ * On refusal answer is 0, 0, 0 (HUB_KIND_REFUSED); state and report are as they were. So is working for 1 to 13, 24 and 25; for the others its first
  *           bytes hold the opened sealed part of a sealed message.
  * Proved    StepExact, LeavesAlone, WorkingBuffer, ByHostStates, StepsByState, RepeatedStep, RepeatedBytes, OnlyByZero, HeardCount, DemandThree,
  *           WithinReport, AnyBufferFirst.
@@ -721,7 +721,7 @@ uint32_t hub_step(uint8_t *state, size_t state_n, const uint8_t *message, size_t
  * report          the report, 0 to 64 times F bytes.
  * fragment_size   F, 1 to 16,384.
  * index           which piece, from 0 on.
- * piece           HUB_PIECE words.
+ * piece           HUB_PIECE_WORDS.
  *
  * Returns   HUB_DONE, HUB_WRONG_BUFFER (piece), 24, then 7 where the report is longer than 64 times F or has no such piece.
  * On done   piece holds the number of pieces, the piece's start in the report and its length.
@@ -736,8 +736,8 @@ uint32_t hub_cut(const uint8_t *report, size_t report_n, uint64_t fragment_size,
  * `refused N`; then a newline. No zero byte is added.
  *
  * message   one whole message.
- * line      HUB_LINE bytes.
- * length    HUB_LENGTH words.
+ * line      HUB_LINE_BYTES.
+ * length    HUB_LENGTH_WORDS.
  *
  * Returns   HUB_DONE, HUB_WRONG_BUFFER (line or length), then 1 to 9 in this order.
  * On done   the first length[0] bytes of line are the line; the rest is unchanged.

@@ -29,7 +29,7 @@ static int is_reply(size_t n, uint64_t type)
     struct connect reply;
     struct half theirs;
 
-    if (!read_connect(&hub, n, &keys, &reply) || reply.header[HUB_SESSION] != SESSION || reply.words[HUB_CONNECT_TYPE] != type)
+    if (!read_connect(&hub, n, &keys, &reply) || reply.header[HUB_HEADER_SESSION] != SESSION || reply.words[HUB_CONNECT_TYPE] != type)
         return 0;
     switch (type) {
     case HUB_CONNECTION_RESPONSE:
@@ -50,8 +50,8 @@ static int ask(uint64_t flags, const uint8_t *payload, uint64_t payload_n, uint6
 {
     static uint64_t next_number = NUMBERS_OF_GATEWAY;
     static struct message request;
-    const uint64_t fields[HUB_FIELDS] = {
-        [HUB_TYPE] = HUB_TYPE_CONNECT, [HUB_FLAGS] = flags, [HUB_SEQUENCE] = next_number++, [HUB_COUNT] = 1, [HUB_SESSION] = SESSION};
+    const uint64_t fields[HUB_FIELDS_WORDS] = {
+        [HUB_HEADER_TYPE] = HUB_TYPE_CONNECT, [HUB_HEADER_FLAGS] = flags, [HUB_HEADER_SEQUENCE] = next_number++, [HUB_HEADER_COUNT] = 1, [HUB_HEADER_SESSION] = SESSION};
     int64_t deadline;
     size_t n;
     int i;
@@ -73,30 +73,30 @@ static int enrol(const char *certificate)
     uint64_t length;
 
     must(hub_write_connection_request(HUB_MODE_PROXIMAL, ours.nonce, sizeof ours.nonce, ours.x, sizeof ours.x, ours.y, sizeof ours.y, payload,
-                                      sizeof payload, &length, HUB_LENGTH),
+                                      sizeof payload, &length, HUB_LENGTH_WORDS),
          "hub_write_connection_request");
     if (!ask(0, payload, length, HUB_CONNECTION_RESPONSE))
         return 0;
     must(hub_write_device_authentication(HUB_AUTHENTICATION_REQUEST, HUB_MODE_PROXIMAL, (const uint8_t *)certificate, strlen(certificate), NULL, 0,
-                                         payload, sizeof payload, &length, HUB_LENGTH),
+                                         payload, sizeof payload, &length, HUB_LENGTH_WORDS),
          "hub_write_device_authentication");
-    if (!ask(HUB_SEAL, payload, length, HUB_AUTHENTICATION_RESPONSE))
+    if (!ask(HUB_FLAGS_SEALED, payload, length, HUB_AUTHENTICATION_RESPONSE))
         return 0;
-    must(hub_write_done_request(HUB_MODE_PROXIMAL, payload, sizeof payload, &length, HUB_LENGTH), "hub_write_done_request");
-    return ask(HUB_SEAL, payload, length, HUB_DONE_RESPONSE);
+    must(hub_write_done_request(HUB_MODE_PROXIMAL, payload, sizeof payload, &length, HUB_LENGTH_WORDS), "hub_write_done_request");
+    return ask(HUB_FLAGS_SEALED, payload, length, HUB_DONE_RESPONSE);
 }
 
 /* Sends every piece of a report; answers whether they have gone. */
 static int send_report(uint64_t number, const uint8_t *report, size_t n)
 {
     static struct message message;
-    uint64_t piece[HUB_PIECE], index = 0;
-    uint64_t fields[HUB_FIELDS] = {[HUB_TYPE] = HUB_TYPE_SESSION, [HUB_FLAGS] = HUB_SEAL, [HUB_SEQUENCE] = number, [HUB_SESSION] = SESSION};
+    uint64_t piece[HUB_PIECE_WORDS], index = 0;
+    uint64_t fields[HUB_FIELDS_WORDS] = {[HUB_HEADER_TYPE] = HUB_TYPE_SESSION, [HUB_HEADER_FLAGS] = HUB_FLAGS_SEALED, [HUB_HEADER_SEQUENCE] = number, [HUB_HEADER_SESSION] = SESSION};
 
     do {
-        must(hub_cut(report, n, F, index, piece, HUB_PIECE), "hub_cut");
-        fields[HUB_INDEX] = index;
-        fields[HUB_COUNT] = piece[HUB_PIECE_COUNT];
+        must(hub_cut(report, n, F, index, piece, HUB_PIECE_WORDS), "hub_cut");
+        fields[HUB_HEADER_INDEX] = index;
+        fields[HUB_HEADER_COUNT] = piece[HUB_PIECE_COUNT];
         write_message(fields, report + piece[HUB_PIECE_FROM], piece[HUB_PIECE_SIZE], &keys, &message);
         if (!send_bytes(&hub, message.bytes, message.n))
             return 0;

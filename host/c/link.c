@@ -28,9 +28,9 @@ void agree(const struct half *gateway, const struct half *hub, struct keys *keys
 {
     struct half both[] = {*gateway, *hub};
 
-    must(hub_digest((const uint8_t *)both, sizeof both, keys->bytes, HUB_DIGEST), "hub_digest");
-    must(hub_digest(keys->bytes, HUB_DIGEST, keys->bytes + HUB_DIGEST, HUB_DIGEST), "hub_digest");
-    keys->n = HUB_KEYS;
+    must(hub_digest((const uint8_t *)both, sizeof both, keys->bytes, HUB_DIGEST_BYTES), "hub_digest");
+    must(hub_digest(keys->bytes, HUB_DIGEST_BYTES, keys->bytes + HUB_DIGEST_BYTES, HUB_DIGEST_BYTES), "hub_digest");
+    keys->n = HUB_KEYS_BYTES;
 }
 
 void open_link(struct link *link, const char *descriptor)
@@ -107,37 +107,37 @@ void write_message(const uint64_t *fields, const uint8_t *payload, uint64_t payl
 {
     uint64_t length;
 
-    must(hub_write(fields, HUB_FIELDS, HUB_NO_ENTRIES, HUB_NO_ENTRIES_N, payload, (size_t)payload_n, keys->bytes, keys->n, out->bytes,
-                   sizeof out->bytes, &length, HUB_LENGTH),
+    must(hub_write(fields, HUB_FIELDS_WORDS, HUB_NO_ENTRIES, HUB_NO_ENTRIES_N, payload, (size_t)payload_n, keys->bytes, keys->n, out->bytes,
+                   sizeof out->bytes, &length, HUB_LENGTH_WORDS),
          "hub_write");
     out->n = (size_t)length;
 }
 
 int read_connect(struct link *link, size_t n, const struct keys *keys, struct connect *connect)
 {
-    uint64_t place[HUB_PLACE];
+    uint64_t place[HUB_PLACE_WORDS];
 
-    if (hub_read(link->message, n, keys->bytes, keys->n, link->working, sizeof link->working, connect->header, HUB_HEADER) != HUB_DONE ||
-        connect->header[HUB_TYPE] != HUB_TYPE_CONNECT)
+    if (hub_read(link->message, n, keys->bytes, keys->n, link->working, sizeof link->working, connect->header, HUB_HEADER_WORDS) != HUB_DONE ||
+        connect->header[HUB_HEADER_TYPE] != HUB_TYPE_CONNECT)
         return 0;
-    must(hub_payload(link->message, n, link->working, sizeof link->working, connect->header, HUB_HEADER, place, HUB_PLACE), "hub_payload");
+    must(hub_payload(link->message, n, link->working, sizeof link->working, connect->header, HUB_HEADER_WORDS, place, HUB_PLACE_WORDS), "hub_payload");
     connect->payload = (place[HUB_PLACE_BUFFER] ? link->working : link->message) + place[HUB_PLACE_FROM];
-    must(hub_read_connect(connect->payload, (size_t)place[HUB_PLACE_SIZE], connect->words, HUB_CONNECT), "hub_read_connect");
+    must(hub_read_connect(connect->payload, (size_t)place[HUB_PLACE_SIZE], connect->words, HUB_CONNECT_WORDS), "hub_read_connect");
     return 1;
 }
 
 void read_half(const struct connect *connect, struct half *half)
 {
-    memcpy(half->nonce, connect->payload + connect->words[HUB_NONCE_FROM], sizeof half->nonce);
-    memcpy(half->x, connect->payload + connect->words[HUB_X_FROM], sizeof half->x);
-    memcpy(half->y, connect->payload + connect->words[HUB_Y_FROM], sizeof half->y);
+    memcpy(half->nonce, connect->payload + connect->words[HUB_CONNECT_NONCE_FROM], sizeof half->nonce);
+    memcpy(half->x, connect->payload + connect->words[HUB_CONNECT_X_FROM], sizeof half->x);
+    memcpy(half->y, connect->payload + connect->words[HUB_CONNECT_Y_FROM], sizeof half->y);
 }
 
 int shows(const struct connect *connect, const char *certificate)
 {
     size_t n = strlen(certificate);
 
-    return connect->words[HUB_CERTIFICATE_SIZE] == n && memcmp(connect->payload + connect->words[HUB_CERTIFICATE_FROM], certificate, n) == 0;
+    return connect->words[HUB_CONNECT_CERTIFICATE_SIZE] == n && memcmp(connect->payload + connect->words[HUB_CONNECT_CERTIFICATE_FROM], certificate, n) == 0;
 }
 
 void print_report(uint64_t number, const uint8_t *report, size_t n)

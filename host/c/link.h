@@ -19,15 +19,15 @@ void must(uint32_t number, const char *call);
 
 /* What each side gives to the key agreement. */
 struct half {
-    uint8_t nonce[HUB_NONCE], x[HUB_COORDINATE], y[HUB_COORDINATE];
+    uint8_t nonce[HUB_NONCE_BYTES], x[HUB_COORDINATE_BYTES], y[HUB_COORDINATE_BYTES];
 };
 
 /* A side's half: EXAMPLE BYTES. A real side draws a nonce and a key pair for each connection. */
 void draw_half(struct half *half, int letter);
 
 struct keys {
-    size_t n; /* 0 until they are agreed on, then HUB_KEYS */
-    uint8_t bytes[HUB_KEYS];
+    size_t n; /* 0 until they are agreed on, then HUB_KEYS_BYTES */
+    uint8_t bytes[HUB_KEYS_BYTES];
 };
 
 /* Makes keys of both halves: EXAMPLE KEYS, which anybody can make who sees the halves; a real agreement has the private keys too. Where the two sides
@@ -58,7 +58,7 @@ int send_bytes(struct link *link, const uint8_t *bytes, size_t n);
 /* A message that was written, kept so that the same bytes can be sent again. */
 struct message {
     size_t n;
-    uint8_t bytes[HUB_MOST_MESSAGE];
+    uint8_t bytes[HUB_MOST_WRITTEN];
 };
 
 /* Writes a message without additional headers. */
@@ -66,7 +66,7 @@ void write_message(const uint64_t *fields, const uint8_t *payload, uint64_t payl
 
 /* A Connect message that was taken apart. */
 struct connect {
-    uint64_t header[HUB_HEADER], words[HUB_CONNECT];
+    uint64_t header[HUB_HEADER_WORDS], words[HUB_CONNECT_WORDS];
     const uint8_t *payload;
 };
 

@@ -36,7 +36,7 @@ struct side {
     FILE *out, *log;
     struct {
         size_t n, after; /* its bytes, none in a free place; how many messages go before it */
-        uint8_t bytes[HUB_MOST_MESSAGE];
+        uint8_t bytes[HUB_MOST_WRITTEN];
     } held[HELD];
 };
 static struct side gateway;
@@ -117,50 +117,50 @@ static void start(struct side *side, const char *command, const char *argument)
 
 static void forge(void)
 {
-    static const uint8_t nonce[HUB_NONCE], coordinate[HUB_COORDINATE];
-    uint64_t fields[HUB_FIELDS] = {[HUB_TYPE] = HUB_TYPE_CONNECT, [HUB_COUNT] = 1, [HUB_SESSION] = 666}, length;
+    static const uint8_t nonce[HUB_NONCE_BYTES], coordinate[HUB_COORDINATE_BYTES];
+    uint64_t fields[HUB_FIELDS_WORDS] = {[HUB_HEADER_TYPE] = HUB_TYPE_CONNECT, [HUB_HEADER_COUNT] = 1, [HUB_HEADER_SESSION] = 666}, length;
     uint8_t payload[HUB_MOST_PAYLOAD];
-    struct keys strange = {.n = HUB_KEYS};
+    struct keys strange = {.n = HUB_KEYS_BYTES};
 
-    must(hub_write_connection_request(HUB_MODE_NONE, nonce, HUB_NONCE, coordinate, HUB_COORDINATE, coordinate, HUB_COORDINATE, payload,
-                                      sizeof payload, &length, HUB_LENGTH),
+    must(hub_write_connection_request(HUB_MODE_NONE, nonce, HUB_NONCE_BYTES, coordinate, HUB_COORDINATE_BYTES, coordinate, HUB_COORDINATE_BYTES, payload,
+                                      sizeof payload, &length, HUB_LENGTH_WORDS),
          "hub_write_connection_request");
     write_message(fields, payload, length, &strange, &forged);
-    fields[HUB_TYPE] = HUB_TYPE_SESSION;
-    fields[HUB_FLAGS] = HUB_SEAL;
+    fields[HUB_HEADER_TYPE] = HUB_TYPE_SESSION;
+    fields[HUB_HEADER_FLAGS] = HUB_FLAGS_SEALED;
     write_message(fields, payload, length, &strange, &early);
 }
 
 /* The sealed messages of this run: the four numbers that the vector is made of, and a digest of the bytes. */
 static struct {
     uint64_t vector[4];
-    uint8_t digest[HUB_DIGEST];
+    uint8_t digest[HUB_DIGEST_BYTES];
 } seen[1024];
 static size_t seen_n;
 
 /* No two sealed messages of different bytes have the same vector, whoever sends them. */
 static void watch(const uint8_t *message, size_t n)
 {
-    uint64_t header[HUB_HEADER], vector[4];
-    uint8_t digest[HUB_DIGEST];
+    uint64_t header[HUB_HEADER_WORDS], vector[4];
+    uint8_t digest[HUB_DIGEST_BYTES];
     size_t i = 0;
 
-    if (hub_read_header(message, n, header, HUB_HEADER) != HUB_DONE || hub_digest(message, n, digest, HUB_DIGEST) != HUB_DONE)
+    if (hub_read_header(message, n, header, HUB_HEADER_WORDS) != HUB_DONE || hub_digest(message, n, digest, HUB_DIGEST_BYTES) != HUB_DONE)
         fail("what a program sends is no message");
-    if (header[HUB_SEALED] != HUB_STILL_SEALED)
+    if (header[HUB_HEADER_SEALED] != HUB_STILL_SEALED)
         return;
-    vector[0] = header[HUB_SESSION];
-    vector[1] = header[HUB_SEQUENCE];
-    vector[2] = header[HUB_INDEX];
-    vector[3] = header[HUB_COUNT];
+    vector[0] = header[HUB_HEADER_SESSION];
+    vector[1] = header[HUB_HEADER_SEQUENCE];
+    vector[2] = header[HUB_HEADER_INDEX];
+    vector[3] = header[HUB_HEADER_COUNT];
     while (i < seen_n && memcmp(seen[i].vector, vector, sizeof vector) != 0)
         i++;
     if (i == sizeof seen / sizeof seen[0])
         fail("a program sends ever new messages");
-    if (i < seen_n && memcmp(seen[i].digest, digest, HUB_DIGEST) != 0)
+    if (i < seen_n && memcmp(seen[i].digest, digest, HUB_DIGEST_BYTES) != 0)
         fail("two sealed messages have the same vector");
     memcpy(seen[i].vector, vector, sizeof vector);
-    memcpy(seen[i].digest, digest, HUB_DIGEST);
+    memcpy(seen[i].digest, digest, HUB_DIGEST_BYTES);
     seen_n += i == seen_n;
 }
 

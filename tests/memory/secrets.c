@@ -3,7 +3,7 @@
  * Secrets marked undefined, for valgrind's memcheck: it then reports each branch and each address that depends on one.
  *
  *     secrets hmac     the key and the message of hub_hmac
- *     secrets tag      both tags of hub_same_tag
+ *     secrets tag      both tags of hub_tags_differ
  *     secrets write    all 64 key bytes of hub_write
  *     secrets aes      the encryption key and the vector key of hub_read
  *     secrets mac      the HMAC key of hub_read
@@ -23,8 +23,8 @@
 static const size_t sizes[] = {0, 11, 12, 13, 28, 29, 44, 999, PAYLOAD};
 #define SIZES (sizeof sizes / sizeof sizes[0])
 
-static uint8_t keys[HUB_KEYS], working[2048], message[2048], payload[PAYLOAD], out[2048], a[HUB_DIGEST], b[HUB_DIGEST];
-static uint64_t header[HUB_HEADER], fields[HUB_FIELDS], length[HUB_LENGTH];
+static uint8_t keys[HUB_KEYS_BYTES], working[2048], message[2048], payload[PAYLOAD], out[2048], a[HUB_DIGEST_BYTES], b[HUB_DIGEST_BYTES];
+static uint64_t header[HUB_HEADER_WORDS], fields[HUB_FIELDS_WORDS], length[HUB_LENGTH_WORDS];
 
 static void hide(void *secret, size_t n)
 {
@@ -63,10 +63,10 @@ static size_t write_message(size_t payload_n)
 {
     uint32_t number;
 
-    fields[HUB_TYPE] = HUB_TYPE_SESSION;
-    fields[HUB_FLAGS] = HUB_SEAL;
-    fields[HUB_COUNT] = 1;
-    number = hub_write(fields, HUB_FIELDS, HUB_NO_ENTRIES, HUB_NO_ENTRIES_N, payload, payload_n, keys, HUB_KEYS, out, sizeof out, length, HUB_LENGTH);
+    fields[HUB_HEADER_TYPE] = HUB_TYPE_SESSION;
+    fields[HUB_HEADER_FLAGS] = HUB_FLAGS_SEALED;
+    fields[HUB_HEADER_COUNT] = 1;
+    number = hub_write(fields, HUB_FIELDS_WORDS, HUB_NO_ENTRIES, HUB_NO_ENTRIES_N, payload, payload_n, keys, HUB_KEYS_BYTES, out, sizeof out, length, HUB_LENGTH_WORDS);
     must(number == HUB_DONE, "hub_write refuses");
     return (size_t)length[0];
 }
@@ -95,10 +95,10 @@ static void tag(void)
             b[bit / 8] ^= (uint8_t)(1 << bit % 8);
         hide(a, sizeof a);
         hide(b, sizeof b);
-        number = hub_same_tag(a, sizeof a, b, sizeof b);
+        number = hub_tags_differ(a, sizeof a, b, sizeof b);
         must(hidden_bits(&number, sizeof number) > 0, "the comparison of secrets is not secret: memcheck does not follow it");
         show(&number, sizeof number);
-        must(number == (bit >= 0), "hub_same_tag");
+        must(number == (bit >= 0), "hub_tags_differ");
     }
 }
 
@@ -109,7 +109,7 @@ static void write_secret(void)
     hide(keys, sizeof keys);
     for (i = 0; i < SIZES; i++) {
         message_n = write_message(sizes[i]);
-        must(hidden_bits(out + HUB_LEAST_MESSAGE, 16) == 128 && hidden_bits(out + message_n - HUB_DIGEST, HUB_DIGEST) == 256,
+        must(hidden_bits(out + HUB_LEAST_MESSAGE, 16) == 128 && hidden_bits(out + message_n - HUB_DIGEST_BYTES, HUB_DIGEST_BYTES) == 256,
              "what is sealed is not secret");
     }
 }
@@ -127,7 +127,7 @@ static void receive(size_t from, size_t n)
         message_n = write_message(sizes[i]);
         memcpy(message, out, message_n);
         hide(keys + from, n);
-        number = hub_read(message, message_n, keys, HUB_KEYS, working, sizeof working, header, HUB_HEADER);
+        number = hub_read(message, message_n, keys, HUB_KEYS_BYTES, working, sizeof working, header, HUB_HEADER_WORDS);
         show(&number, sizeof number);
         must(number == HUB_DONE, "hub_read refuses");
     }

@@ -18,10 +18,10 @@
 static uint8_t stack[STACK];
 static ucontext_t here, there;
 
-static const uint8_t nonce[HUB_NONCE], x[HUB_COORDINATE], y[HUB_COORDINATE], certificate[HUB_MOST_CERTIFICATE], thumbprint[HUB_MOST_THUMBPRINT];
-static uint8_t keys[HUB_KEYS], state[HUB_STATE], before[HUB_STATE], working[HUB_MOST_SEALED], report[3 * F];
-static uint8_t message[HUB_MOST_READ], out[HUB_MOST_MESSAGE], digest[HUB_DIGEST], line[HUB_LINE], payload[F], chain[8 * (2 + ENTRY) + 2];
-static uint64_t header[HUB_HEADER], fields[HUB_FIELDS], place[HUB_PLACE], answer[HUB_ANSWER], length[HUB_LENGTH], connect[HUB_CONNECT];
+static const uint8_t nonce[HUB_NONCE_BYTES], x[HUB_COORDINATE_BYTES], y[HUB_COORDINATE_BYTES], certificate[HUB_MOST_CERTIFICATE], thumbprint[HUB_MOST_THUMBPRINT];
+static uint8_t keys[HUB_KEYS_BYTES], state[HUB_STATE_BYTES], before[HUB_STATE_BYTES], working[HUB_MOST_SEALED], report[3 * F];
+static uint8_t message[HUB_MOST_READ], out[HUB_MOST_WRITTEN], digest[HUB_DIGEST_BYTES], line[HUB_LINE_BYTES], payload[F], chain[8 * (2 + ENTRY) + 2];
+static uint64_t header[HUB_HEADER_WORDS], fields[HUB_FIELDS_WORDS], place[HUB_PLACE_WORDS], answer[HUB_ANSWER_WORDS], length[HUB_LENGTH_WORDS], connect[HUB_CONNECT_WORDS];
 static size_t message_n, payload_n;
 static uint64_t verdict;
 static uint32_t number;
@@ -31,45 +31,45 @@ static void do_version(void) { number = hub_version(); }
 static void do_digest(void) { number = hub_digest(payload, payload_n, digest, sizeof digest); }
 static void do_hmac(void) { number = hub_hmac(keys, sizeof keys, payload, payload_n, digest, sizeof digest); }
 static void do_hmac_long(void) { number = hub_hmac(payload, payload_n, payload, payload_n, digest, sizeof digest); }
-static void do_same_tag(void) { number = hub_same_tag(digest, sizeof digest, keys, HUB_DIGEST); }
+static void do_same_tag(void) { number = hub_tags_differ(digest, sizeof digest, keys, HUB_DIGEST_BYTES); }
 static void do_wanted(void) { number = hub_wanted(message, message_n); }
-static void do_read_header(void) { number = hub_read_header(message, message_n, header, HUB_HEADER); }
-static void do_read(void) { number = hub_read(message, message_n, keys, sizeof keys, working, sizeof working, header, HUB_HEADER); }
-static void do_payload(void) { number = hub_payload(message, message_n, working, sizeof working, header, HUB_HEADER, place, HUB_PLACE); }
+static void do_read_header(void) { number = hub_read_header(message, message_n, header, HUB_HEADER_WORDS); }
+static void do_read(void) { number = hub_read(message, message_n, keys, sizeof keys, working, sizeof working, header, HUB_HEADER_WORDS); }
+static void do_payload(void) { number = hub_payload(message, message_n, working, sizeof working, header, HUB_HEADER_WORDS, place, HUB_PLACE_WORDS); }
 static void do_write(void)
 {
-    number = hub_write(fields, HUB_FIELDS, chain, sizeof chain, payload, payload_n, keys, sizeof keys, out, sizeof out, length, HUB_LENGTH);
+    number = hub_write(fields, HUB_FIELDS_WORDS, chain, sizeof chain, payload, payload_n, keys, sizeof keys, out, sizeof out, length, HUB_LENGTH_WORDS);
 }
-static void do_presence_request(void) { number = hub_write_presence_request(payload, sizeof payload, length, HUB_LENGTH); }
+static void do_presence_request(void) { number = hub_write_presence_request(payload, sizeof payload, length, HUB_LENGTH_WORDS); }
 static void do_connection_request(void)
 {
     number = hub_write_connection_request(HUB_MODE_LEGACY, nonce, sizeof nonce, x, sizeof x, y, sizeof y, payload, sizeof payload, length,
-                                          HUB_LENGTH);
+                                          HUB_LENGTH_WORDS);
 }
 static void do_connection_response(void)
 {
     number = hub_write_connection_response(HUB_MODE_LEGACY, HUB_PENDING, nonce, sizeof nonce, x, sizeof x, y, sizeof y, payload, sizeof payload,
-                                           length, HUB_LENGTH);
+                                           length, HUB_LENGTH_WORDS);
 }
 static void do_device_authentication(void)
 {
     number = hub_write_device_authentication(HUB_AUTHENTICATION_REQUEST, HUB_MODE_LEGACY, certificate, sizeof certificate, thumbprint,
-                                             sizeof thumbprint, payload, sizeof payload, length, HUB_LENGTH);
+                                             sizeof thumbprint, payload, sizeof payload, length, HUB_LENGTH_WORDS);
 }
-static void do_done_request(void) { number = hub_write_done_request(HUB_MODE_LEGACY, payload, sizeof payload, length, HUB_LENGTH); }
+static void do_done_request(void) { number = hub_write_done_request(HUB_MODE_LEGACY, payload, sizeof payload, length, HUB_LENGTH_WORDS); }
 static void do_done_response(void)
 {
-    number = hub_write_done_response(HUB_MODE_LEGACY, HUB_FAILURE_UNKNOWN, payload, sizeof payload, length, HUB_LENGTH);
+    number = hub_write_done_response(HUB_MODE_LEGACY, HUB_FAILURE_UNKNOWN, payload, sizeof payload, length, HUB_LENGTH_WORDS);
 }
-static void do_read_connect(void) { number = hub_read_connect(payload, payload_n, connect, HUB_CONNECT); }
-static void do_open(void) { number = hub_open(F, state, HUB_STATE); }
+static void do_read_connect(void) { number = hub_read_connect(payload, payload_n, connect, HUB_CONNECT_WORDS); }
+static void do_open(void) { number = hub_open(F, state, HUB_STATE_BYTES); }
 static void do_step(void)
 {
-    number = hub_step(state, HUB_STATE, message, message_n, keys, sizeof keys, working, sizeof working, report, sizeof report, verdict, answer,
-                      HUB_ANSWER);
+    number = hub_step(state, HUB_STATE_BYTES, message, message_n, keys, sizeof keys, working, sizeof working, report, sizeof report, verdict, answer,
+                      HUB_ANSWER_WORDS);
 }
-static void do_cut(void) { number = hub_cut(report, sizeof report, F, 2, place, HUB_PIECE); }
-static void do_list(void) { number = hub_list(message, message_n, line, sizeof line, length, HUB_LENGTH); }
+static void do_cut(void) { number = hub_cut(report, sizeof report, F, 2, place, HUB_PIECE_WORDS); }
+static void do_list(void) { number = hub_list(message, message_n, line, sizeof line, length, HUB_LENGTH_WORDS); }
 
 static size_t used_in(void (*call)(void), uint8_t colour)
 {
@@ -129,10 +129,10 @@ static size_t measure(void (*call)(void), uint32_t expected)
 static void prepare(uint64_t type, uint64_t flags, uint64_t index, uint64_t count, size_t n)
 {
     memset(fields, 0, sizeof fields);
-    fields[HUB_TYPE] = type;
-    fields[HUB_FLAGS] = flags;
-    fields[HUB_INDEX] = index;
-    fields[HUB_COUNT] = count;
+    fields[HUB_HEADER_TYPE] = type;
+    fields[HUB_HEADER_FLAGS] = flags;
+    fields[HUB_HEADER_INDEX] = index;
+    fields[HUB_HEADER_COUNT] = count;
     payload_n = n;
     do_write();
     must(HUB_DONE);
@@ -174,18 +174,18 @@ static size_t steps(void)
     prepare_by(do_connection_request, HUB_TYPE_CONNECT, 0);
     bytes = most(bytes, measure(do_step, HUB_DONE));
     bytes = most(bytes, measure(do_step, HUB_DONE)); /* Again */
-    prepare_by(do_device_authentication, HUB_TYPE_CONNECT, HUB_SEAL);
+    prepare_by(do_device_authentication, HUB_TYPE_CONNECT, HUB_FLAGS_SEALED);
     bytes = most(bytes, measure(do_step, HUB_DONE));
     bytes = most(bytes, measure(do_step, HUB_DONE)); /* Again */
-    prepare_by(do_done_request, HUB_TYPE_CONNECT, HUB_SEAL);
+    prepare_by(do_done_request, HUB_TYPE_CONNECT, HUB_FLAGS_SEALED);
     bytes = most(bytes, measure(do_step, HUB_DONE));
     bytes = most(bytes, measure(do_step, HUB_DONE)); /* Again */
-    prepare(HUB_TYPE_SESSION, HUB_SEAL, 1, 2, F);
+    prepare(HUB_TYPE_SESSION, HUB_FLAGS_SEALED, 1, 2, F);
     bytes = most(bytes, measure(do_step, HUB_DONE));
     bytes = most(bytes, measure(do_step, HUB_DONE)); /* Repeat */
     report[F] ^= 1;
     bytes = most(bytes, measure(do_step, HUB_UNLIKE_REPEAT));
-    prepare(HUB_TYPE_SESSION, HUB_SEAL, 0, 2, F);
+    prepare(HUB_TYPE_SESSION, HUB_FLAGS_SEALED, 0, 2, F);
     message[message_n - 1] ^= 1;
     bytes = most(bytes, measure(do_step, HUB_WRONG_TAG));
     message[message_n - 1] ^= 1;
@@ -226,21 +226,21 @@ int main(void)
     row("hub_version", measure(do_version, HUB_VERSION));
     row("hub_digest", measure(do_digest, HUB_DONE));
     row("hub_hmac", most(measure(do_hmac, HUB_DONE), measure(do_hmac_long, HUB_DONE)));
-    row("hub_same_tag", measure(do_same_tag, 1));
-    prepare(HUB_TYPE_SESSION, HUB_SEAL, 0, 1, F);
+    row("hub_tags_differ", measure(do_same_tag, 1));
+    prepare(HUB_TYPE_SESSION, HUB_FLAGS_SEALED, 0, 1, F);
     row("hub_wanted", measure(do_wanted, (uint32_t)message_n));
     row("hub_read_header", measure(do_read_header, HUB_DONE));
     sealed = measure(do_read, HUB_DONE);
     row("hub_payload", measure(do_payload, HUB_DONE));
-    prepare_by(do_device_authentication, HUB_TYPE_CONNECT, HUB_SEAL);
+    prepare_by(do_device_authentication, HUB_TYPE_CONNECT, HUB_FLAGS_SEALED);
     sealed = most(sealed, measure(do_read, HUB_DONE));
     prepare_by(do_presence_request, HUB_TYPE_DISCOVERY, 0);
     plain = measure(do_read, HUB_DONE);
     row("hub_read", most(sealed, plain));
     plain = measure(do_write, HUB_DONE);
-    prepare_by(do_device_authentication, HUB_TYPE_CONNECT, HUB_SEAL);
+    prepare_by(do_device_authentication, HUB_TYPE_CONNECT, HUB_FLAGS_SEALED);
     sealed = measure(do_write, HUB_DONE);
-    prepare(HUB_TYPE_SESSION, HUB_SEAL, 0, 1, F);
+    prepare(HUB_TYPE_SESSION, HUB_FLAGS_SEALED, 0, 1, F);
     row("hub_write", most(most(plain, sealed), measure(do_write, HUB_DONE)));
     payloads();
     row("hub_open", measure(do_open, HUB_DONE));

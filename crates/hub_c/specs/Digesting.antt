@@ -17,5 +17,5 @@ abbrev pub wrongTags : (ours theirs : List ℕ) → Bool
 wrongTags ours theirs = not (eqb (length ours) digestSize) || not (eqb (length theirs) digestSize)
 
 -- 0 where two tags are the same, 1 where not.
-unfoldable pub sameTag : (ours theirs : List ℕ) → ℕ
-sameTag ours theirs = cond (wrongTags ours theirs) wrongBuffer (cond (same ours theirs) 0 1)
+unfoldable pub tagsDiffer : (ours theirs : List ℕ) → ℕ
+tagsDiffer ours theirs = cond (wrongTags ours theirs) wrongBuffer (cond (same ours theirs) 0 1)

@@ -5,7 +5,7 @@ use super::words::fill;
 ghost use mathlib.Core.Path.{_≡_};
 ghost use Rattle.sha256.specs.Digests.{digest};
 ghost use Rattle.sha256.specs.Macs.{hmac};
-ghost use Rattle.hub_c.specs.Digesting.{filled, sameTag};
+ghost use Rattle.hub_c.specs.Digesting.{filled, tagsDiffer};
 ghost use Rattle.hub_c.specs.Sizes.{digestSize, sized};
 
 // The bytes of a digest and of a tag.
@@ -41,8 +41,8 @@ pub extern "C" fn hub_hmac(key: &[u8], message: &[u8], out: &mut [u8]) -> u32
 
 // Whether two tags are alike: 0 if they are, 1 if not. The comparison reads every byte.
 #[no_mangle]
-pub extern "C" fn hub_same_tag(ours: &[u8], theirs: &[u8]) -> u32
-    ensures { λ r. ⌜ r ≡ sameTag (now (ours .entry)) (now (theirs .entry)) ⌝ }
+pub extern "C" fn hub_tags_differ(ours: &[u8], theirs: &[u8]) -> u32
+    ensures { λ r. ⌜ r ≡ tagsDiffer (now (ours .entry)) (now (theirs .entry)) ⌝ }
 {
     if (ours.len() != DIGEST) | (theirs.len() != DIGEST) {
         return WRONG_BUFFER;

@@ -13,7 +13,7 @@ unsafe extern "C" {
         out: *mut u8,
         out_n: usize,
     ) -> u32;
-    pub fn hub_same_tag(a: *const u8, a_n: usize, b: *const u8, b_n: usize) -> u32;
+    pub fn hub_tags_differ(a: *const u8, a_n: usize, b: *const u8, b_n: usize) -> u32;
     pub fn hub_wanted(bytes: *const u8, bytes_n: usize) -> u32;
     pub fn hub_read_header(
         message: *const u8,

@@ -41,5 +41,5 @@ pub fn hmac(key: &[u8], message: &[u8]) -> [u8; 32] {
 /// Whether two tags are alike; all their bytes are read, wherever they differ.
 pub fn same_tag(a: &[u8; 32], b: &[u8; 32]) -> bool {
     // SAFETY: pointers and lengths are those of arrays.
-    unsafe { ffi::hub_same_tag(a.as_ptr(), a.len(), b.as_ptr(), b.len()) == 0 }
+    unsafe { ffi::hub_tags_differ(a.as_ptr(), a.len(), b.as_ptr(), b.len()) == 0 }
 }

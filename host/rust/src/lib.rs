@@ -50,7 +50,7 @@
 //! ```
 //! use hlidunsk::payload::{Connect, ConnectionResult, Exchange, Mode, Status, MOST_PAYLOAD};
 //! use hlidunsk::{cut, read, write, Answer, Connection, Keys, Refusal, Reply, State};
-//! use hlidunsk::{MOST_MESSAGE, MOST_PIECES, MOST_REPLY, MOST_SEALED, NO_ENTRIES};
+//! use hlidunsk::{MOST_WRITTEN, MOST_PIECES, MOST_REPLY, MOST_SEALED, NO_ENTRIES};
 //!
 //! const F: usize = 16; // the bytes of a piece
 //! const SESSION: u64 = 42;
@@ -141,7 +141,7 @@
 //!     Connect::DoneRequest { mode: MODE },
 //! ];
 //! let mut keys = None;
-//! let (mut sent, mut working) = ([0; MOST_MESSAGE], [0; MOST_SEALED]);
+//! let (mut sent, mut working) = ([0; MOST_WRITTEN], [0; MOST_SEALED]);
 //! for (request, sequence) in requests.iter().zip(0x8000_0000..) {
 //!     let length = message(request, sequence, keys.as_ref(), &mut sent)?;
 //!     assert!(matches!(hub.take(&sent[..length])?, Answer::Reply(_)));
@@ -257,7 +257,7 @@
 //! | `report` | where a report is put together: 64 times F bytes are enough for every report |
 //! | `chain` | additional headers with their end: [`NO_ENTRIES`] where there are none |
 //! | `payload` | what a message carries: [`MOST_PAYLOAD`] bytes are enough for every payload of Discovery and Connect |
-//! | `out` | where a message or a payload is written: [`MOST_MESSAGE`] bytes are enough for every message that [`write()`] makes |
+//! | `out` | where a message or a payload is written: [`MOST_WRITTEN`] bytes are enough for every message that [`write()`] makes |
 //!
 //! A call that is refused leaves every buffer as it was, but for one: where a sealed message was
 //! opened, and is refused for what it says or when it comes, the first bytes of the working buffer
@@ -308,7 +308,7 @@ pub use cutting::{cut, Piece};
 pub use hash::{digest, hmac, same_tag};
 pub use listing::{list, Line};
 pub use message::{read, read_header, write, Body, Framed, Header, Keys, Message, MessageType};
-pub use message::{MOST_MESSAGE, MOST_REPLY, MOST_SEALED, NO_ENTRIES};
+pub use message::{MOST_REPLY, MOST_SEALED, MOST_WRITTEN, NO_ENTRIES};
 pub use refusal::Refusal;
 pub use stream::{wanted, MOST_READ};
 

@@ -23,7 +23,7 @@ pub(crate) fn part(buffer: &[u8], from: u64, size: u64) -> Result<&[u8], Refusal
 pub const NO_ENTRIES: &[u8] = &[0, 0];
 
 /// The longest message that [`write()`] makes.
-pub const MOST_MESSAGE: usize = 18_530;
+pub const MOST_WRITTEN: usize = 18_530;
 
 /// The longest Connect message without entries in its chain: room of this size holds every reply.
 pub const MOST_REPLY: usize = 2_650;
@@ -31,7 +31,7 @@ pub const MOST_REPLY: usize = 2_650;
 /// The longest sealed part of a message: a working buffer of this size is enough for all.
 pub const MOST_SEALED: usize = 65_456;
 
-/// HUB_SEALED of a message whose payload stands in it.
+/// HUB_HEADER_SEALED of a message whose payload stands in it.
 const PLAIN: u64 = 0;
 
 /// MessageType: what kind of message it is.
@@ -310,10 +310,10 @@ pub fn read<'a>(
 /// is beyond the message is unchanged.
 ///
 /// ```
-/// # use hlidunsk::{cut, read, write, Refusal, MOST_MESSAGE, MOST_SEALED, NO_ENTRIES};
+/// # use hlidunsk::{cut, read, write, Refusal, MOST_WRITTEN, MOST_SEALED, NO_ENTRIES};
 /// let keys = [7; 64];
 /// let piece = cut(b"pump 7: 1,204 litres", 1_024, 0)?;
-/// let mut out = [0; MOST_MESSAGE];
+/// let mut out = [0; MOST_WRITTEN];
 /// let length = write(&piece.header(42, 0), NO_ENTRIES, piece.bytes, Some(&keys), &mut out)?;
 /// assert_eq!(length, 74 + 32);
 /// assert_eq!(read(&out[..length], Some(&keys), &mut [0; MOST_SEALED])?.payload, piece.bytes);

@@ -3,7 +3,7 @@
 
 use hlidunsk::payload::{Connect, Mode, PresenceRequest};
 use hlidunsk::{cut, digest, hmac, list, read, read_header, same_tag, version, wanted, write};
-use hlidunsk::{Body, Header, MessageType, Refusal, MOST_MESSAGE, MOST_READ, NO_ENTRIES};
+use hlidunsk::{Body, Header, MessageType, Refusal, MOST_READ, MOST_WRITTEN, NO_ENTRIES};
 
 /// Document 01's P1.
 fn p1() -> Vec<u8> {
@@ -144,7 +144,7 @@ fn headers_that_are_made() {
     let header = Header { channel: 9, ..piece.header(5, 7) };
     let session = Header { message_type: MessageType::Session, index: 2, count: 3, ..done };
     assert_eq!(header, Header { channel: 9, ..session });
-    let (keys, mut out, mut working) = ([3; 64], [0; MOST_MESSAGE], [0; 16]);
+    let (keys, mut out, mut working) = ([3; 64], [0; MOST_WRITTEN], [0; 16]);
     let length = write(&header, NO_ENTRIES, piece.bytes, Some(&keys), &mut out).unwrap();
     let message = read(&out[..length], Some(&keys), &mut working).unwrap();
     assert_eq!((message.header, message.payload), (header, piece.bytes));

@@ -3,7 +3,7 @@
 
 use hlidunsk::payload::{Connect, Exchange, Mode, PresenceRequest, Status, MOST_PAYLOAD};
 use hlidunsk::{cut, digest, write, Answer, Connection, Header, Keys, Refusal, Reply, State};
-use hlidunsk::{MessageType, MOST_MESSAGE, NO_ENTRIES};
+use hlidunsk::{MessageType, MOST_WRITTEN, NO_ENTRIES};
 
 mod drawn;
 use drawn::Drawn;
@@ -17,7 +17,7 @@ const EXCHANGE: Exchange = Exchange { nonce: [1; 8], x: [2; 32], y: [3; 32] };
 const REPORT: &[u8] = b"ten bytes.";
 
 fn message(header: Header, payload: &[u8]) -> Vec<u8> {
-    let mut out = vec![0; MOST_MESSAGE];
+    let mut out = vec![0; MOST_WRITTEN];
     let length = write(&header, NO_ENTRIES, payload, Some(&KEYS), &mut out).unwrap();
     out.truncate(length);
     out

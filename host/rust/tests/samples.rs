@@ -6,7 +6,7 @@ use std::path::{Path, PathBuf};
 
 use hlidunsk::payload::{Connect, PresenceRequest, Status, MOST_PAYLOAD};
 use hlidunsk::{list, read, read_header, wanted, write, Answer, Body, Connection, Keys, Refusal};
-use hlidunsk::{MessageType, Reply, MOST_MESSAGE, MOST_PIECES, MOST_SEALED};
+use hlidunsk::{MessageType, Reply, MOST_PIECES, MOST_SEALED, MOST_WRITTEN};
 
 fn folder() -> PathBuf {
     Path::new(env!("CARGO_MANIFEST_DIR")).join("../../samples")
@@ -135,7 +135,7 @@ fn what_is_read_is_written_to_the_same_bytes() {
         assert_eq!(read.header, framed.header);
         let payload = written_anew(read.header.message_type, read.payload);
         assert_eq!(payload, read.payload, "{}", path.display());
-        let mut out = vec![0xEE; MOST_MESSAGE];
+        let mut out = vec![0xEE; MOST_WRITTEN];
         let length = write(&read.header, chain, &payload, Some(&keys), &mut out).unwrap();
         assert_eq!(out[..length], message[..], "{}", path.display());
         assert!(out[length..].iter().all(|byte| *byte == 0xEE));

@@ -64,7 +64,7 @@ fn header_of(words: &[u64; 11], otherwise: u64) -> (Header, Kind, std::ops::Rang
         channel,
     };
     let [plain, ..] = sealed();
-    assert_eq!(names, if header.sealed() { otherwise } else { plain }, "HUB_SEALED");
+    assert_eq!(names, if header.sealed() { otherwise } else { plain }, "HUB_HEADER_SEALED");
     let kind = Kind::from_number(header.message_type).expect("a kind");
     (header, kind, from as usize..(from + size) as usize)
 }

@@ -25,7 +25,7 @@ mod through {
             o: *mut u8,
             on: usize,
         ) -> u32;
-        pub fn through_same_tag(a: *const u8, an: usize, b: *const u8, bn: usize) -> u32;
+        pub fn through_tags_differ(a: *const u8, an: usize, b: *const u8, bn: usize) -> u32;
         pub fn through_read_header(m: *const u8, mn: usize, h: *mut u64, hn: usize) -> u32;
         pub fn through_read(
             m: *const u8,
@@ -289,10 +289,10 @@ impl Hub {
         number
     }
 
-    /// `hub_same_tag`.
+    /// `hub_tags_differ`.
     pub fn same_tag(&mut self, a: &[u8], b: &[u8]) -> u32 {
         let (x, y) = (self.message.lend(a), self.out.lend(b));
-        let number = unsafe { through::through_same_tag(x, a.len(), y, b.len()) };
+        let number = unsafe { through::through_tags_differ(x, a.len(), y, b.len()) };
         self.message.unchanged(a);
         self.out.unchanged(b);
         number

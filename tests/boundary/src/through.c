@@ -7,7 +7,7 @@ const char *through_text(uint32_t);
 const uint8_t *through_no_entries(void);
 uint32_t through_digest(const uint8_t *, size_t, uint8_t *, size_t);
 uint32_t through_hmac(const uint8_t *, size_t, const uint8_t *, size_t, uint8_t *, size_t);
-uint32_t through_same_tag(const uint8_t *, size_t, const uint8_t *, size_t);
+uint32_t through_tags_differ(const uint8_t *, size_t, const uint8_t *, size_t);
 uint32_t through_read_header(const uint8_t *, size_t, uint64_t *, size_t);
 uint32_t through_read(const uint8_t *, size_t, const uint8_t *, size_t, uint8_t *, size_t, uint64_t *, size_t);
 uint32_t through_payload(const uint8_t *, size_t, const uint8_t *, size_t, const uint64_t *, size_t, uint64_t *, size_t);
@@ -55,9 +55,9 @@ uint32_t through_hmac(const uint8_t *key, size_t key_n, const uint8_t *message, 
     return hub_hmac(key, key_n, message, message_n, out, out_n);
 }
 
-uint32_t through_same_tag(const uint8_t *a, size_t a_n, const uint8_t *b, size_t b_n)
+uint32_t through_tags_differ(const uint8_t *a, size_t a_n, const uint8_t *b, size_t b_n)
 {
-    return hub_same_tag(a, a_n, b, b_n);
+    return hub_tags_differ(a, a_n, b, b_n);
 }
 
 uint32_t through_read_header(const uint8_t *message, size_t message_n, uint64_t *header, size_t header_n)
@@ -164,27 +164,27 @@ const uint32_t through_refusals[27] = {
     HUB_WRONG_PIECE_SIZE, HUB_UNLIKE_FIRST_PIECE, HUB_NO_ROOM,         HUB_UNLIKE_REPEAT,   HUB_WRONG_FRAGMENT_SIZE,
     HUB_WRONG_VERDICT,    HUB_WRONG_BUFFER};
 const size_t through_no_entries_n = HUB_NO_ENTRIES_N;
-const size_t through_sizes[13] = {HUB_STATE,  HUB_HEADER, HUB_FIELDS, HUB_PLACE,   HUB_ANSWER, HUB_PIECE,     HUB_LENGTH,
-                                  HUB_DIGEST, HUB_KEYS,   HUB_LINE,   HUB_CONNECT, HUB_NONCE,  HUB_COORDINATE};
-const size_t through_bounds[10] = {HUB_LEAST_MESSAGE,      HUB_MOST_MESSAGE,     HUB_MOST_READ,       HUB_MOST_SEALED,  HUB_MOST_PIECES,
+const size_t through_sizes[13] = {HUB_STATE_BYTES,  HUB_HEADER_WORDS, HUB_FIELDS_WORDS, HUB_PLACE_WORDS,   HUB_ANSWER_WORDS, HUB_PIECE_WORDS,     HUB_LENGTH_WORDS,
+                                  HUB_DIGEST_BYTES, HUB_KEYS_BYTES,   HUB_LINE_BYTES,   HUB_CONNECT_WORDS, HUB_NONCE_BYTES,  HUB_COORDINATE_BYTES};
+const size_t through_bounds[10] = {HUB_LEAST_MESSAGE,      HUB_MOST_WRITTEN,     HUB_MOST_READ,       HUB_MOST_SEALED,  HUB_MOST_PIECES,
                                    HUB_MOST_FRAGMENT_SIZE, HUB_MOST_CERTIFICATE, HUB_MOST_THUMBPRINT, HUB_MOST_PAYLOAD, HUB_MOST_REPLY};
-const size_t through_header_words[11] = {HUB_TYPE,    HUB_FLAGS,   HUB_SEQUENCE, HUB_REQUEST, HUB_INDEX, HUB_COUNT,
-                                         HUB_SESSION, HUB_CHANNEL, HUB_SEALED,   HUB_FROM,    HUB_SIZE};
+const size_t through_header_words[11] = {HUB_HEADER_TYPE,    HUB_HEADER_FLAGS,   HUB_HEADER_SEQUENCE, HUB_HEADER_REQUEST, HUB_HEADER_INDEX, HUB_HEADER_COUNT,
+                                         HUB_HEADER_SESSION, HUB_HEADER_CHANNEL, HUB_HEADER_SEALED,   HUB_HEADER_FROM,    HUB_HEADER_SIZE};
 const size_t through_place_words[3] = {HUB_PLACE_BUFFER, HUB_PLACE_FROM, HUB_PLACE_SIZE};
 const size_t through_answer_words[4] = {HUB_ANSWER_KIND, HUB_ANSWER_VALUE, HUB_ANSWER_LENGTH, HUB_ANSWER_STATUS};
 const size_t through_piece_words[3] = {HUB_PIECE_COUNT, HUB_PIECE_FROM, HUB_PIECE_SIZE};
-const size_t through_connect_words[13] = {HUB_CONNECT_TYPE,     HUB_CONNECT_MODE,    HUB_CONNECT_CODE,   HUB_NONCE_FROM, HUB_NONCE_SIZE,
-                                          HUB_X_FROM,           HUB_X_SIZE,          HUB_Y_FROM,         HUB_Y_SIZE,     HUB_CERTIFICATE_FROM,
-                                          HUB_CERTIFICATE_SIZE, HUB_THUMBPRINT_FROM, HUB_THUMBPRINT_SIZE};
+const size_t through_connect_words[13] = {HUB_CONNECT_TYPE,     HUB_CONNECT_MODE,    HUB_CONNECT_CODE,   HUB_CONNECT_NONCE_FROM, HUB_CONNECT_NONCE_SIZE,
+                                          HUB_CONNECT_X_FROM,           HUB_CONNECT_X_SIZE,          HUB_CONNECT_Y_FROM,         HUB_CONNECT_Y_SIZE,     HUB_CONNECT_CERTIFICATE_FROM,
+                                          HUB_CONNECT_CERTIFICATE_SIZE, HUB_CONNECT_THUMBPRINT_FROM, HUB_CONNECT_THUMBPRINT_SIZE};
 const size_t through_state_places[13] = {HUB_STATE_FRAGMENT_SIZE, HUB_STATE_STATE,       HUB_STATE_SESSION,  HUB_STATE_NONCE, HUB_STATE_X,
                                          HUB_STATE_Y,             HUB_STATE_CERTIFICATE, HUB_STATE_EXPECTED, HUB_STATE_HEARD, HUB_STATE_COUNT,
-                                         HUB_STATE_CHANNEL,       HUB_STATE_LAST,        HUB_STATE};
-const uint64_t through_kinds[7] = {HUB_REFUSED, HUB_REPLY, HUB_AGAIN, HUB_FAILURE, HUB_TAKEN, HUB_REPEAT, HUB_COMPLETE};
+                                         HUB_STATE_CHANNEL,       HUB_STATE_LAST,        HUB_STATE_BYTES};
+const uint64_t through_kinds[7] = {HUB_KIND_REFUSED, HUB_KIND_REPLY, HUB_KIND_AGAIN, HUB_KIND_FAILURE, HUB_KIND_TAKEN, HUB_KIND_REPEAT, HUB_KIND_COMPLETE};
 const uint64_t through_sealed[3] = {HUB_PLAIN, HUB_OPENED, HUB_STILL_SEALED};
 const uint64_t through_types[3] = {HUB_TYPE_DISCOVERY, HUB_TYPE_CONNECT, HUB_TYPE_SESSION};
-const uint64_t through_flags[5] = {HUB_FLAG_ACKNOWLEDGE, HUB_FLAG_HMAC, HUB_FLAG_ENCRYPTED, HUB_SEAL, HUB_FLAG_WAKE};
+const uint64_t through_flags[5] = {HUB_FLAG_ACKNOWLEDGE, HUB_FLAG_HMAC, HUB_FLAG_ENCRYPTED, HUB_FLAGS_SEALED, HUB_FLAG_WAKE};
 const uint64_t through_connects[7] = {HUB_CONNECTION_REQUEST, HUB_CONNECTION_RESPONSE, HUB_AUTHENTICATION_REQUEST, HUB_AUTHENTICATION_RESPONSE,
-                                      HUB_DONE_REQUEST,       HUB_DONE_RESPONSE,       HUB_CONNECT_FAILURE};
+                                      HUB_DONE_REQUEST,       HUB_DONE_RESPONSE,       HUB_AUTHENTICATION_FAILURE};
 const uint64_t through_modes[3] = {HUB_MODE_NONE, HUB_MODE_PROXIMAL, HUB_MODE_LEGACY};
 const uint64_t through_codes[5] = {HUB_SUCCESS, HUB_PENDING, HUB_FAILURE_AUTHENTICATION, HUB_FAILURE_NOT_ALLOWED, HUB_FAILURE_UNKNOWN};
 const uint64_t through_states[5] = {HUB_WAITING_FOR_REQUEST, HUB_WAITING_FOR_AUTHENTICATION, HUB_PASSED, HUB_READY, HUB_FAILED};
