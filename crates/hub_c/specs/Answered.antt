@@ -51,6 +51,9 @@ abbrev pub WithinReport : Type 0
 WithinReport = (state message keys working report answer : List ℕ) (verdict : ℕ) → wrongStep state report answer ≡ false
     → said (step (connectionAt state) message keys working report verdict .answer) .detail ≤ length report
 
--- The premise is met by every buffer while nothing is heard of a report: none is too short, not even an empty one.
-abbrev pub AnyBufferFirst : Type 0
-AnyBufferFirst = (c : Connection) (number room : ℕ) → c .progress ≡ expecting number → shortReport c room ≡ false
+-- Whoever keeps lending the same report buffer is never told that it is too short, whatever comes: none is while nothing is heard of a report,
+-- not even an empty one, and no step makes one too short that was not.
+pub record NeverShort : Type 0 where
+  pub first : (c : Connection) (number room : ℕ) → c .progress ≡ expecting number → shortReport c room ≡ false
+  pub kept : (state message keys working report : List ℕ) (verdict : ℕ) → shortReport (connectionAt state) (length report) ≡ false
+      → shortReport (step (connectionAt state) message keys working report verdict .connection) (length report) ≡ false

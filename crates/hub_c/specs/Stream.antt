@@ -1,6 +1,6 @@
 -- SPDX-License-Identifier: MPL-2.0
 -- A stream of messages that come back to back: where the next one ends.
-use Prim.Native.Nat.{ℕ, _≤_}
+use Prim.Native.Nat.{ℕ, _≤_, _<_}
 use mathlib.Core.Path.{_≡_}
 use mathlib.Core.List.{List, _++_}
 use mathlib.Core.Bool.{cond}
@@ -13,8 +13,13 @@ use Rattle.wire.specs.Reader.{readHeader, wanted}
 unfoldable pub wantedBy : List ℕ → ℕ
 wantedBy bytes = cond (ltb (length bytes) 4) 42 (wanted bytes)
 
--- A message that the reader of headers does not refuse, and after it any bytes: what stands in the first four bytes, or in more, is the message's
--- length.
-abbrev pub NextMessage : Type 0
-NextMessage = (message more : List ℕ) (n : ℕ) → foundHeader (readHeader message) .refusal ≡ 0 → 4 ≤ n
-    → wantedBy (take n (message ++ more)) ≡ length message
+-- What the bytes say that have come of a message, which the reader of headers does not refuse, and of what follows it. Before MessageLength is there, the
+-- least; from then on the message's length. So whoever reads as many bytes as are missing never has one of the message after; and what was said once
+-- MessageLength is there does not change.
+pub record NextMessage : Type 0 where
+  pub unknown : (bytes : List ℕ) → length bytes < 4 → wantedBy bytes ≡ 42
+  pub known : (message more : List ℕ) (n : ℕ) → foundHeader (readHeader message) .refusal ≡ 0 → 4 ≤ n
+      → wantedBy (take n (message ++ more)) ≡ length message
+  pub never-past : (message more : List ℕ) (n : ℕ) → foundHeader (readHeader message) .refusal ≡ 0
+      → wantedBy (take n (message ++ more)) ≤ length message
+  pub steady : (bytes more : List ℕ) → 4 ≤ length bytes → wantedBy (bytes ++ more) ≡ wantedBy bytes
