@@ -709,7 +709,7 @@ uint32_t hub_open(uint64_t fragment_size, uint8_t *state, size_t state_n);
  * On refusal answer is 0, 0, 0 (HUB_KIND_REFUSED); state and report are as they were. So is working for 1 to 13, 24 and 25; for the others its first
  *           bytes hold the opened sealed part of a sealed message.
  * Proved    StepExact, LeavesAlone, WorkingBuffer, ByHostStates, StepsByState, RepeatedStep, RepeatedBytes, OnlyByZero, HeardCount, DemandThree,
- *           WithinReport, AnyBufferFirst.
+ *           WithinReport, NeverShort.
  */
 HUB_ANSWER_MATTERS
 uint32_t hub_step(uint8_t *state, size_t state_n, const uint8_t *message, size_t message_n, const uint8_t *keys, size_t keys_n, uint8_t *working,

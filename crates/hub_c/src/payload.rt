@@ -1,6 +1,8 @@
 // SPDX-License-Identifier: MPL-2.0
 // The payloads of Discovery and Connect written, each at the start of its output, with its length in one word. A buffer of another size than the
 // call asks for, or a word with no room in its field, is 255; then 14 and 22 refuse, leave the output as it was, and the length is 0.
+use super::words::MOST_BYTE;
+use super::words::MOST_SHORT;
 use super::words::WRONG_BUFFER;
 use super::words::fill;
 use super::words::hand_length;
@@ -27,11 +29,6 @@ const NONCE: usize = 8;
 
 const COORDINATE: usize = 32;
 
-// The greatest numbers that have room in a mode, and in a type, a Result or a Status.
-const MOST_MODE: u64 = 65535;
-
-const MOST_CODE: u64 = 255;
-
 // The Result of a Connection Response that is Pending.
 const PENDING_RESULT: u64 = PENDING as u64;
 
@@ -39,7 +36,7 @@ const PENDING_RESULT: u64 = PENDING as u64;
 fn wrong_words(size: usize, mode: u64, code: u64) -> bool
     ensures { λ r. ⌜ r ≡ wrongWords size mode code ⌝ }
 {
-    (size != 1) | (MOST_MODE < mode) | (MOST_CODE < code)
+    (size != 1) | (MOST_SHORT < mode) | (MOST_BYTE < code)
 }
 
 // Nonce, X or Y has another size.

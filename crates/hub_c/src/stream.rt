@@ -1,5 +1,6 @@
 // SPDX-License-Identifier: MPL-2.0
 // A stream of messages that come back to back.
+use wire::header::SHORTEST;
 use wire::header::wanted;
 ghost use mathlib.Core.Path.{_≡_};
 ghost use Rattle.hub_c.specs.Stream.{wantedBy};
@@ -8,7 +9,7 @@ ghost use Rattle.hub_c.specs.Stream.{wantedBy};
 const FIRST: usize = 4;
 
 // The fewest bytes of a message.
-const LEAST: u32 = 42;
+const LEAST: u32 = SHORTEST as u32;
 
 // How many bytes the next message of a stream has: "MessageLength bytes at a time, at least 42". Before MessageLength is there it is 42.
 #[no_mangle]

@@ -10,6 +10,11 @@ ghost use Rattle.writer.specs.Answers.{wrote};
 // The number of a call that was lent a buffer of the wrong size, or given a word too wide for its field.
 pub(crate) const WRONG_BUFFER: u32 = 255;
 
+// The greatest numbers that have room in a field of one byte, and of two.
+pub(crate) const MOST_BYTE: u64 = 255;
+
+pub(crate) const MOST_SHORT: u64 = 65535;
+
 // The words of a place, of an answer and of a piece.
 pub(crate) const PLACE: usize = 3;
 

@@ -1,5 +1,7 @@
 // SPDX-License-Identifier: MPL-2.0
 // Writing a message whose fields are given in words: type, flags, sequence, request, index, count, session, channel.
+use super::words::MOST_BYTE;
+use super::words::MOST_SHORT;
 use super::words::WRONG_BUFFER;
 use super::words::hand_length;
 use super::words::word;
@@ -16,11 +18,7 @@ ghost use Rattle.hub_c.specs.Written.{fieldsOf, tooWide, wrongFields};
 // The words of a header that is to be written.
 const FIELDS: usize = 8;
 
-// The greatest numbers that have room in the fields of a header: a type; flags, index and count; a sequence number.
-const MOST_BYTE: u64 = 255;
-
-const MOST_SHORT: u64 = 65535;
-
+// The greatest sequence number.
 const MOST_SEQUENCE: u64 = 4294967295;
 
 // A word has no room in its field.

@@ -5,7 +5,11 @@ use crate::CONNECTION_RESPONSE;
 use crate::DEVICE_REQUEST;
 use crate::DEVICE_RESPONSE;
 use crate::DONE_RESPONSE;
+use crate::KEY_SIZE;
+use crate::NONCE_AT;
 use crate::PENDING;
+use crate::X_AT;
+use crate::Y_AT;
 use crate::reading::Span;
 use crate::reading::certificate_of;
 use crate::reading::code_of;
@@ -18,6 +22,11 @@ use wire::refusals::WRONG_PAYLOAD;
 ghost use mathlib.Core.Path.{_≡_};
 ghost use mathlib.Core.Bool.{cond};
 ghost use Rattle.payloads.specs.Connect.{nowhere, spanIf, noConnect, notConnect, saidConnect, readConnect};
+
+// The bytes of a nonce, and of X and of Y.
+const NONCE: usize = 8;
+
+const COORDINATE: usize = KEY_SIZE as usize;
 
 // What a Connect payload says: its type and mode, its Result or Status, and the places of its parts. What its type has not is 0, and so is
 // everything beside a refusal.
@@ -101,9 +110,27 @@ fn said_connect(
         connect,
         mode,
         code: code_if(coded, code),
-        nonce: span_if(exchange, Span { from: 6, size: 8 }),
-        x: span_if(exchange, Span { from: 20, size: 32 }),
-        y: span_if(exchange, Span { from: 54, size: 32 }),
+        nonce: span_if(
+            exchange,
+            Span {
+                from: NONCE_AT,
+                size: NONCE,
+            },
+        ),
+        x: span_if(
+            exchange,
+            Span {
+                from: X_AT,
+                size: COORDINATE,
+            },
+        ),
+        y: span_if(
+            exchange,
+            Span {
+                from: Y_AT,
+                size: COORDINATE,
+            },
+        ),
         certificate: span_if(shown, certificate),
         thumbprint: span_if(shown, thumbprint),
     }

@@ -30,6 +30,13 @@ pub const NONE: u8 = 255;
 // Pending, the Result of a Connection Response that carries the host's half of the exchange.
 pub const PENDING: u8 = 1;
 
+// The places of nonce, X and Y in a payload that carries them.
+pub const NONCE_AT: usize = 6;
+
+pub const X_AT: usize = 20;
+
+pub const Y_AT: usize = 54;
+
 // The bytes of a payload that carries nonce, X and Y.
 pub const EXCHANGE_SIZE: usize = 86;
 // The number of HMACSize, and of bytes of X and of Y.

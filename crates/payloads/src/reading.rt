@@ -1,6 +1,9 @@
 // SPDX-License-Identifier: MPL-2.0
 // What is read out of a Connect payload.
+use crate::NONCE_AT;
 use crate::NONE;
+use crate::X_AT;
+use crate::Y_AT;
 use octets::numbers::byte;
 use octets::numbers::number16;
 ghost use mathlib.Core.Path.{_≡_};
@@ -62,9 +65,9 @@ pub fn read_request(payload: &[u8]) -> Request
     let mut nonce = [0u8; 8];
     let mut x = [0u8; 32];
     let mut y = [0u8; 32];
-    fill(payload, 6, &mut nonce);
-    fill(payload, 20, &mut x);
-    fill(payload, 54, &mut y);
+    fill(payload, NONCE_AT, &mut nonce);
+    fill(payload, X_AT, &mut x);
+    fill(payload, Y_AT, &mut y);
     Request { nonce, x, y }
 }
 

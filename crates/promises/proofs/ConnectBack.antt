@@ -1,13 +1,14 @@
 -- SPDX-License-Identifier: MPL-2.0
 -- A Connect payload taken apart. What was written is what the readers of fields read (`fields-back`), and it is not refused; the places of nonce,
 -- X and Y are those from which a Connection Request's format reads them. What is accepted as a payload that has them has 86 bytes.
-use Rattle.laws.proofs.Kit.{ℕ, zero, suc, _+_, _≤_, _<_, _≡_, refl, sym, _∙_, ap, Bool, true, false, true≢false, not, _&&_, List, [], _∷_, length}
-use Rattle.laws.proofs.Kit.{getD, List·getD-eq-default, le-of-suc-le-suc, not-suc-le-zero, eqb, eqb-true, leb, ltb, ltb-false, not-false, cond, arith}
+use Rattle.laws.proofs.Kit.{ℕ, _+_, _≤_, _<_, _≡_, refl, sym, _∙_, ap, Bool, true, false, true≢false, not, _&&_, List, [], _∷_, length}
+use Rattle.laws.proofs.Kit.{List·getD-eq-default, eqb, eqb-true, ne-eqb, leb, ltb, ltb-false, not-false, cond, arith}
 use Rattle.laws.proofs.Kit.{and-false}
 use Prim.Native.Nat.{zero-le}
 use borrow.Author.Tests.{not-true}
 use Rattle.laws.proofs.Bools.{and-true, or-none}
 use Rattle.laws.proofs.Cases.{on}
+use Rattle.laws.proofs.Lists.{getD-any}
 use Rattle.laws.proofs.Parts.{bytesAt-part}
 use Rattle.laws.specs.Bytes.{be8, be16}
 use Rattle.payloads.specs.Format.{Format, _and_, endsFrom, holdsFrom, readFrom, acceptsFrom, accepts, read}
@@ -19,8 +20,8 @@ use Rattle.payloads.specs.declared.reading.Request.{Request}
 use Rattle.payloads.specs.declared.reading.Span.{Span}
 use Rattle.writer.specs.Payload.{exchangeValues, responseFormat, responseValues}
 use Rattle.promises.specs.Fields.{WrotePayload, spanOf}
-use Rattle.promises.specs.Connects.{Names, NamesExchange, ConnectBack, Lies, ConnectLies}
-use Rattle.promises.proofs.FieldsBack.{fields-back, values-back}
+use Rattle.promises.specs.Connects.{Names, NamesExchange, NoExchange, NoCertificate, ConnectBack, Lies, ConnectLies}
+use Rattle.promises.proofs.FieldsBack.{ends, fields-back, values-back}
 
 -- Nonce, X and Y of a payload of 86 bytes lie where they are read from.
 exchange-named : (p : List ℕ) (r : Request) → notConnect p ≡ false → hasExchange (connectType p) (codeOf p) ≡ true → length p ≡ 86 → readRequest p ≡ r
@@ -34,11 +35,7 @@ exchange-named p r good has l e =
       y = sym (bytesAt-part p 54 32 (omega arith)) ∙ ap (λ (r : Request). r .y) e;
     })
 
--- A payload ends where its format does.
-ends : (f : Format) (p : List ℕ) → accepts f p ≡ true → length p ≡ endsFrom f p 0
-unfolding acceptsFrom
-ends f p h = eqb-true (length p) (endsFrom f p 0) (and-true (holdsFrom f p 0) _ h .1)
-
+-- A payload that is accepted is as its format says.
 holds : (f : Format) (p : List ℕ) → accepts f p ≡ true → holdsFrom f p 0 ≡ true
 unfolding acceptsFrom
 holds f p h = and-true (holdsFrom f p 0) _ h .0
@@ -53,29 +50,39 @@ named p t m s good type mode code = rw good (record { accepted = refl; connect =
 sealed-good : (p : List ℕ) → badPayload 2 true p ≡ false → notConnect p ≡ false
 sealed-good p e = rw e (and-false (badPayload 2 false p))
 
+-- What its type has not is not named.
+module _ (p : List ℕ) (good : notConnect p ≡ false) where
+  no-exchange : hasExchange (connectType p) (codeOf p) ≡ false → NoExchange (readConnect p)
+  unfolding readConnect
+  no-exchange e = rw (good, e) (record { nonce = refl; x = refl; y = refl })
+
+  no-certificate : hasCertificate (connectType p) ≡ false → NoCertificate (readConnect p)
+  unfolding readConnect
+  no-certificate e = rw (good, e) (record { certificate = refl; thumbprint = refl })
+
 request : (mode : ℕ) (r : Request) (p : List ℕ) → WrotePayload connectionRequest (exchangeValues mode r) p
-    → Names (readConnect p) 0 mode 0 × NamesExchange p (readConnect p) r
+    → Names (readConnect p) 0 mode 0 × NamesExchange p (readConnect p) r × NoCertificate (readConnect p)
 unfolding endsFrom
 request mode r p w =
     let b = fields-back .connection-request mode r p w in
-    let good : notConnect p ≡ false = rw (b .0) in
-    (named p 0 mode 0 good (b .2) (b .1) refl, exchange-named p r good (rw (b .2)) (ends connectionRequest p (values-back _ _ p w .0)) (b .3))
+    let good : notConnect p ≡ false = rw (b .0) in (
+      named p 0 mode 0 good (b .2) (b .1) refl,
+      exchange-named p r good (rw (b .2)) (ends connectionRequest p (values-back _ _ p w .0)) (b .3),
+      no-certificate p good (rw (b .2)),
+    )
 
 response : (mode result : ℕ) (r : Request) (p : List ℕ) → WrotePayload (responseFormat (eqb result 1)) (responseValues (eqb result 1) mode result r) p
     → Names (readConnect p) 1 mode result × (result ≡ 1 → NamesExchange p (readConnect p) r)
+    × ((result ≡ 1 → ⊥) → NoExchange (readConnect p)) × NoCertificate (readConnect p)
 unfolding endsFrom
 response mode result r p w =
     let b = fields-back .connection-response mode result r p w in
     let good : notConnect p ≡ false = rw (b .0) in (
       named p 1 mode result good (b .2) (b .1) (b .3),
-      λ z. exchange-named p r good (rw (b .2, b .3, z)) (ends pendingResponse p (rw z at (values-back _ _ p w .0))) (b .4 z),
+      (λ z. exchange-named p r good (rw (b .2, b .3, z)) (ends pendingResponse p (rw z at (values-back _ _ p w .0))) (b .4 z)),
+      (λ z. no-exchange p good (rw (b .2, b .3) (ne-eqb result 1 z))),
+      no-certificate p good (rw (b .2)),
     )
-
--- A byte that is there is read whatever stands for one that is not.
-there : (p : List ℕ) (i d e : ℕ) → i < length p → getD p i d ≡ getD p i e
-there [] i d e l = absurd (not-suc-le-zero l)
-there (x ∷ xs) zero d e l = refl
-there (x ∷ xs) (suc i) d e l = there xs i d e (le-of-suc-le-suc l)
 
 -- The type of a Device Authentication payload is 2 or 3.
 device-type : (p : List ℕ) → accepts deviceAuthentication p ≡ true → hasCertificate (connectType p) ≡ true
@@ -83,33 +90,44 @@ unfolding holdsFrom endsFrom
 device-type p h =
     let l = ends deviceAuthentication p h in
     let t = and-true (hasCertificate (be8 p 2)) _ (and-true (leb (be16 p 0) 2) _ (holds deviceAuthentication p h) .1) .0 in
-    rw (there p 2 255 0 (omega arith)) t
+    rw (getD-any p 2 255 0 (omega arith)) t
 
--- It has no Result and no Status.
-uncoded : (t n : ℕ) → hasCertificate t ≡ true → cond (hasCode t) n 0 ≡ 0
-uncoded t n h =
-    on (eqb t 2) (λ e. rw (eqb-true t 2 e)) (λ e. rw (eqb-true t 3 (rw e at h)))
+-- What holds of both holds of it: it has no Result and no Status, and no nonce, X and Y.
+of-device : (P : ℕ → Type 0) (t : ℕ) → P 2 → P 3 → hasCertificate t ≡ true → P t
+of-device P t two three h = on (eqb t 2) (λ e. rw (eqb-true t 2 e) two) (λ e. rw (eqb-true t 3 (rw e at h)) three)
+
+device-apart : (t c : ℕ) → hasCertificate t ≡ true → hasExchange t c ≡ false
+device-apart t c = of-device (λ t. hasExchange t c ≡ false) t refl refl
 
 device : (connect mode : ℕ) (certificate thumbprint p : List ℕ)
     → WrotePayload deviceAuthentication (mode and connect and certificate and thumbprint and tt) p
     → Names (readConnect p) connect mode 0 × (spanOf p (readConnect p .certificate) ≡ certificate)
-    × (spanOf p (readConnect p .thumbprint) ≡ thumbprint)
+    × (spanOf p (readConnect p .thumbprint) ≡ thumbprint) × NoExchange (readConnect p)
 unfolding readConnect
 device connect mode certificate thumbprint p w =
     let b = fields-back .device-authentication connect mode certificate thumbprint p w in
     let good = sealed-good p (b .0) in
     let shown = device-type p (values-back _ _ p w .0) in
-    (named p connect mode 0 good (b .2) (b .1) (uncoded connect (codeOf p) (rw (b .2) at shown)), rw (good, shown) (b .3), rw (good, shown) (b .4))
+    let uncoded = of-device (λ t. cond (hasCode t) (codeOf p) 0 ≡ 0) connect refl refl (rw (b .2) at shown) in (
+      named p connect mode 0 good (b .2) (b .1) uncoded,
+      rw (good, shown) (b .3),
+      rw (good, shown) (b .4),
+      no-exchange p good (device-apart (connectType p) (codeOf p) shown),
+    )
 
-finish : (mode : ℕ) (p : List ℕ) → WrotePayload doneRequest (mode and tt) p → Names (readConnect p) 6 mode 0
+finish : (mode : ℕ) (p : List ℕ) → WrotePayload doneRequest (mode and tt) p
+    → Names (readConnect p) 6 mode 0 × NoExchange (readConnect p) × NoCertificate (readConnect p)
 finish mode p w =
     let b = fields-back .done-request mode p w in
-    named p 6 mode 0 (sealed-good p (b .0)) (b .2) (b .1) refl
+    let good = sealed-good p (b .0) in
+    (named p 6 mode 0 good (b .2) (b .1) refl, no-exchange p good (rw (b .2)), no-certificate p good (rw (b .2)))
 
-finished : (mode status : ℕ) (p : List ℕ) → WrotePayload doneResponse (mode and status and tt) p → Names (readConnect p) 7 mode status
+finished : (mode status : ℕ) (p : List ℕ) → WrotePayload doneResponse (mode and status and tt) p
+    → Names (readConnect p) 7 mode status × NoExchange (readConnect p) × NoCertificate (readConnect p)
 finished mode status p w =
     let b = fields-back .done-response mode status p w in
-    named p 7 mode status (sealed-good p (b .0)) (b .2) (b .1) (b .3)
+    let good = sealed-good p (b .0) in
+    (named p 7 mode status good (b .2) (b .1) (b .3), no-exchange p good (rw (b .2)), no-certificate p good (rw (b .2)))
 
 pub connect-back : ConnectBack
 connect-back =
@@ -143,7 +161,7 @@ typed : (t : ℕ) (rest : Format) (p : List ℕ) → accepts (ofType t rest) p �
 unfolding holdsFrom
 typed t rest p h l =
     let k = and-true (leb (be16 p 0) 2) _ (holds (ofType t rest) p h) .1 in
-    there p 2 255 0 l ∙ eqb-true (be8 p 2) t (and-true (eqb (be8 p 2) t) _ k .0)
+    getD-any p 2 255 0 l ∙ eqb-true (be8 p 2) t (and-true (eqb (be8 p 2) t) _ k .0)
 
 -- A Connection Response that is not Pending.
 other-apart : (p : List ℕ) → accepts otherResponse p ≡ true → hasExchange (connectType p) (codeOf p) ≡ false
@@ -152,10 +170,7 @@ other-apart p h =
     let l = ends otherResponse p h in
     let k = and-true (eqb (be8 p 2) 1) _ (and-true (leb (be16 p 0) 2) _ (holds otherResponse p h) .1) .1 in
     let n = and-true (leb (be8 p 3) 3) (not (eqb (be8 p 3) 1)) (and-true (leb (be8 p 3) 3 && not (eqb (be8 p 3) 1)) true k .0) .1 in
-    rw (typed 1 _ p h (omega arith), there p 3 255 0 (omega arith)) (not-true (eqb (be8 p 3) 1) n)
-
-device-apart : (t c : ℕ) → hasCertificate t ≡ true → hasExchange t c ≡ false
-device-apart t c h = on (eqb t 2) (λ e. rw (eqb-true t 2 e)) (λ e. rw (eqb-true t 3 (rw e at h)))
+    rw (typed 1 _ p h (omega arith), getD-any p 3 255 0 (omega arith)) (not-true (eqb (be8 p 3) 1) n)
 
 -- What is accepted as a payload that has nonce, X and Y has 86 bytes.
 exchange-long : (p : List ℕ) → notConnect p ≡ false → hasExchange (connectType p) (codeOf p) ≡ true → length p ≡ 86

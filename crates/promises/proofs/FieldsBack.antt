@@ -84,20 +84,20 @@ response mode result r p false e w =
 sized-part : (p : List ℕ) (at : ℕ) → at + 2 + be16 p at ≤ length p → spanOf p (sizedAt p at) ≡ bytesAt p (at + 2) (be16 p at)
 sized-part p at h = rw (le-ltb (length p) (at + 2 + be16 p at) h) (sym (bytesAt-part p (at + 2) (be16 p at) h))
 
--- The length of a Device Authentication payload that is accepted.
-device-length : (p : List ℕ) → accepts deviceAuthentication p ≡ true → length p ≡ 5 + be16 p 3 + 2 + be16 p (5 + be16 p 3)
-unfolding acceptsFrom endsFrom
-device-length p h = eqb-true (length p) _ (and-true (holdsFrom deviceAuthentication p 0) _ h .1)
+-- A payload that is accepted ends where its format does.
+pub ends : (f : Format) (p : List ℕ) → accepts f p ≡ true → length p ≡ endsFrom f p 0
+unfolding acceptsFrom
+ends f p h = eqb-true (length p) (endsFrom f p 0) (and-true (holdsFrom f p 0) _ h .1)
 
 device : (connect mode : ℕ) (certificate thumbprint p : List ℕ)
     → WrotePayload deviceAuthentication (mode and connect and certificate and thumbprint and tt) p
     → (badPayload 2 true p ≡ false) × (connectionMode p ≡ mode) × (connectType p ≡ connect)
     × (spanOf p (certificateOf p) ≡ certificate) × (spanOf p (thumbprintOf p) ≡ thumbprint)
-unfolding write readFrom certificateOf thumbprintOf
+unfolding write readFrom endsFrom certificateOf thumbprintOf
 device connect mode certificate thumbprint p w =
     let s = says _ _ p w in
     let a = accepted _ _ p w in
-    let l = device-length p a in (
+    let l = ends deviceAuthentication p a in (
       shape-good p 4 (lit< tt) a,
       (λ i. s i .0),
       ap connectType (is _ _ p w),

@@ -1,6 +1,5 @@
 -- SPDX-License-Identifier: MPL-2.0
 -- Field by field.
-use Rattle.laws.proofs.Kit.{needs}
 use Rattle.payloads.proofs.connect.no_connect.Statement.{statement}
 use Rattle.payloads.proofs.connect.no_connect.Tie as tie
 
