@@ -49,8 +49,8 @@
 //!
 //! ```
 //! use hlidunsk::payload::{Connect, ConnectionResult, Exchange, Mode, Status, MOST_PAYLOAD};
-//! use hlidunsk::{cut, read, write, Answer, Connection, Keys, Refusal, Reply, State};
-//! use hlidunsk::{MOST_WRITTEN, MOST_PIECES, MOST_REPLY, MOST_SEALED, NO_ENTRIES};
+//! use hlidunsk::{cut, read, read_header, write, Answer, Connection, Keys, MessageType, Refusal};
+//! use hlidunsk::{Reply, State, MOST_PIECES, MOST_REPLY, MOST_SEALED, MOST_WRITTEN, NO_ENTRIES};
 //!
 //! const F: usize = 16; // the bytes of a piece
 //! const SESSION: u64 = 42;
@@ -58,7 +58,8 @@
 //! const GATEWAY: &[u8] = b"gateway 7, block 12, Merlot"; // stands for its certificate
 //! const HUB: &[u8] = b"the cooperative's hub"; // likewise
 //!
-//! /// Stands for the key agreement: our half, and the keys that both halves lead to.
+//! /// Stands for the key agreement: our half, and the keys that both halves lead to, with a secret
+//! /// that only this gateway and the hub have.
 //! fn agree(_theirs: Exchange) -> (Exchange, Keys) {
 //!     (Exchange { nonce: *b"nonce  2", x: [3; 32], y: [4; 32] }, [7; 64])
 //! }
@@ -87,9 +88,14 @@
 //! }
 //!
 //! impl Hub {
-//!     /// The verdict: whether a message shows a certificate that is accepted.
-//!     fn accepts(&mut self, message: &[u8]) -> bool {
-//!         let message = read(message, self.keys.as_ref(), &mut self.working);
+//!     /// The verdict: whether a message shows the certificate that is known, exactly. Only a sealed
+//!     /// Connect message shows one; nothing else is opened.
+//!     fn accepts(&mut self, came: &[u8]) -> bool {
+//!         let Ok(framed) = read_header(came) else { return false };
+//!         if !framed.header.is_sealed() || framed.header.message_type != MessageType::Connect {
+//!             return false;
+//!         }
+//!         let message = read(came, self.keys.as_ref(), &mut self.working);
 //!         let shown = message.and_then(|message| Connect::read(message.payload));
 //!         matches!(shown, Ok(Connect::DeviceAuthenticationRequest { certificate: GATEWAY, .. }))
 //!     }
@@ -147,6 +153,7 @@
 //!     assert!(matches!(hub.take(&sent[..length])?, Answer::Reply(_)));
 //!     assert!(matches!(hub.take(&sent[..length])?, Answer::Again(_)));
 //!     let reply = read(&hub.reply[..hub.reply_n], keys.as_ref(), &mut working)?;
+//!     assert_eq!(reply.header.message_type, MessageType::Connect);
 //!     match Connect::read(reply.payload)? {
 //!         Connect::ConnectionResponse { result: ConnectionResult::Pending(theirs), .. } => {
 //!             keys = Some(agree(theirs).1);

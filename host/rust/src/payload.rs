@@ -325,6 +325,9 @@ impl<'a> Connect<'a> {
 
     /// Reads the payload of a Connect message. Certificate and thumbprint are parts of it.
     ///
+    /// The payload alone does not tell a Connect message from a Session message, whose payload may
+    /// be any bytes: ask the header's [`message_type`](Header::message_type) first.
+    ///
     /// ```
     /// # use hlidunsk::payload::{Connect, Mode};
     /// # use hlidunsk::Refusal;
@@ -333,6 +336,7 @@ impl<'a> Connect<'a> {
     /// # Connect::DeviceAuthenticationRequest { mode: Mode::None, certificate, thumbprint }
     /// #     .write(&mut room)?;
     /// # let payload = &room;
+    /// // The header said that the message is sealed, and a Connect message.
     /// let accepted = match Connect::read(payload)? {
     ///     Connect::DeviceAuthenticationRequest { certificate, .. } => certificate == b"gateway 7",
     ///     _ => false,
