@@ -36,7 +36,7 @@
 //! | Call | What it does |
 //! |---|---|
 //! | [`Connect::write`], [`write()`] | make the payload of a request, and its message |
-//! | [`read`], [`Connect::read`] | open a reply, and take it apart |
+//! | [`read`], [`Message::connect`] | open a reply, and take it apart |
 //! | [`cut`] | cuts a report; [`write()`] makes the message of each piece |
 //!
 //! The library opens no socket, keeps no time, agrees on no key and judges no certificate: the
@@ -76,14 +76,22 @@
 //!     write(&connect.header(SESSION, sequence), NO_ENTRIES, &payload[..length], keys, out)
 //! }
 //!
+//! /// Which of the three replies it is.
+//! fn which(reply: Reply) -> usize {
+//!     match reply {
+//!         Reply::ConnectionResponse => 0,
+//!         Reply::DeviceAuthenticationResponse => 1,
+//!         Reply::DoneResponse(_) => 2,
+//!     }
+//! }
+//!
 //! /// All that the hub has of one gateway.
 //! struct Hub {
 //!     connection: Connection,
 //!     keys: Option<Keys>,
 //!     working: [u8; MOST_SEALED],
 //!     report: [u8; MOST_PIECES * F],
-//!     reply: [u8; MOST_REPLY],
-//!     reply_n: usize,
+//!     replies: [Vec<u8>; 3],
 //!     sequence: u32, // of its next Connect message
 //! }
 //!
@@ -95,19 +103,19 @@
 //!         if !framed.header.is_sealed() || framed.header.message_type != MessageType::Connect {
 //!             return false;
 //!         }
-//!         let message = read(came, self.keys.as_ref(), &mut self.working);
-//!         let shown = message.and_then(|message| Connect::read(message.payload));
-//!         matches!(shown, Ok(Connect::DeviceAuthenticationRequest { certificate: GATEWAY, .. }))
+//!         let message = read(came, self.keys.as_ref(), &mut self.working).ok();
+//!         let shown = message.and_then(|message| message.connect());
+//!         matches!(shown, Some(Connect::DeviceAuthenticationRequest { certificate: GATEWAY, .. }))
 //!     }
 //!
-//!     /// Takes a message, and leaves in `reply` what is to be sent on `Reply` and on `Again`.
+//!     /// Takes a message, and leaves in `replies` what is to be sent on `Reply` and on `Again`.
 //!     fn take(&mut self, came: &[u8]) -> Result<Answer<'_>, Refusal> {
 //!         let asked = self.connection.state() == State::WaitingForAuthentication;
 //!         let accepted = asked && self.accepts(came);
 //!         let (keys, working) = (self.keys.as_ref(), &mut self.working);
 //!         let answer = self.connection.step(came, keys, working, &mut self.report, accepted)?;
 //!         if let Answer::Reply(reply) = answer {
-//!             let reply = match reply {
+//!             let connect = match reply {
 //!                 Reply::ConnectionResponse => {
 //!                     let (ours, keys) = agree(self.connection.exchange());
 //!                     self.keys = Some(keys);
@@ -121,7 +129,9 @@
 //!                 },
 //!                 Reply::DoneResponse(status) => Connect::DoneResponse { mode: MODE, status },
 //!             };
-//!             self.reply_n = message(&reply, self.sequence, self.keys.as_ref(), &mut self.reply)?;
+//!             let mut out = [0; MOST_REPLY];
+//!             let length = message(&connect, self.sequence, self.keys.as_ref(), &mut out)?;
+//!             self.replies[which(reply)] = out[..length].to_vec();
 //!             self.sequence += 1;
 //!         }
 //!         Ok(answer)
@@ -133,8 +143,7 @@
 //!     keys: None,
 //!     working: [0; MOST_SEALED],
 //!     report: [0; MOST_PIECES * F],
-//!     reply: [0; MOST_REPLY],
-//!     reply_n: 0,
+//!     replies: [vec![], vec![], vec![]],
 //!     sequence: 0xC000_0000,
 //! };
 //!
@@ -151,15 +160,14 @@
 //! for (request, sequence) in requests.iter().zip(0x8000_0000..) {
 //!     let length = message(request, sequence, keys.as_ref(), &mut sent)?;
 //!     assert!(matches!(hub.take(&sent[..length])?, Answer::Reply(_)));
-//!     assert!(matches!(hub.take(&sent[..length])?, Answer::Again(_)));
-//!     let reply = read(&hub.reply[..hub.reply_n], keys.as_ref(), &mut working)?;
-//!     assert_eq!(reply.header.message_type, MessageType::Connect);
-//!     match Connect::read(reply.payload)? {
-//!         Connect::ConnectionResponse { result: ConnectionResult::Pending(theirs), .. } => {
+//!     let Answer::Again(reply) = hub.take(&sent[..length])? else { panic!("another step") };
+//!     let reply = read(&hub.replies[which(reply)], keys.as_ref(), &mut working)?;
+//!     match reply.connect() {
+//!         Some(Connect::ConnectionResponse { result: ConnectionResult::Pending(theirs), .. }) => {
 //!             keys = Some(agree(theirs).1);
 //!         }
-//!         Connect::DeviceAuthenticationResponse { certificate: HUB, .. } => {}
-//!         Connect::DoneResponse { status: Status::Success, .. } => {}
+//!         Some(Connect::DeviceAuthenticationResponse { certificate: HUB, .. }) => {}
+//!         Some(Connect::DoneResponse { status: Status::Success, .. }) => {}
 //!         other => panic!("{other:?}"),
 //!     }
 //! }

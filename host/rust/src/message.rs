@@ -1,6 +1,7 @@
 // SPDX-License-Identifier: MPL-2.0
 //! Messages: reading and writing.
 
+use crate::payload::Connect;
 use crate::{ffi, Refusal};
 
 /// The 64 key bytes: 16 encryption key, 16 vector key, 32 HMAC key. They are new for each
@@ -197,6 +198,37 @@ pub struct Message<'a> {
     pub payload: &'a [u8],
 }
 
+impl<'a> Message<'a> {
+    /// What a Connect message says; none where it is another message.
+    ///
+    /// A Session message may carry any bytes, those of a Connect payload too, and is none all the
+    /// same:
+    ///
+    /// ```
+    /// # use hlidunsk::payload::{Connect, Mode};
+    /// # use hlidunsk::{cut, read, write, Refusal, MOST_REPLY, MOST_SEALED, NO_ENTRIES};
+    /// # let (keys, mut payload, mut working) = ([7; 64], [0; 3], [0; MOST_SEALED]);
+    /// # let mut message = [0; MOST_REPLY];
+    /// let done = Connect::DoneRequest { mode: Mode::None };
+    /// done.write(&mut payload)?;
+    /// let piece = cut(&payload, 16, 0)?;
+    /// for (header, says) in [(done.header(42, 9), Some(done)), (piece.header(42, 0), None)] {
+    ///     let length = write(&header, NO_ENTRIES, &payload, Some(&keys), &mut message)?;
+    ///     let came = read(&message[..length], Some(&keys), &mut working)?;
+    ///     assert_eq!(came.payload, payload);
+    ///     assert_eq!(came.connect(), says);
+    /// }
+    /// # Ok::<(), Refusal>(())
+    /// ```
+    pub fn connect(&self) -> Option<Connect<'a>> {
+        match self.header.message_type {
+            // A message that was read has a payload of document 01: else it was refused with 14.
+            MessageType::Connect => Connect::read(self.payload).ok(),
+            MessageType::Discovery | MessageType::Session => None,
+        }
+    }
+}
+
 /// Reads a message's header and chain, which needs no keys.
 ///
 /// What a sealed message carries is not read: its body is [`Body::Sealed`], which is no payload.
@@ -248,7 +280,7 @@ pub fn read_header(message: &[u8]) -> Result<Framed<'_>, Refusal> {
 /// let mut working = [0; MOST_SEALED];
 /// let came = read(message, Some(&keys), &mut working)?;
 /// assert_eq!(came.header.session, 42);
-/// assert_eq!(Connect::read(came.payload)?, Connect::DoneRequest { mode: Mode::None });
+/// assert_eq!(came.connect(), Some(Connect::DoneRequest { mode: Mode::None }));
 ///
 /// // Without keys nothing sealed is read, and under others its tag is wrong.
 /// assert_eq!(read(message, None, &mut working), Err(Refusal::WrongKeys));

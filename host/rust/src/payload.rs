@@ -26,7 +26,7 @@
 //!
 //! // And back.
 //! let came = read(&message[..length], None, &mut [])?;
-//! assert_eq!(Connect::read(came.payload)?, request);
+//! assert_eq!(came.connect(), Some(request));
 //! # Ok::<(), Refusal>(())
 //! ```
 
@@ -326,7 +326,8 @@ impl<'a> Connect<'a> {
     /// Reads the payload of a Connect message. Certificate and thumbprint are parts of it.
     ///
     /// The payload alone does not tell a Connect message from a Session message, whose payload may
-    /// be any bytes: ask the header's [`message_type`](Header::message_type) first.
+    /// be any bytes: ask the header's [`message_type`](Header::message_type) first, as
+    /// [`Message::connect`](crate::Message::connect) does.
     ///
     /// ```
     /// # use hlidunsk::payload::{Connect, Mode};
