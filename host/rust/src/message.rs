@@ -26,7 +26,8 @@ pub const NO_ENTRIES: &[u8] = &[0, 0];
 /// The longest message that [`write()`] makes.
 pub const MOST_WRITTEN: usize = 18_530;
 
-/// The longest Connect message without entries in its chain: room of this size holds every reply.
+/// The longest Connect message without entries in its chain: room of this size holds every reply
+/// that is written with [`NO_ENTRIES`].
 pub const MOST_REPLY: usize = 2_650;
 
 /// The longest sealed part of a message: a working buffer of this size is enough for all.
@@ -104,7 +105,7 @@ pub struct Header {
 }
 
 impl Header {
-    /// The flag of a message that is to be acknowledged.
+    /// The flag of a message that is to be acknowledged. Nothing here looks at it.
     pub const ACKNOWLEDGE: u16 = 1;
     /// The flag of a message with a tag.
     pub const HMAC: u16 = 2;
@@ -112,7 +113,7 @@ impl Header {
     pub const ENCRYPTED: u16 = 4;
     /// Both flags of a sealed message: one without the other is refused with 6.
     pub const SEALED: u16 = Header::HMAC | Header::ENCRYPTED;
-    /// The flag of a message that wakes its receiver.
+    /// The flag of a message that wakes its receiver. Nothing here looks at it.
     pub const WAKE: u16 = 8;
 
     /// Whether the message is sealed: both flags of [`Header::SEALED`] are set.
@@ -335,11 +336,13 @@ pub fn read<'a>(
 ///
 /// It is sealed if the header's flags say so, which needs keys. The vector is made of SessionID,
 /// SequenceNumber, index and count: never write two sealed messages with the same four under the
-/// same keys. `chain` is the additional headers with their end: [`NO_ENTRIES`] where there are
-/// none. The payload of a Session message is any 0 to 16,384 bytes; the others' are those of
-/// [`payload`](crate::payload). `out` has to have 42 bytes more than entries and payload where the
-/// message is plain, else 74 more than entries and payload + 4 rounded up to a multiple of 16. What
-/// is beyond the message is unchanged.
+/// same keys.
+///
+/// `chain` is the additional headers with their end: [`NO_ENTRIES`] where there are none. Bytes
+/// after the end are refused with 8. The payload of a Session message is any 0 to 16,384 bytes; the
+/// others' are those of [`payload`](crate::payload). `out` has to have 42 bytes more than entries
+/// and payload where the message is plain, else 74 more than entries and payload + 4 rounded up to a
+/// multiple of 16. What is beyond the message is unchanged.
 ///
 /// ```
 /// # use hlidunsk::{cut, read, write, Refusal, MOST_WRITTEN, MOST_SEALED, NO_ENTRIES};

@@ -84,7 +84,8 @@ impl Mode {
 /// Response that is Pending.
 #[derive(Clone, Copy, Debug, PartialEq, Eq, Hash)]
 pub struct Exchange {
-    /// The nonce: random, and new for each request and for each response that is not sent again.
+    /// The nonce: random, and new for each request and for each response that is not sent again. One
+    /// that is sent again has the same nonce, X and Y.
     pub nonce: [u8; 8],
     /// X of the sender's public key.
     pub x: [u8; 32],
@@ -92,7 +93,7 @@ pub struct Exchange {
     pub y: [u8; 32],
 }
 
-/// The Result of a Connection Response, by MS-CDP's names.
+/// The Result of a Connection Response, by MS-CDP's names. Only Pending lets the gateway go on.
 #[derive(Clone, Copy, Debug, PartialEq, Eq, Hash)]
 pub enum ConnectionResult {
     /// 0.
@@ -252,8 +253,9 @@ impl<'a> Connect<'a> {
         }
     }
 
-    /// The header of its message, with the flags of a sealed one where it is sealed; RequestID and
-    /// ChannelID are 0. Give no two sealed messages under the same keys the same two numbers.
+    /// The header of its message, with the flags of a sealed one where it is sealed; index 0, count
+    /// 1; RequestID and ChannelID are 0. Give no two sealed messages under the same keys the same two
+    /// numbers.
     pub fn header(&self, session: u64, sequence: u32) -> Header {
         Header { session, sequence, ..Header::whole(MessageType::Connect, self.is_sealed()) }
     }
