@@ -33,8 +33,8 @@ impl Reply {
 pub enum Answer<'a> {
     /// Send this reply, and keep its bytes.
     Reply(Reply),
-    /// The message asks for a step that was made, and nothing has changed: the gateway has not heard
-    /// this reply, or an old request has come once more. Send the same bytes again, never a
+    /// The message asks for a step that was made, and nothing has changed: the gateway has not
+    /// heard this reply, or an old request has come once more. Send the same bytes again, never a
     /// Connection Response of a new nonce, X or Y.
     Again(Reply),
     /// The certificate was not accepted: send Authentication Failure, which the caller makes. From

@@ -207,8 +207,8 @@ impl Connection {
     }
 
     /// A connection that was stored. Every 151 bytes are one, though not all are what
-    /// [`Connection::open`] and [`Connection::step`] come to. While a report is under way its report
-    /// buffer has to come back with it ([Stored connections](crate#stored-connections)).
+    /// [`Connection::open`] and [`Connection::step`] come to. While a report is under way its
+    /// report buffer has to come back with it ([Stored connections](crate#stored-connections)).
     pub fn from_bytes(bytes: [u8; Connection::SIZE]) -> Connection {
         Connection(bytes)
     }

@@ -96,8 +96,8 @@
 //! }
 //!
 //! impl Hub {
-//!     /// The verdict: whether a message shows the certificate that is known, exactly. Only a sealed
-//!     /// Connect message shows one; nothing else is opened.
+//!     /// The verdict: whether a message shows exactly the certificate that is known. Only a
+//!     /// sealed Connect message shows one; nothing else is opened.
 //!     fn accepts(&mut self, came: &[u8]) -> bool {
 //!         let Ok(framed) = read_header(came) else { return false };
 //!         if !framed.header.is_sealed() || framed.header.message_type != MessageType::Connect {
@@ -196,9 +196,9 @@
 //! ## Keys
 //!
 //! The 64 key bytes come from a key agreement outside this library, and are new for each
-//! connection. The Connection Request and the Response, which give X, Y and nonces to it, are plain:
-//! keys or verdict must depend on all of these, for else it goes unnoticed where the link has
-//! damaged one or a stranger made it.
+//! connection. The Connection Request and the Response, which give X, Y and nonces to it, are
+//! plain: keys or verdict must depend on all of these, for else it goes unnoticed where the link
+//! has damaged one or a stranger made it.
 //!
 //! Under old keys and an old SessionID a new connection takes old messages once more; so does an
 //! old copy of a connection that is put back from a backup: store the newest copy alone, and open
@@ -240,12 +240,13 @@
 //! On [`Answer::Reply`] write the reply, send it, and keep its bytes. The replies of one connection
 //! are three messages of at most [`MOST_REPLY`] bytes each, without entries in the chain.
 //!
-//! [`Answer::Again`] is for a message that asks for the same step, not only for the same bytes: the
-//! gateway has not heard the reply, or somebody sends an old request once more. Send the same bytes
-//! again. Writing them anew is as good if every field, the payload and the keys are the same, for
-//! then the bytes are too; another payload under numbers that were used is not. Never write a
-//! Connection Response on Again but from the stored nonce, X and Y: new ones would cut off a gateway
-//! that is Ready, for whoever replays its request.
+//! [`Answer::Again`] is for a message that asks for the same step, not only for one of the same
+//! bytes: the gateway has not heard the reply, or somebody sends an old request once more. Send the
+//! same bytes again. Writing them anew is as good if every field, the payload and the keys are the
+//! same, for then the bytes are too; another payload under numbers that were used is not.
+//!
+//! Never write a Connection Response on Again but from the stored nonce, X and Y: new ones would
+//! cut off a gateway that is Ready, for whoever replays its request.
 //!
 //! A Connection Response lets the gateway go on only where its Result is
 //! [`Pending`](payload::ConnectionResult::Pending). With any other the connection is in
@@ -273,9 +274,9 @@
 //! number 8. How it is sent is the caller's: [`write()`] refuses it with 14, since document 01 has
 //! no such payload.
 //!
-//! The connection is in [`State::Failed`] from then on: only [`Connection::open`] helps. There is no
-//! Again for Failure: a request that comes again is refused with 15, and the caller may send Failure
-//! again.
+//! The connection is in [`State::Failed`] from then on: only [`Connection::open`] helps. There is
+//! no Again for Failure: a request that comes again is refused with 15, and the caller may send
+//! Failure again.
 //!
 //! ## Strangers
 //!
@@ -283,12 +284,12 @@
 //! connection that has taken such a one refuses the gateway's own with 15 or 16, and so does one
 //! that is Ready where a gateway starts over.
 //!
-//! So in every state but [`State::WaitingForRequest`], where a message is refused with 15 or 16, try
-//! it on a new connection, by [`Connection::open`] and a step without keys. If that answers
-//! [`Answer::Reply`], keep the new one beside the old one, with keys, replies and a report buffer of
-//! its own, and drop the old one when the new one has [`Passed`](State::Passed). Bound how many you
-//! keep. So neither a stranger nor an old request cuts a gateway off, and one that starts over is
-//! heard.
+//! So in every state but [`State::WaitingForRequest`], where a message is refused with 15 or 16,
+//! try it on a new connection, by [`Connection::open`] and a step without keys. If that answers
+//! [`Answer::Reply`], keep the new one beside the old one, with keys, replies and a report buffer
+//! of its own, and drop the old one when the new one has [`Passed`](State::Passed). Bound how many
+//! you keep. So neither a stranger nor an old request cuts a gateway off, and one that starts over
+//! is heard.
 //!
 //! While there are several, each message goes to one after the other until one does not refuse it;
 //! what is refused leaves a connection as it was. A gateway whose sealed requests get no reply
@@ -317,9 +318,9 @@
 //! stored, and [`Connection::from_bytes`] takes them when the hub starts again.
 //!
 //! While a report is under way the report buffer belongs to the connection: store both together, or
-//! open anew. A connection that is restored without its report buffer would complete a false report.
-//! At [`Answer::Complete`] store report and connection together, else a crash loses or doubles a
-//! report.
+//! open anew. A connection that is restored without its report buffer would complete a false
+//! report. At [`Answer::Complete`] store report and connection together, else a crash loses or
+//! doubles a report.
 //!
 //! ## Refusals
 //!
@@ -347,9 +348,9 @@
 //! opened, and is refused for what it says or when it comes, the first bytes of the working buffer
 //! hold what was opened.
 //!
-//! The stack that each call takes stands in a table in include/hub.h. The largest is hub_step, which
-//! [`Connection::step`] calls, with some 5,200 bytes. This is measured and not proved; what the code
-//! of this crate takes comes on top.
+//! The stack that each call takes stands in a table in include/hub.h. The largest is hub_step,
+//! which [`Connection::step`] calls, with some 5,200 bytes. This is measured and not proved; what
+//! the code of this crate takes comes on top.
 //!
 //! # Secrets and time
 //!

@@ -340,9 +340,11 @@ pub fn read<'a>(
 ///
 /// `chain` is the additional headers with their end: [`NO_ENTRIES`] where there are none. Bytes
 /// after the end are refused with 8. The payload of a Session message is any 0 to 16,384 bytes; the
-/// others' are those of [`payload`](crate::payload). `out` has to have 42 bytes more than entries
-/// and payload where the message is plain, else 74 more than entries and payload + 4 rounded up to a
-/// multiple of 16. What is beyond the message is unchanged.
+/// others' are those of [`payload`](crate::payload).
+///
+/// `out` has to have 42 bytes more than entries and payload where the message is plain, else 74
+/// more than entries and payload + 4 rounded up to a multiple of 16. What is beyond the message is
+/// unchanged.
 ///
 /// ```
 /// # use hlidunsk::{cut, read, write, Refusal, MOST_WRITTEN, MOST_SEALED, NO_ENTRIES};

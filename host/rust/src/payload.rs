@@ -84,8 +84,8 @@ impl Mode {
 /// Response that is Pending.
 #[derive(Clone, Copy, Debug, PartialEq, Eq, Hash)]
 pub struct Exchange {
-    /// The nonce: random, and new for each request and for each response that is not sent again. One
-    /// that is sent again has the same nonce, X and Y.
+    /// The nonce: random, and new for each request and for each response that is not sent again.
+    /// One that is sent again has the same nonce, X and Y.
     pub nonce: [u8; 8],
     /// X of the sender's public key.
     pub x: [u8; 32],
@@ -253,9 +253,9 @@ impl<'a> Connect<'a> {
         }
     }
 
-    /// The header of its message, with the flags of a sealed one where it is sealed; index 0, count
-    /// 1; RequestID and ChannelID are 0. Give no two sealed messages under the same keys the same two
-    /// numbers.
+    /// The header of its message, with the flags of a sealed one where it is sealed; index 0 and
+    /// count 1; RequestID and ChannelID are 0. Give no two sealed messages under the same keys the
+    /// same two numbers.
     pub fn header(&self, session: u64, sequence: u32) -> Header {
         Header { session, sequence, ..Header::whole(MessageType::Connect, self.is_sealed()) }
     }
@@ -340,11 +340,11 @@ impl<'a> Connect<'a> {
     /// #     .write(&mut room)?;
     /// # let payload = &room;
     /// // The header said that the message is sealed, and a Connect message.
-    /// let accepted = match Connect::read(payload)? {
+    /// let known = match Connect::read(payload)? {
     ///     Connect::DeviceAuthenticationRequest { certificate, .. } => certificate == b"gateway 7",
     ///     _ => false,
     /// };
-    /// assert!(accepted);
+    /// assert!(known);
     /// assert_eq!(Connect::read(b"any bytes"), Err(Refusal::WrongPayload));
     /// # Ok::<(), Refusal>(())
     /// ```
