@@ -8,7 +8,8 @@ use crate::Refusal;
 /// Which Connect payload the hub is to send.
 #[derive(Clone, Copy, Debug, PartialEq, Eq, Hash)]
 pub enum Reply {
-    /// A Connection Response: Result, nonce and key in it are the caller's.
+    /// A Connection Response: Result, nonce and key in it are the caller's. The gateway can go on
+    /// only where the Result is Pending.
     ConnectionResponse,
     /// A Device Authentication Response, with the hub's own certificate.
     DeviceAuthenticationResponse,
@@ -32,11 +33,12 @@ impl Reply {
 pub enum Answer<'a> {
     /// Send this reply, and keep its bytes.
     Reply(Reply),
-    /// The message came before and nothing has changed: the gateway has not heard this reply. Send
-    /// the same bytes again.
+    /// The message asks for a step that was made, and nothing has changed: the gateway has not
+    /// heard this reply, or an old request has come once more. Send the same bytes again, never a
+    /// Connection Response of a new nonce, X or Y.
     Again(Reply),
     /// The certificate was not accepted: send Authentication Failure, which the caller makes. From
-    /// here on every message is refused.
+    /// here on every message is refused; there is no Again for it.
     Failure,
     /// A new piece is in the report buffer, others are missing.
     Taken {
@@ -53,7 +55,7 @@ pub enum Answer<'a> {
         /// How many different pieces have come: all of them.
         heard: usize,
         /// The report: the first bytes of the report buffer, so that its length is enough to find it
-        /// there again. Take it before the next step.
+        /// there again. Take it before the next step, and store it together with the connection.
         report: &'a [u8],
     },
 }

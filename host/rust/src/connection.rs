@@ -35,7 +35,8 @@ pub enum State {
     Passed,
     /// 3: Ready. Reports are taken.
     Ready,
-    /// 4: Failed. Every message is refused with 15 or 16; only [`Connection::open`] helps.
+    /// 4: Failed. Every message that is not refused before is refused with 15 or 16 (1 to 14 come
+    /// first); only [`Connection::open`] helps.
     Failed,
     /// Any other number: these bytes are made up. Every message is refused, as in `Failed`.
     Other(u8),
@@ -109,9 +110,11 @@ impl Connection {
     /// - `working` has to be as long as the message's sealed part: its first bytes then hold what
     ///   was opened.
     /// - `report` is this connection's report buffer: the same at each step, and left alone between
-    ///   steps until the report is complete. A piece is written from F times its index on.
+    ///   steps until the report is complete. A piece is written from F times its index on. Until a
+    ///   report's first piece has come any will do, none too (`&mut []`).
     /// - `accepted` is the verdict: whether the certificate that this message may show is accepted.
-    ///   Only a Device Authentication Request in [`State::WaitingForAuthentication`] looks at it.
+    ///   Only a Device Authentication Request in [`State::WaitingForAuthentication`] looks at it,
+    ///   and `false` is then final ([Verdicts](crate#verdicts)).
     ///
     /// Here a report of two pieces comes, the second piece first:
     ///
@@ -204,7 +207,8 @@ impl Connection {
     }
 
     /// A connection that was stored. Every 151 bytes are one, though not all are what
-    /// [`Connection::open`] and [`Connection::step`] come to.
+    /// [`Connection::open`] and [`Connection::step`] come to. While a report is under way its
+    /// report buffer has to come back with it ([Stored connections](crate#stored-connections)).
     pub fn from_bytes(bytes: [u8; Connection::SIZE]) -> Connection {
         Connection(bytes)
     }

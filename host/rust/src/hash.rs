@@ -5,6 +5,9 @@ use crate::ffi;
 
 /// SHA-256 (FIPS 180-4).
 ///
+/// FIPS 180-4 ends below 2^61 bytes, which is more than a machine has: from there on the digest is
+/// all zero.
+///
 /// ```
 /// # use hlidunsk::digest;
 /// assert_eq!(digest(b"abc")[..4], [0xBA, 0x78, 0x16, 0xBF]);
@@ -19,6 +22,9 @@ pub fn digest(bytes: &[u8]) -> [u8; 32] {
 }
 
 /// HMAC-SHA-256 (RFC 2104) under a key of any length, of any bytes.
+///
+/// A key over 64 bytes is hashed first, as RFC 2104 says. From 2^61 - 64 bytes of `message` on the
+/// inner digest is all zero, as [`digest`] has it, and the tag is made of that.
 ///
 /// ```
 /// # use hlidunsk::{hmac, same_tag};

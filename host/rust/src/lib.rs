@@ -36,7 +36,7 @@
 //! | Call | What it does |
 //! |---|---|
 //! | [`Connect::write`], [`write()`] | make the payload of a request, and its message |
-//! | [`read`], [`Connect::read`] | open a reply, and take it apart |
+//! | [`read`], [`Message::connect`] | open a reply, and take it apart |
 //! | [`cut`] | cuts a report; [`write()`] makes the message of each piece |
 //!
 //! The library opens no socket, keeps no time, agrees on no key and judges no certificate: the
@@ -49,8 +49,8 @@
 //!
 //! ```
 //! use hlidunsk::payload::{Connect, ConnectionResult, Exchange, Mode, Status, MOST_PAYLOAD};
-//! use hlidunsk::{cut, read, write, Answer, Connection, Keys, Refusal, Reply, State};
-//! use hlidunsk::{MOST_WRITTEN, MOST_PIECES, MOST_REPLY, MOST_SEALED, NO_ENTRIES};
+//! use hlidunsk::{cut, read, read_header, write, Answer, Connection, Keys, MessageType, Refusal};
+//! use hlidunsk::{Reply, State, MOST_PIECES, MOST_REPLY, MOST_SEALED, MOST_WRITTEN, NO_ENTRIES};
 //!
 //! const F: usize = 16; // the bytes of a piece
 //! const SESSION: u64 = 42;
@@ -58,7 +58,8 @@
 //! const GATEWAY: &[u8] = b"gateway 7, block 12, Merlot"; // stands for its certificate
 //! const HUB: &[u8] = b"the cooperative's hub"; // likewise
 //!
-//! /// Stands for the key agreement: our half, and the keys that both halves lead to.
+//! /// Stands for the key agreement: our half, and the keys that both halves lead to, with a secret
+//! /// that only this gateway and the hub have.
 //! fn agree(_theirs: Exchange) -> (Exchange, Keys) {
 //!     (Exchange { nonce: *b"nonce  2", x: [3; 32], y: [4; 32] }, [7; 64])
 //! }
@@ -75,33 +76,46 @@
 //!     write(&connect.header(SESSION, sequence), NO_ENTRIES, &payload[..length], keys, out)
 //! }
 //!
+//! /// Which of the three replies it is.
+//! fn which(reply: Reply) -> usize {
+//!     match reply {
+//!         Reply::ConnectionResponse => 0,
+//!         Reply::DeviceAuthenticationResponse => 1,
+//!         Reply::DoneResponse(_) => 2,
+//!     }
+//! }
+//!
 //! /// All that the hub has of one gateway.
 //! struct Hub {
 //!     connection: Connection,
 //!     keys: Option<Keys>,
 //!     working: [u8; MOST_SEALED],
 //!     report: [u8; MOST_PIECES * F],
-//!     reply: [u8; MOST_REPLY],
-//!     reply_n: usize,
+//!     replies: [Vec<u8>; 3],
 //!     sequence: u32, // of its next Connect message
 //! }
 //!
 //! impl Hub {
-//!     /// The verdict: whether a message shows a certificate that is accepted.
-//!     fn accepts(&mut self, message: &[u8]) -> bool {
-//!         let message = read(message, self.keys.as_ref(), &mut self.working);
-//!         let shown = message.and_then(|message| Connect::read(message.payload));
-//!         matches!(shown, Ok(Connect::DeviceAuthenticationRequest { certificate: GATEWAY, .. }))
+//!     /// The verdict: whether a message shows exactly the certificate that is known. Only a
+//!     /// sealed Connect message shows one; nothing else is opened.
+//!     fn accepts(&mut self, came: &[u8]) -> bool {
+//!         let Ok(framed) = read_header(came) else { return false };
+//!         if !framed.header.is_sealed() || framed.header.message_type != MessageType::Connect {
+//!             return false;
+//!         }
+//!         let message = read(came, self.keys.as_ref(), &mut self.working).ok();
+//!         let shown = message.and_then(|message| message.connect());
+//!         matches!(shown, Some(Connect::DeviceAuthenticationRequest { certificate: GATEWAY, .. }))
 //!     }
 //!
-//!     /// Takes a message, and leaves in `reply` what is to be sent on `Reply` and on `Again`.
+//!     /// Takes a message, and leaves in `replies` what is to be sent on `Reply` and on `Again`.
 //!     fn take(&mut self, came: &[u8]) -> Result<Answer<'_>, Refusal> {
 //!         let asked = self.connection.state() == State::WaitingForAuthentication;
 //!         let accepted = asked && self.accepts(came);
 //!         let (keys, working) = (self.keys.as_ref(), &mut self.working);
 //!         let answer = self.connection.step(came, keys, working, &mut self.report, accepted)?;
 //!         if let Answer::Reply(reply) = answer {
-//!             let reply = match reply {
+//!             let connect = match reply {
 //!                 Reply::ConnectionResponse => {
 //!                     let (ours, keys) = agree(self.connection.exchange());
 //!                     self.keys = Some(keys);
@@ -115,7 +129,9 @@
 //!                 },
 //!                 Reply::DoneResponse(status) => Connect::DoneResponse { mode: MODE, status },
 //!             };
-//!             self.reply_n = message(&reply, self.sequence, self.keys.as_ref(), &mut self.reply)?;
+//!             let mut out = [0; MOST_REPLY];
+//!             let length = message(&connect, self.sequence, self.keys.as_ref(), &mut out)?;
+//!             self.replies[which(reply)] = out[..length].to_vec();
 //!             self.sequence += 1;
 //!         }
 //!         Ok(answer)
@@ -127,8 +143,7 @@
 //!     keys: None,
 //!     working: [0; MOST_SEALED],
 //!     report: [0; MOST_PIECES * F],
-//!     reply: [0; MOST_REPLY],
-//!     reply_n: 0,
+//!     replies: [vec![], vec![], vec![]],
 //!     sequence: 0xC000_0000,
 //! };
 //!
@@ -145,14 +160,14 @@
 //! for (request, sequence) in requests.iter().zip(0x8000_0000..) {
 //!     let length = message(request, sequence, keys.as_ref(), &mut sent)?;
 //!     assert!(matches!(hub.take(&sent[..length])?, Answer::Reply(_)));
-//!     assert!(matches!(hub.take(&sent[..length])?, Answer::Again(_)));
-//!     let reply = read(&hub.reply[..hub.reply_n], keys.as_ref(), &mut working)?;
-//!     match Connect::read(reply.payload)? {
-//!         Connect::ConnectionResponse { result: ConnectionResult::Pending(theirs), .. } => {
+//!     let Answer::Again(reply) = hub.take(&sent[..length])? else { panic!("another step") };
+//!     let reply = read(&hub.replies[which(reply)], keys.as_ref(), &mut working)?;
+//!     match reply.connect() {
+//!         Some(Connect::ConnectionResponse { result: ConnectionResult::Pending(theirs), .. }) => {
 //!             keys = Some(agree(theirs).1);
 //!         }
-//!         Connect::DeviceAuthenticationResponse { certificate: HUB, .. } => {}
-//!         Connect::DoneResponse { status: Status::Success, .. } => {}
+//!         Some(Connect::DeviceAuthenticationResponse { certificate: HUB, .. }) => {}
+//!         Some(Connect::DoneResponse { status: Status::Success, .. }) => {}
 //!         other => panic!("{other:?}"),
 //!     }
 //! }
@@ -178,69 +193,139 @@
 //!
 //! # What the maker of a hub must know
 //!
-//! **Keys.** The 64 key bytes come from a key agreement outside this library, and are new for each
-//! connection. The Connection Request and the Response, which give X, Y and nonces to it, are plain:
-//! keys or verdict must depend on all of these, for else it goes unnoticed where the link has
-//! damaged one or a stranger made it. Under old keys and an old SessionID a new connection takes
-//! old messages once more; so does an old copy of a connection that is put back from a backup:
-//! store the newest copy alone, and open anew, with new keys, where it is lost. Until there are
-//! keys give a step `None`: a sealed message is then refused with 10. Keys of zeros would be keys
-//! that anybody knows.
+//! ## Keys
 //!
-//! **Vectors.** A sealed message's vector is made of SessionID, SequenceNumber, FragmentIndex and
-//! FragmentCount. Under one set of keys no two sealed messages of different content may have the
-//! same four, whichever way they go. Reports are numbered from 0 on, one number each. The hub does
-//! not look at the SequenceNumber of a Connect message, so give those numbers that no report has,
-//! and hub and gateway a range each: the page above counts the gateway's from 0x8000_0000 on, the
-//! hub's from 0xC000_0000.
+//! The 64 key bytes come from a key agreement outside this library, and are new for each
+//! connection. The Connection Request and the Response, which give X, Y and nonces to it, are
+//! plain: keys or verdict must depend on all of these, for else it goes unnoticed where the link
+//! has damaged one or a stranger made it.
 //!
-//! **Other fields.** The gateway draws the SessionID, and every message of the connection has it, the
-//! replies too: [`Connection::session`] says which it is. All pieces of a report have one ChannelID.
-//! Nothing here looks at RequestID.
+//! Under old keys and an old SessionID a new connection takes old messages once more; so does an
+//! old copy of a connection that is put back from a backup: store the newest copy alone, and open
+//! anew, with new keys, where it is lost.
 //!
-//! **Fragment size.** F, the bytes of a piece, is agreed on outside the protocol, and both sides
-//! use the same. It is not the fragment size of a Connection Request, which document 01 fixes at
-//! 16,384.
+//! Until there are keys give a step `None`: a sealed message is then refused with 10. Keys of zeros
+//! would be keys that anybody knows. Each call sets its keys up anew: there is nothing to prepare,
+//! and nothing to keep or to erase between calls but the key bytes themselves.
 //!
-//! **Replies and Again.** On [`Answer::Reply`] write the reply, send it, and keep its bytes. On
-//! [`Answer::Again`] the gateway has not heard it: send the same bytes again. Writing them anew is
-//! as good if every field, the payload and the keys are the same, for then the bytes are too; a
-//! Connection Response with another nonce, or another payload under numbers that were used, is not.
-//! The replies of one connection are three messages of at most [`MOST_REPLY`] bytes each.
+//! ## Vectors and numbers
 //!
-//! **Strangers.** A Connection Request is plain, so anybody can make one, and the link can damage one
-//! unnoticed. Where a connection has taken such a one, and is in
-//! [`State::WaitingForAuthentication`], the gateway's own is refused with 15 or 16: have a new
-//! connection take it, by [`Connection::open`] and a step without keys, and put that in the place
-//! of the first. A gateway whose sealed requests get no reply starts over with its Connection
-//! Request.
+//! A sealed message's vector is made of SessionID, SequenceNumber, FragmentIndex and FragmentCount.
+//! Under one set of keys no two sealed messages of different content may have the same four,
+//! whichever way they go.
 //!
-//! **Failure.** On [`Answer::Failure`] the verdict was no. MS-CDP (2.2.2.3.10) says: "If the
-//! authentication process itself fails to complete, an empty payload is returned", and gives this
-//! message the type number 8. How it is sent is the caller's: [`write()`] refuses it with 14, since
-//! document 01 has no such payload. The connection is in [`State::Failed`] from then on, where
-//! every message is refused: only [`Connection::open`] helps.
+//! Reports are numbered from 0 on, one number each. Once one piece of a number was sent, the number
+//! belongs to those bytes for good. A gateway that has lost them (it was restarted) starts over
+//! with new keys, for else the hub joins a mixture and vectors repeat.
 //!
-//! **Verdicts.** The verdict matters for one message alone, a Device Authentication Request, which
-//! is sealed, in [`State::WaitingForAuthentication`]. Only there need a caller read the message
-//! before the step, as `accepts` does above. For every other message any verdict gives the same.
+//! The hub does not look at the SequenceNumber of a Connect message, so give those numbers that no
+//! report has, and hub and gateway a range each: the page above counts the gateway's from
+//! 0x8000_0000 on, the hub's from 0xC000_0000. Then open a new connection, with new keys, before
+//! report 0x8000_0000, and not only after 2^32 - 2, the last number that a report may have.
 //!
-//! **Reports and their buffer.** Lend a connection the same report buffer at each step, of 64 times
-//! F bytes or as many as the longest report has, and leave it alone until the report is complete:
-//! what is in it is compared with pieces that come twice. Where this is done, and the connection
-//! came from [`Connection::open`] and [`Connection::step`] alone, [`Answer::Complete`] has the
-//! report as it was sent. It borrows the report from the buffer, and the compiler does not let it
-//! be used after the next step. Once the piece with the last index has come the report's length is
-//! known; a buffer that is shorter is then refused with 255, [`Refusal::WrongBuffer`]. Document 01
-//! has no message by which a hub says that a report came: the gateway sends each piece as often as
-//! its link needs, and one report after the other.
+//! ## Other fields
 //!
-//! **Refusals.** Most are harmless, and a hub drops the message and goes on: connection and report
-//! buffer are as they were. [`Refusal`] says which are not.
+//! The gateway draws the SessionID, and every message of the connection has it, the replies too:
+//! [`Connection::session`] says which it is. All pieces of a report have one ChannelID. A Connect
+//! message has index 0 and count 1: [`Connect::header`] sets them. Nothing here looks at RequestID,
+//! nor at the flags 1 ([`Header::ACKNOWLEDGE`]) and 8 ([`Header::WAKE`]).
 //!
-//! **Stored connections.** A [`Connection`] is 151 bytes in the layout of hub.h:
-//! [`Connection::as_bytes`] gives them, to be stored, and [`Connection::from_bytes`] takes them
-//! when the hub starts again. The report buffer goes with them where a report is under way.
+//! ## Fragment size
+//!
+//! F, the bytes of a piece, is agreed on outside the protocol, and both sides use the same. It is
+//! not the fragment size of a Connection Request, which document 01 fixes at 16,384.
+//!
+//! ## Replies and Again
+//!
+//! On [`Answer::Reply`] write the reply, send it, and keep its bytes. The replies of one connection
+//! are three messages of at most [`MOST_REPLY`] bytes each, without entries in the chain.
+//!
+//! [`Answer::Again`] is for a message that asks for the same step, not only for one of the same
+//! bytes: the gateway has not heard the reply, or somebody sends an old request once more. Send the
+//! same bytes again. Writing them anew is as good if every field, the payload and the keys are the
+//! same, for then the bytes are too; another payload under numbers that were used is not.
+//!
+//! Never write a Connection Response on Again but from the stored nonce, X and Y: new ones would
+//! cut off a gateway that is Ready, for whoever replays its request.
+//!
+//! A Connection Response lets the gateway go on only where its Result is
+//! [`Pending`](payload::ConnectionResult::Pending). With any other the connection is in
+//! [`State::WaitingForAuthentication`] all the same: open a new one.
+//!
+//! ## Verdicts
+//!
+//! The verdict matters for one message alone, a Device Authentication Request, which is sealed, in
+//! [`State::WaitingForAuthentication`]. Only there need a caller read the message before the step,
+//! as `accepts` does above: [`read_header`] says whether it is a sealed Connect message, and only
+//! such a one is opened. For every other message any verdict gives the same.
+//!
+//! A certificate alone proves nothing: it is public, and anybody can show a copy. Give the verdict
+//! `true` only where the sender has proved that he holds its key: verify the thumbprint as a
+//! signature over both nonces and both public keys, or derive the 64 key bytes from a secret that
+//! only this gateway has.
+//!
+//! The verdict `false` is final ([`State::Failed`]): where you cannot judge yet, hold the message
+//! back and do not step.
+//!
+//! ## Failure
+//!
+//! On [`Answer::Failure`] the verdict was no. MS-CDP (2.2.2.3.10) says: "If the authentication
+//! process itself fails to complete, an empty payload is returned", and gives this message the type
+//! number 8. How it is sent is the caller's: [`write()`] refuses it with 14, since document 01 has
+//! no such payload.
+//!
+//! The connection is in [`State::Failed`] from then on: only [`Connection::open`] helps. There is
+//! no Again for Failure: a request that comes again is refused with 15, and the caller may send
+//! Failure again.
+//!
+//! ## Strangers
+//!
+//! A Connection Request is plain, so anybody can make one, and the link can damage one unnoticed. A
+//! connection that has taken such a one refuses the gateway's own with 15 or 16, and so does one
+//! that is Ready where a gateway starts over.
+//!
+//! So in every state but [`State::WaitingForRequest`], where a message is refused with 15 or 16,
+//! try it on a new connection, by [`Connection::open`] and a step without keys. If that answers
+//! [`Answer::Reply`], keep the new one beside the old one, with keys, replies and a report buffer
+//! of its own, and drop the old one when the new one has [`Passed`](State::Passed). Bound how many
+//! you keep. So neither a stranger nor an old request cuts a gateway off, and one that starts over
+//! is heard.
+//!
+//! While there are several, each message goes to one after the other until one does not refuse it;
+//! what is refused leaves a connection as it was. A gateway whose sealed requests get no reply
+//! starts over with its Connection Request.
+//!
+//! ## Reports and their buffer
+//!
+//! Lend a connection the same report buffer at each step, of 64 times F bytes or as many as the
+//! longest report has, and leave it alone until the report is complete: what is in it is compared
+//! with pieces that come twice. Where this is done, and the connection came from
+//! [`Connection::open`] and [`Connection::step`] alone, [`Answer::Complete`] has the report as it
+//! was sent. It borrows the report from the buffer, and the compiler does not let it be used after
+//! the next step.
+//!
+//! Once the piece with the last index has come the report's length is known; a buffer that is
+//! shorter is then refused with 255, [`Refusal::WrongBuffer`].
+//!
+//! Document 01 has no message by which a hub says that a report came: the gateway sends each piece
+//! as often as its link needs, and one report after the other. 18 that comes again and again says
+//! that the expected report will never be finished: nothing later is taken. Open anew, with new
+//! keys.
+//!
+//! ## Stored connections
+//!
+//! A [`Connection`] is 151 bytes in the layout of hub.h: [`Connection::as_bytes`] gives them, to be
+//! stored, and [`Connection::from_bytes`] takes them when the hub starts again.
+//!
+//! While a report is under way the report buffer belongs to the connection: store both together, or
+//! open anew. A connection that is restored without its report buffer would complete a false
+//! report. At [`Answer::Complete`] store report and connection together, else a crash loses or
+//! doubles a report.
+//!
+//! ## Refusals
+//!
+//! Most are harmless, and a hub drops the message and goes on: connection and report buffer are as
+//! they were. [`Refusal`] says which are not.
 //!
 //! # Memory
 //!
@@ -255,13 +340,17 @@
 //! | `keys` | the 64 key bytes, or none; a plain message does not look at them |
 //! | `working` | room into which a sealed message is opened: [`MOST_SEALED`] bytes are enough for every message, F + 19 for a piece of F bytes, 2,576 for an enrolment. It holds secrets afterwards: erase it if you must. Its content before a call does not matter |
 //! | `report` | where a report is put together: 64 times F bytes are enough for every report |
-//! | `chain` | additional headers with their end: [`NO_ENTRIES`] where there are none |
+//! | `chain` | additional headers with their end: [`NO_ENTRIES`] where there are none. Bytes after the end are refused with 8 |
 //! | `payload` | what a message carries: [`MOST_PAYLOAD`] bytes are enough for every payload of Discovery and Connect |
 //! | `out` | where a message or a payload is written: [`MOST_WRITTEN`] bytes are enough for every message that [`write()`] makes |
 //!
 //! A call that is refused leaves every buffer as it was, but for one: where a sealed message was
 //! opened, and is refused for what it says or when it comes, the first bytes of the working buffer
 //! hold what was opened.
+//!
+//! The stack that each call takes stands in a table in include/hub.h. The largest is hub_step,
+//! which [`Connection::step`] calls, with some 5,200 bytes. This is measured and not proved; what
+//! the code of this crate takes comes on top.
 //!
 //! # Secrets and time
 //!
@@ -281,7 +370,7 @@
 //! The library is for x86-64 Linux. The build script looks for it in the folder that `HLIDUNSK_LIB`
 //! names.
 //!
-//! [`Connect::read`]: payload::Connect::read
+//! [`Connect::header`]: payload::Connect::header
 //! [`Connect::write`]: payload::Connect::write
 //! [`MOST_PAYLOAD`]: payload::MOST_PAYLOAD
 

@@ -1,6 +1,7 @@
 // SPDX-License-Identifier: MPL-2.0
 //! Messages: reading and writing.
 
+use crate::payload::Connect;
 use crate::{ffi, Refusal};
 
 /// The 64 key bytes: 16 encryption key, 16 vector key, 32 HMAC key. They are new for each
@@ -25,7 +26,8 @@ pub const NO_ENTRIES: &[u8] = &[0, 0];
 /// The longest message that [`write()`] makes.
 pub const MOST_WRITTEN: usize = 18_530;
 
-/// The longest Connect message without entries in its chain: room of this size holds every reply.
+/// The longest Connect message without entries in its chain: room of this size holds every reply
+/// that is written with [`NO_ENTRIES`].
 pub const MOST_REPLY: usize = 2_650;
 
 /// The longest sealed part of a message: a working buffer of this size is enough for all.
@@ -103,7 +105,7 @@ pub struct Header {
 }
 
 impl Header {
-    /// The flag of a message that is to be acknowledged.
+    /// The flag of a message that is to be acknowledged. Nothing here looks at it.
     pub const ACKNOWLEDGE: u16 = 1;
     /// The flag of a message with a tag.
     pub const HMAC: u16 = 2;
@@ -111,7 +113,7 @@ impl Header {
     pub const ENCRYPTED: u16 = 4;
     /// Both flags of a sealed message: one without the other is refused with 6.
     pub const SEALED: u16 = Header::HMAC | Header::ENCRYPTED;
-    /// The flag of a message that wakes its receiver.
+    /// The flag of a message that wakes its receiver. Nothing here looks at it.
     pub const WAKE: u16 = 8;
 
     /// Whether the message is sealed: both flags of [`Header::SEALED`] are set.
@@ -197,6 +199,37 @@ pub struct Message<'a> {
     pub payload: &'a [u8],
 }
 
+impl<'a> Message<'a> {
+    /// What a Connect message says; none where it is another message.
+    ///
+    /// A Session message may carry any bytes, those of a Connect payload too, and is none all the
+    /// same:
+    ///
+    /// ```
+    /// # use hlidunsk::payload::{Connect, Mode};
+    /// # use hlidunsk::{cut, read, write, Refusal, MOST_REPLY, MOST_SEALED, NO_ENTRIES};
+    /// # let (keys, mut payload, mut working) = ([7; 64], [0; 3], [0; MOST_SEALED]);
+    /// # let mut message = [0; MOST_REPLY];
+    /// let done = Connect::DoneRequest { mode: Mode::None };
+    /// done.write(&mut payload)?;
+    /// let piece = cut(&payload, 16, 0)?;
+    /// for (header, says) in [(done.header(42, 9), Some(done)), (piece.header(42, 0), None)] {
+    ///     let length = write(&header, NO_ENTRIES, &payload, Some(&keys), &mut message)?;
+    ///     let came = read(&message[..length], Some(&keys), &mut working)?;
+    ///     assert_eq!(came.payload, payload);
+    ///     assert_eq!(came.connect(), says);
+    /// }
+    /// # Ok::<(), Refusal>(())
+    /// ```
+    pub fn connect(&self) -> Option<Connect<'a>> {
+        match self.header.message_type {
+            // A message that was read has a payload of document 01: else it was refused with 14.
+            MessageType::Connect => Connect::read(self.payload).ok(),
+            MessageType::Discovery | MessageType::Session => None,
+        }
+    }
+}
+
 /// Reads a message's header and chain, which needs no keys.
 ///
 /// What a sealed message carries is not read: its body is [`Body::Sealed`], which is no payload.
@@ -248,7 +281,7 @@ pub fn read_header(message: &[u8]) -> Result<Framed<'_>, Refusal> {
 /// let mut working = [0; MOST_SEALED];
 /// let came = read(message, Some(&keys), &mut working)?;
 /// assert_eq!(came.header.session, 42);
-/// assert_eq!(Connect::read(came.payload)?, Connect::DoneRequest { mode: Mode::None });
+/// assert_eq!(came.connect(), Some(Connect::DoneRequest { mode: Mode::None }));
 ///
 /// // Without keys nothing sealed is read, and under others its tag is wrong.
 /// assert_eq!(read(message, None, &mut working), Err(Refusal::WrongKeys));
@@ -303,11 +336,15 @@ pub fn read<'a>(
 ///
 /// It is sealed if the header's flags say so, which needs keys. The vector is made of SessionID,
 /// SequenceNumber, index and count: never write two sealed messages with the same four under the
-/// same keys. `chain` is the additional headers with their end: [`NO_ENTRIES`] where there are
-/// none. The payload of a Session message is any 0 to 16,384 bytes; the others' are those of
-/// [`payload`](crate::payload). `out` has to have 42 bytes more than entries and payload where the
-/// message is plain, else 74 more than entries and payload + 4 rounded up to a multiple of 16. What
-/// is beyond the message is unchanged.
+/// same keys.
+///
+/// `chain` is the additional headers with their end: [`NO_ENTRIES`] where there are none. Bytes
+/// after the end are refused with 8. The payload of a Session message is any 0 to 16,384 bytes; the
+/// others' are those of [`payload`](crate::payload).
+///
+/// `out` has to have 42 bytes more than entries and payload where the message is plain, else 74
+/// more than entries and payload + 4 rounded up to a multiple of 16. What is beyond the message is
+/// unchanged.
 ///
 /// ```
 /// # use hlidunsk::{cut, read, write, Refusal, MOST_WRITTEN, MOST_SEALED, NO_ENTRIES};

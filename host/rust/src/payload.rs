@@ -26,7 +26,7 @@
 //!
 //! // And back.
 //! let came = read(&message[..length], None, &mut [])?;
-//! assert_eq!(Connect::read(came.payload)?, request);
+//! assert_eq!(came.connect(), Some(request));
 //! # Ok::<(), Refusal>(())
 //! ```
 
@@ -85,6 +85,7 @@ impl Mode {
 #[derive(Clone, Copy, Debug, PartialEq, Eq, Hash)]
 pub struct Exchange {
     /// The nonce: random, and new for each request and for each response that is not sent again.
+    /// One that is sent again has the same nonce, X and Y.
     pub nonce: [u8; 8],
     /// X of the sender's public key.
     pub x: [u8; 32],
@@ -92,7 +93,7 @@ pub struct Exchange {
     pub y: [u8; 32],
 }
 
-/// The Result of a Connection Response, by MS-CDP's names.
+/// The Result of a Connection Response, by MS-CDP's names. Only Pending lets the gateway go on.
 #[derive(Clone, Copy, Debug, PartialEq, Eq, Hash)]
 pub enum ConnectionResult {
     /// 0.
@@ -252,8 +253,9 @@ impl<'a> Connect<'a> {
         }
     }
 
-    /// The header of its message, with the flags of a sealed one where it is sealed; RequestID and
-    /// ChannelID are 0. Give no two sealed messages under the same keys the same two numbers.
+    /// The header of its message, with the flags of a sealed one where it is sealed; index 0 and
+    /// count 1; RequestID and ChannelID are 0. Give no two sealed messages under the same keys the
+    /// same two numbers.
     pub fn header(&self, session: u64, sequence: u32) -> Header {
         Header { session, sequence, ..Header::whole(MessageType::Connect, self.is_sealed()) }
     }
@@ -325,6 +327,10 @@ impl<'a> Connect<'a> {
 
     /// Reads the payload of a Connect message. Certificate and thumbprint are parts of it.
     ///
+    /// The payload alone does not tell a Connect message from a Session message, whose payload may
+    /// be any bytes: ask the header's [`message_type`](Header::message_type) first, as
+    /// [`Message::connect`](crate::Message::connect) does.
+    ///
     /// ```
     /// # use hlidunsk::payload::{Connect, Mode};
     /// # use hlidunsk::Refusal;
@@ -333,11 +339,12 @@ impl<'a> Connect<'a> {
     /// # Connect::DeviceAuthenticationRequest { mode: Mode::None, certificate, thumbprint }
     /// #     .write(&mut room)?;
     /// # let payload = &room;
-    /// let accepted = match Connect::read(payload)? {
+    /// // The header said that the message is sealed, and a Connect message.
+    /// let known = match Connect::read(payload)? {
     ///     Connect::DeviceAuthenticationRequest { certificate, .. } => certificate == b"gateway 7",
     ///     _ => false,
     /// };
-    /// assert!(accepted);
+    /// assert!(known);
     /// assert_eq!(Connect::read(b"any bytes"), Err(Refusal::WrongPayload));
     /// # Ok::<(), Refusal>(())
     /// ```

@@ -22,11 +22,14 @@ use core::fmt;
 /// | Number | What it says to a hub |
 /// |---|---|
 /// | 17 | a late copy of a report that is complete |
-/// | 11 | damaged or foreign bytes |
-/// | 15, 16 | a stranger, or an old request |
-/// | 18 | a report that comes too early: it is sent again, or lost |
+/// | 11 | damaged or foreign bytes. Of every sealed message: the two sides have different keys |
+/// | 15, 16 | a stranger, an old request, or a gateway that starts over: try it on a new connection ([Strangers](crate#strangers)) |
+/// | 18 | a report that comes too early: it is sent again, or lost. Again and again: the expected report will never be finished, and nothing later is taken; open anew, with new keys |
+/// | 2, 3 | in a stream: framing is lost; close it |
+/// | 20 | of a piece: the two sides have a different F |
+/// | 13, 14, 21, 23 | of a sealed message: the gateway is wrong, or used a number twice; or (23) the report buffer was touched |
 /// | 10, 12, 22, 24, 255 | the caller's own: keys, a buffer or F are not as they should be. But until there are keys 10 is a sealed message that comes too early; and a gateway can bring about 12 and 22 where `working` is shorter than [`MOST_SEALED`](crate::MOST_SEALED), or `report` than 64 times F |
-/// | 19 | no report has this number: after report 2^32 - 2 open a new connection, with new keys |
+/// | 19 | no report has this number: after report 2^32 - 2, or before one whose number a Connect message has ([Vectors and numbers](crate#vectors-and-numbers)), open a new connection, with new keys |
 #[derive(Clone, Copy, Debug, PartialEq, Eq, PartialOrd, Ord, Hash)]
 #[non_exhaustive]
 #[repr(u8)]

@@ -11,15 +11,25 @@ pub const MOST_READ: usize = 65_535;
 /// It is MessageLength, and at least 42 and at most [`MOST_READ`]. Of fewer than four bytes it is
 /// 42, since MessageLength is not there yet; from four on it does not change with what comes after.
 /// So read until there are as many bytes as it says, asking again when more have come; then these
-/// are the next message. It judges nothing: the message may be refused, and where the stream is out
-/// of step the next one is too. How long to wait for the rest is the caller's to bound.
+/// are the next message.
+///
+/// It judges nothing: the message may be refused. Where MessageLength itself is wrong so are all
+/// messages after it, which a new stream mends and nothing else: close a stream whose message is
+/// refused with 2 or 3.
+///
+/// A stranger chooses the number that this answers, up to [`MOST_READ`]: receive into [`MOST_READ`]
+/// bytes, as below, or drop the stream where the number exceeds your buffer. How long to wait for
+/// the rest is the caller's to bound.
 ///
 /// ```
 /// use hlidunsk::{wanted, MOST_READ};
 /// use std::io::{self, Read};
 ///
 /// /// The next message of a stream; none where the stream is over.
-/// fn next<'a>(stream: &mut impl Read, room: &'a mut [u8]) -> io::Result<Option<&'a [u8]>> {
+/// fn next<'a>(
+///     stream: &mut impl Read,
+///     room: &'a mut [u8; MOST_READ],
+/// ) -> io::Result<Option<&'a [u8]>> {
 ///     let mut held = 0;
 ///     while held < wanted(&room[..held]) {
 ///         let end = wanted(&room[..held]);

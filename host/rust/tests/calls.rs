@@ -103,7 +103,9 @@ fn a_written_message_is_read_back() {
     assert_eq!(read(&out, Some(&[4; 64]), &mut [0; 16]), Err(Refusal::WrongTag));
     assert_eq!(read(&out, None, &mut [0; 16]), Err(Refusal::WrongKeys));
     let before = out;
-    assert_eq!(write(&header, &[], b"", Some(&keys), &mut out), Err(Refusal::WrongChain));
+    for chain in [&[][..], &[0], &[0, 0, 0], &[1, 1, 7], &[1, 1, 7, 0, 0, 0]] {
+        assert_eq!(write(&header, chain, b"", Some(&keys), &mut out), Err(Refusal::WrongChain));
+    }
     assert_eq!(write(&header, NO_ENTRIES, b"", Some(&keys), &mut out[..89]), Err(Refusal::NoRoom));
     assert_eq!(out, before);
 }

@@ -104,8 +104,63 @@ fn a_certificate_that_is_not_accepted() {
     step(&mut hub, &first, false).unwrap();
     assert_eq!(step(&mut hub, &second, false), Ok(Answer::Failure));
     assert_eq!(hub.state(), State::Failed);
-    for message in [first, second, third, piece(0)] {
+    for mut message in [first, second, third, piece(0)] {
         assert_eq!(step(&mut hub, &message, true), Err(Refusal::NotAllowed));
+        // What is refused before that is refused here too.
+        message[1] ^= 1;
+        assert_eq!(step(&mut hub, &message, true), Err(Refusal::WrongSignature));
+    }
+}
+
+/// Again is for a message that asks for a step that was made, whatever its other bytes.
+#[test]
+fn other_bytes_that_ask_for_the_same_step() {
+    let mut hub = ready();
+    let (mode, certificate, thumbprint) = (Mode::Legacy, CERTIFICATE, &b"another"[..]);
+    for (request, reply) in [
+        (Connect::ConnectionRequest { mode, exchange: EXCHANGE }, Reply::ConnectionResponse),
+        (
+            Connect::DeviceAuthenticationRequest { mode, certificate, thumbprint },
+            Reply::DeviceAuthenticationResponse,
+        ),
+        (Connect::DoneRequest { mode }, Reply::DoneResponse(Status::Success)),
+    ] {
+        assert_eq!(step(&mut hub, &connect(request), false), Ok(Answer::Again(reply)));
+    }
+    assert_eq!(hub, ready());
+}
+
+/// A stranger's request is refused by a connection in use. A new connection takes it, beside the
+/// first, which goes on.
+#[test]
+fn a_stranger_beside_a_gateway() {
+    let exchange = Exchange { nonce: [4; 8], ..EXCHANGE };
+    let stranger = Connect::ConnectionRequest { mode: MODE, exchange };
+    let mut payload = [0; MOST_PAYLOAD];
+    let length = stranger.write(&mut payload).unwrap();
+    let [first, second, third] = requests();
+    for (session, refusal) in [(SESSION, Refusal::NotAllowed), (7, Refusal::OtherSession)] {
+        let came = message(stranger.header(session, 0), &payload[..length]);
+        let (mut hub, mut buffer) = (Connection::open(F).unwrap(), [0; 64 * F]);
+        for request in [&first, &second, &third] {
+            assert!(matches!(step(&mut hub, request, true), Ok(Answer::Reply(_))));
+            assert_eq!(step(&mut hub, &came, true), Err(refusal));
+            let mut beside = Connection::open(F).unwrap();
+            let answer = beside.step(&came, None, &mut [], &mut [], false);
+            assert_eq!(answer, Ok(Answer::Reply(Reply::ConnectionResponse)));
+            let answer = beside.step(request, None, &mut [], &mut [], false);
+            assert!(answer.is_err());
+        }
+        for index in [0, 1] {
+            let answer = hub.step(&piece(index), Some(&KEYS), &mut [0; 16], &mut buffer, false);
+            assert_eq!(answer, Ok(Answer::Taken { heard: index + 1 }));
+            let answer = hub.step(&came, Some(&KEYS), &mut [0; 16], &mut buffer, false);
+            assert_eq!(answer, Err(refusal));
+        }
+        match hub.step(&piece(2), Some(&KEYS), &mut [0; 16], &mut buffer, false) {
+            Ok(Answer::Complete { report, .. }) => assert_eq!(report, REPORT),
+            other => panic!("{other:?}"),
+        }
     }
 }
 

@@ -66,6 +66,7 @@ fn what_is_written_is_read_back() {
             let length = write(&header, NO_ENTRIES, payload, Some(&KEYS), &mut message).unwrap();
             let came = read(&message[..length], Some(&KEYS), &mut working).unwrap();
             assert_eq!((came.header, Connect::read(came.payload)), (header, Ok(*connect)));
+            assert_eq!(came.connect(), Some(*connect));
             let other =
                 hlidunsk::Header { flags: header.flags ^ hlidunsk::Header::SEALED, ..header };
             let written = write(&other, NO_ENTRIES, payload, Some(&KEYS), &mut message);
