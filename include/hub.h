@@ -3,10 +3,11 @@
  * hub.h: the hub of Hlidunsk for C and C++.
  *
  * The library enrols gateways and joins their reports, over the Connected Devices Platform protocol (MS-CDP) as docs/01-scope.md, here called
- * document 01, describes it. Every function below is proved to do exactly what its contract in crates/hub_c says, on every input; the
- * sentences of this header are those contracts in words. What "proved" rests on is in docs/TRUST.md. This header itself is not proved: that
- * it fits the library is tested (tests/boundary), over a million steps against an independent second implementation. The files that are
- * named docs/ here are installed under share/doc/hlidunsk. The library is for x86-64 Linux.
+ * document 01, describes it. Every call below (hub_text, a table in this header, is none) is proved to do exactly what its contract in crates/hub_c
+ * says, on every input; the sentences of this header are those contracts in words. What "proved" rests on is in docs/TRUST.md. This header itself
+ * is not proved: that it fits the library is tested (tests/boundary), over a million steps against an independent second implementation. The files
+ * named docs/ and host/ here are installed under share/doc/hlidunsk; crates/ and tests/ are in the project. The library is for x86-64
+ * Linux, the header for C99, C++98 and later.
  *
  *
  * MESSAGES, PIECES, REPORTS
@@ -40,53 +41,73 @@
  * WHAT THE MAKER OF A HUB MUST KNOW
  *
  * Keys. The 64 key bytes come from a key agreement outside this library, and are new for each connection. The Connection Request and the Response,
- * which give X, Y and nonces to it, are plain: keys or verdict must depend on all of these, for else it goes unnoticed where the link has damaged
- * one or a stranger made it. Under old keys and an old SessionID a new connection takes old messages once more; so does an old copy of a connection
- * that is put back from a backup: store the newest copy alone, and open anew, with new keys, where it is lost. Until there are keys give a step
- * none (a null pointer, 0). Each call sets up its keys anew: there is nothing to prepare, and nothing to keep or to erase between calls but the key
- * bytes themselves.
+ * which give X, Y and nonces to it, are plain: keys or verdict must depend on all of these, for otherwise nobody notices that the link has damaged
+ * one, or that a stranger made it. Under old keys and an old SessionID a new connection takes old messages once more; so does an old copy of a
+ * connection that is put back from a backup: store the newest copy alone, and open anew, with new keys, where it is lost. Until there are keys give
+ * a step none (a null pointer, 0). Each call sets up its keys anew: there is nothing to prepare, and nothing of them to keep between calls but the
+ * key bytes themselves.
  *
- * Vectors. A sealed message's vector is made of SessionID, SequenceNumber, FragmentIndex and FragmentCount. Under one set of keys two sealed
- * messages of different content must never have the same four, whichever side sends them. Reports are numbered from 0 on, one number each. The hub
- * does not look at the SequenceNumber of a Connect message, so give those numbers that no report has, and hub and gateway a range each: host/c
- * counts the gateway's Connect messages from 0x80000000 on, the hub's from 0xC0000000.
+ * Vectors and numbers. A sealed message's vector is made of SessionID, SequenceNumber, FragmentIndex and FragmentCount. Under one set of keys two
+ * sealed messages of different content must never have the same four, whichever side sends them. Reports are numbered from 0 on, one number each.
+ * Once one piece of a number was sent, the number belongs to those bytes for good. A gateway that has lost them (it was restarted) starts over with
+ * new keys, for otherwise the hub joins a mixture, and vectors repeat. The hub does not look at the SequenceNumber of a Connect message, so give
+ * those numbers that no report has, and hub and gateway a range each: host/c counts the gateway's Connect messages from 0x80000000 on, the hub's
+ * from 0xC0000000. Then open a new connection, with new keys, before report 0x80000000.
  *
  * Other fields. The gateway draws the SessionID, and every message of the connection has it, the replies too: hub_read_header says which it is. All
- * pieces of a report have one ChannelID. Nothing here looks at RequestID.
+ * pieces of a report have one ChannelID. A Connect message has FragmentIndex 0 and FragmentCount 1. Nothing here looks at RequestID, nor at the
+ * flags 1 and 8.
  *
  * Fragment size. F, the bytes of a piece, is agreed on outside the protocol, and both sides use the same. It is not the fragment size of a
- * Connection Request, which document 01 fixes at 16,384 and which nothing here looks at.
+ * Connection Request, which document 01 fixes at 16,384 (another is refused with 14): nothing here takes F from it.
  *
- * Replies. On HUB_KIND_REPLY the caller writes the reply, sends it, and keeps its bytes. A gateway that hears none in its time sends its request again,
- * the same bytes; then the hub's answer is HUB_KIND_AGAIN: send the same bytes again too. Writing them anew is as good if every field, the payload and
- * the keys are the same, for then the bytes are too; a Connection Response with another nonce, or another payload under numbers that were used, is
- * not. The replies of one connection are three messages of at most HUB_MOST_REPLY bytes each.
- *
- * Strangers. A Connection Request is plain, so anybody can make one, and the link can damage one unnoticed. Where a connection has taken such a
- * one, and is in state HUB_WAITING_FOR_AUTHENTICATION, the gateway's own is refused with 15 or 16: have a new connection take it, by hub_open and a
- * step without keys, and put that in the place of the first (open_anew in host/c/hub.c). A gateway whose sealed requests get no reply starts over
- * with its Connection Request.
- *
- * Failure. On HUB_KIND_FAILURE the verdict was 0. MS-CDP (2.2.2.3.10) says: "If the authentication process itself fails to complete, an empty payload is
- * returned", and gives this message the type number 8, HUB_AUTHENTICATION_FAILURE. How it is sent is the caller's: hub_write refuses it with 14, since
- * document 01 has no such payload. The connection is in state HUB_FAILED from then on, where every message is refused: only hub_open helps.
+ * Replies. On HUB_KIND_REPLY the caller writes the reply, sends it, and keeps its bytes: three messages of at most HUB_MOST_REPLY bytes for each
+ * connection. A gateway that hears none in its time sends its request again, the same bytes. Then the hub's answer is HUB_KIND_AGAIN, which is for
+ * every message that asks for the same step: send the same bytes again too. Writing them anew is as good if every field, the payload and the keys
+ * are the same, for then the bytes are too. Never write a Connection Response on HUB_KIND_AGAIN but from the stored nonce, X and Y: new ones would
+ * cut off a gateway that is Ready, for whoever sends its old request. A Connection Response lets the gateway go on only where its Result is
+ * HUB_PENDING. With any other the connection is in state HUB_WAITING_FOR_AUTHENTICATION all the same: open a new one.
  *
  * Verdicts. The verdict matters for one message alone, a Device Authentication Request, which is sealed, in state HUB_WAITING_FOR_AUTHENTICATION.
- * Only there need a caller read the message before the step: hub_read_header says whether it is sealed, hub_read opens it, hub_payload says where
- * its payload lies, and hub_read_connect where in that its certificate. Compare the length of a certificate as well as its bytes. For every other
- * message any verdict of 0 or 1 gives the same.
+ * Only there need a caller read the message before the step: hub_read_header says whether it is a sealed Connect message, hub_read opens it,
+ * hub_payload says where its payload lies, and hub_read_connect where in that its certificate. For every other message any verdict of 0 or 1 gives
+ * the same. A certificate alone proves nothing: it is public, and anybody can show a copy. Give verdict 1 only where the sender has proved that he
+ * holds its key: verify the thumbprint as a signature over both nonces and both public keys, or derive the 64 key bytes from a secret that only
+ * this gateway has. Where certificates are compared, compare their lengths as well as their bytes. Verdict 0 is final: where you cannot judge yet,
+ * hold the message back and do not step.
+ *
+ * Failure. On HUB_KIND_FAILURE the verdict was 0. MS-CDP (2.2.2.3.10) says: "If the authentication process itself fails to complete, an empty
+ * payload is returned", and gives this message the type number 8, HUB_AUTHENTICATION_FAILURE. How it is sent is the caller's: hub_write refuses it
+ * with 14, since document 01 has no such payload. The connection is in state HUB_FAILED from then on, where every message is refused: only hub_open
+ * helps. There is no Again for it: a request that comes again is refused with 15, and the caller may send the failure again.
+ *
+ * Strangers. A Connection Request is plain, so anybody can make one, and the link can damage one unnoticed. A connection that has taken such a one
+ * refuses the gateway's own with 15 or 16, and so does one that is Ready where a gateway starts over. So in every state but
+ * HUB_WAITING_FOR_REQUEST, where a message is refused with 15 or 16, try it on a new connection, by hub_open and a step without keys. If that
+ * answers HUB_KIND_REPLY, keep the new one beside the old one, with keys, replies and a report buffer of its own, and drop the old one when the new
+ * one is HUB_PASSED. Bound how many you keep. While there are several, each message goes to one after the other until one does not refuse it. So
+ * neither a stranger nor an old request cuts a gateway off, and one that starts over is heard (host/c/hub.c). A gateway whose sealed requests get
+ * no reply starts over with its Connection Request.
  *
  * Reports. Lend a connection the same report buffer at each step, and leave it alone, until the report is complete; then take the report before the
  * next step. A connection comes from hub_open and goes through hub_step alone. Then the first answer[HUB_ANSWER_LENGTH] bytes of report are, at
- * HUB_KIND_COMPLETE, the report as it was sent (DemandThree). Whatever is lent, that number is never more than report_n (WithinReport). Document 01 has
- * no message by which a hub says that a report came: the gateway sends each piece as often as its link needs, and one report after the other.
+ * HUB_KIND_COMPLETE, the report as it was sent (DemandThree), and HUB_WRONG_BUFFER does not come (NeverShort). Whatever is lent, that number is
+ * never more than report_n (WithinReport). Document 01 has no message by which a hub says that a report came: the gateway sends each piece as often
+ * as its link needs, and one report after the other.
+ *
+ * Stored connections. While a report is under way, which is while the bytes from HUB_STATE_HEARD on are not all zero, the report buffer belongs to
+ * the connection: store both together, or open anew. A connection that is put back without its report buffer would complete a false report. At
+ * HUB_KIND_COMPLETE store report and connection together: otherwise a crash loses a report, or hands it out twice. Its SequenceNumber was that of
+ * HUB_STATE_EXPECTED before the step, and hub_read_header of the message says it too.
  *
  * Refusals. Most are harmless, and a hub drops the message and goes on: connection and report buffer are as they were. 17 is what late copies of a
- * report that is complete get, 11 what damaged or foreign bytes do, 15 and 16 what strangers and old requests do, 18 a report that comes too early
- * (it is sent again, or lost). 10, 12, 22, 24, 25 and 255 are the caller's own: keys, a buffer, F or a verdict are not as they should be. But until
- * there are keys 10 is a sealed message that comes too early; and a gateway can bring about 12 and 22 where working is shorter than
- * HUB_MOST_SEALED, or report than 64 times F. 19 is for a number that no report has, 2^32 - 1: after report 2^32 - 2 open a new connection, with
- * new keys. hub_text has a sentence for each.
+ * report that is complete get, 11 what damaged or foreign bytes do, 15 and 16 what strangers do and a gateway that starts over. 18 is a report that
+ * comes too early: it is sent again, or lost; where 18 comes again and again the expected report will never be finished, and nothing later is
+ * taken: open anew, with new keys. 11 of every sealed message says that the two sides have different keys, 20 that they have a different F; 13, 14,
+ * 21 and 23 of a sealed message say that the gateway is wrong or has used a number twice, or, 23, that the report buffer was touched. In a stream 2
+ * and 3 mean that the framing is lost: close it. 19 is for a number that no report has, 2^32 - 1. 10, 12, 22, 24, 25 and 255 are the caller's own:
+ * keys, a buffer, F or a verdict are not as they should be. But until there are keys 10 is a sealed message that comes too early; and a gateway can
+ * bring about 12 and 22 where working is shorter than HUB_MOST_SEALED, or report than 64 times F. hub_text has a sentence for each.
  *
  *
  * WHO OWNS WHICH MEMORY
@@ -143,7 +164,7 @@
  * constant-time: see docs/SECURITY.md. Copies on the stack are not erased.
  *
  * The stack that a call takes, its return address included, is at most so many bytes. This is measured (tests/memory, which fails where a call takes
- * more) and not proved.
+ * more) and not proved; what a call reserves and never writes is not seen.
  *
  *     hub_step                        5,184
  *     hub_read                        3,904
@@ -157,7 +178,7 @@
  *     hub_write_connection_request      320
  *     hub_read_connect                  192
  *     hub_version                        64
- *     hub_tags_differ                       64
+ *     hub_tags_differ                    64
  *     hub_wanted                         64
  *     hub_payload                        64
  *     hub_write_presence_request         64
@@ -193,15 +214,15 @@ extern "C" {
 /* This header's version: major * 65536 + minor * 256 + patch. */
 #define HUB_VERSION 0x00010000u
 
-/* Sizes of the buffers of fixed size; bytes, or words of 64 bits where so said. */
+/* Sizes of the buffers of fixed size, in bytes or in words of 64 bits. */
 #define HUB_STATE_BYTES 151     /* a connection */
-#define HUB_HEADER_WORDS 11     /* words: a header that was read, and the place of its payload */
-#define HUB_FIELDS_WORDS 8      /* words: the fields of a header to be written */
-#define HUB_PLACE_WORDS 3       /* words: where a payload lies */
-#define HUB_CONNECT_WORDS 13    /* words: what a Connect payload says */
-#define HUB_ANSWER_WORDS 3      /* words: what a step answers */
-#define HUB_PIECE_WORDS 3       /* words: a piece of a report */
-#define HUB_LENGTH_WORDS 1      /* words: how many bytes were written */
+#define HUB_HEADER_WORDS 11     /* a header that was read, and the place of its payload */
+#define HUB_FIELDS_WORDS 8      /* the fields of a header to be written */
+#define HUB_PLACE_WORDS 3       /* where a payload lies */
+#define HUB_CONNECT_WORDS 13    /* what a Connect payload says */
+#define HUB_ANSWER_WORDS 3      /* what a step answers */
+#define HUB_PIECE_WORDS 3       /* a piece of a report */
+#define HUB_LENGTH_WORDS 1      /* how many bytes were written */
 #define HUB_DIGEST_BYTES 32     /* a SHA-256 digest, and a tag */
 #define HUB_KEYS_BYTES 64       /* keys */
 #define HUB_NONCE_BYTES 8       /* a nonce */
@@ -210,8 +231,8 @@ extern "C" {
 
 /* Bounds of document 01. */
 #define HUB_LEAST_MESSAGE 42         /* the shortest message */
-#define HUB_MOST_WRITTEN 18530       /* the longest message that hub_write makes */
-#define HUB_MOST_READ 65535          /* the longest message that is read */
+#define HUB_MOST_WRITTEN 18530       /* the longest message that hub_write makes; longer ones may come in */
+#define HUB_MOST_READ 65535          /* the longest message that may come in */
 #define HUB_MOST_SEALED 65456        /* the longest sealed part of a message that is read */
 #define HUB_MOST_PIECES 64           /* the most pieces of a report */
 #define HUB_MOST_FRAGMENT_SIZE 16384 /* the largest F, and the longest Session payload that hub_write takes */
@@ -221,7 +242,11 @@ extern "C" {
 #define HUB_MOST_REPLY 2650          /* the longest Connect message without entries in its chain */
 
 /* The chain that has no entries: the two bytes of its end. */
+#ifdef __cplusplus
+#define HUB_NO_ENTRIES (reinterpret_cast<const uint8_t *>("\0"))
+#else
 #define HUB_NO_ENTRIES ((const uint8_t *)"\0")
+#endif
 #define HUB_NO_ENTRIES_N 2
 
 /* What a call returns: document 01's table "Refusal numbers". */
@@ -260,7 +285,7 @@ enum hub_refusal {
                                      the report buffer shorter than the report; not a number of document 01 */
 };
 
-/* A sentence for each number that a call returns, in English: document 01's. */
+/* A sentence for each number that a call returns, in English: document 01's. (Not for what hub_tags_differ, hub_wanted and hub_version return.) */
 static inline const char *hub_text(uint32_t number)
 {
     switch (number) {
@@ -370,7 +395,7 @@ enum hub_mode { HUB_MODE_NONE = 0, HUB_MODE_PROXIMAL = 1, HUB_MODE_LEGACY = 2 };
 /* The Result of a Connection Response (0 to 3) and the Status of an Authentication Done Response (0 to 4), by MS-CDP's names. */
 enum hub_code {
     HUB_SUCCESS = 0,
-    HUB_PENDING = 1, /* as a Result: nonce, X and Y follow */
+    HUB_PENDING = 1, /* as a Result: nonce, X and Y follow, and the gateway goes on; every other Result turns it away */
     HUB_FAILURE_AUTHENTICATION = 2,
     HUB_FAILURE_NOT_ALLOWED = 3,
     HUB_FAILURE_UNKNOWN = 4 /* a Status only */
@@ -411,10 +436,10 @@ enum hub_answer_word {
 /* The kinds of a step's answers. */
 enum hub_kind {
     HUB_KIND_REFUSED = 0, /* the step was refused, by the number that it returned */
-    HUB_KIND_REPLY = 1,   /* send the Connect payload of this type: 1 (Connection Response; Result, nonce and key in it are the caller's),
-                        3 (Device Authentication Response, with the hub's own certificate), 7 (Authentication Done Response, with
-                        the Status of HUB_ANSWER_STATUS) */
-    HUB_KIND_AGAIN = 2,   /* the message came before and nothing has changed; send the same reply again (see Replies above) */
+    HUB_KIND_REPLY = 1,   /* send the Connect payload of this type: 1 (Connection Response; Result HUB_PENDING, nonce and key are the caller's),
+                             3 (Device Authentication Response, with the hub's own certificate), 7 (Authentication Done Response, with the
+                             Status of HUB_ANSWER_STATUS) */
+    HUB_KIND_AGAIN = 2,   /* a message that asks for a step that was made; nothing has changed; send the same reply again (see Replies above) */
     HUB_KIND_FAILURE = 3, /* the verdict was 0: send Authentication Failure, which the caller makes without hub_write (see Failure above) */
     HUB_KIND_TAKEN = 4,   /* a new piece is in the report buffer; others are missing */
     HUB_KIND_REPEAT = 5,  /* a piece that had come, with the same bytes; nothing has changed */
@@ -455,7 +480,7 @@ enum hub_state {
     HUB_WAITING_FOR_AUTHENTICATION = 1, /* the only state in which a step looks at the verdict */
     HUB_PASSED = 2,
     HUB_READY = 3, /* reports are taken */
-    HUB_FAILED = 4 /* every message is refused with 15 or 16; only hub_open helps */
+    HUB_FAILED = 4 /* every message is refused, with 15 or 16 if not before; only hub_open helps */
 };
 
 /*
@@ -482,7 +507,8 @@ uint32_t hub_digest(const uint8_t *bytes, size_t bytes_n, uint8_t *out, size_t o
  * HMAC-SHA-256 (RFC 2104).
  *
  * key       the key; any size. (A key over 64 bytes is hashed first, as RFC 2104 says.)
- * message   what is tagged; any bytes and any size: it need not be a message of document 01. (2^61 bytes: see hub_digest.)
+ * message   what is tagged; any bytes and any size: it need not be a message of document 01. (From 2^61 - 64 bytes on the inner digest is all zero,
+ *           and the tag is made of that.)
  * out       HUB_DIGEST_BYTES.
  *
  * Returns   HUB_DONE, HUB_WRONG_BUFFER (out).
@@ -510,10 +536,16 @@ uint32_t hub_tags_differ(const uint8_t *a, size_t a_n, const uint8_t *b, size_t 
  *
  * Returns   the number of bytes: MessageLength, and at least 42. Of fewer than four bytes it is 42, since MessageLength is not there yet. So read
  *           until there are as many bytes as it says, asking again when more have come; then these are the next message. From four bytes on it does
- *           not change with the bytes that come after. Whoever reads no more bytes than are missing never has one of the message after. It judges
- *           nothing: the message may be refused; and where MessageLength itself is wrong so are all messages after it, which a new stream mends and
- *           nothing else. How many to wait for, and for how long, is the caller's to bound: 65,535 is the most.
- * Proved    NextMessage: of a message that hub_read_header does not refuse, with any bytes after it, any first four or more give its length.
+ *           not change with the bytes that come after:
+ *
+ *               while (have < (wanted = hub_wanted(buffer, have)))
+ *                   have += read at most wanted - have bytes to buffer + have;
+ *
+ *           reads one message and no byte of the next. A stranger chooses this number: let buffer have HUB_MOST_READ bytes, or give the stream up
+ *           where it exceeds the buffer, and bound the time. It judges nothing: the message may be refused. Where MessageLength itself is wrong all
+ *           that follows is out of step, and only a new stream helps.
+ * Proved    NextMessage: of a message that hub_read_header does not refuse, with any bytes after it: never more than its length; and its length from
+ *           four bytes on.
  */
 HUB_ANSWER_MATTERS
 uint32_t hub_wanted(const uint8_t *bytes, size_t bytes_n);
@@ -525,8 +557,9 @@ uint32_t hub_wanted(const uint8_t *bytes, size_t bytes_n);
  * header    HUB_HEADER_WORDS.
  *
  * Returns   HUB_DONE, HUB_WRONG_BUFFER (header), then 1 to 9 in this order.
- * On done   header holds the fields, and by HUB_HEADER_FROM and HUB_HEADER_SIZE where in the message the payload lies (HUB_HEADER_SEALED is HUB_PLAIN) or, for a sealed
- *           message, its sealed part (HUB_STILL_SEALED). Given to hub_payload, the words of a sealed message answer 0, 0, 0: they name no payload.
+ * On done   header holds the fields, and by HUB_HEADER_FROM and HUB_HEADER_SIZE where in the message the payload lies (HUB_HEADER_SEALED is
+ *           HUB_PLAIN) or, for a sealed message, its sealed part (HUB_STILL_SEALED). Given to hub_payload, the words of a sealed message answer 0,
+ *           0, 0: they name no payload.
  * On refusal header is all zero: an empty header, and the empty part at the message's start.
  * Proved    HeaderExact; the contract (`readHeader` in crates/wire/specs/Reader.antt; `foundHeader` in
  *           crates/wire/specs/Answers.antt).
@@ -543,9 +576,9 @@ uint32_t hub_read_header(const uint8_t *message, size_t message_n, uint64_t *hea
  * header    HUB_HEADER_WORDS.
  *
  * Returns   HUB_DONE, HUB_WRONG_BUFFER (header), then 1 to 14 in this order; 10 to 13 for sealed messages only.
- * On done   header holds the fields, and by HUB_HEADER_FROM and HUB_HEADER_SIZE where the payload lies: in the message (HUB_HEADER_SEALED is HUB_PLAIN) or in the working
- *           buffer (HUB_OPENED). Of a sealed message the first bytes of working hold the opened sealed part: payload size (4 bytes), payload,
- *           padding; the rest is unchanged. A plain message leaves all of it unchanged.
+ * On done   header holds the fields, and by HUB_HEADER_FROM and HUB_HEADER_SIZE where the payload lies: in the message (HUB_HEADER_SEALED is
+ *           HUB_PLAIN) or in the working buffer (HUB_OPENED). Of a sealed message the first bytes of working hold the opened sealed part: payload
+ *           size (4 bytes), payload, padding; the rest is unchanged. A plain message leaves all of it unchanged.
  * On refusal header is all zero: an empty header, and the empty part at the message's start, which is what hub_payload then answers. On 14 of a
  *           sealed message working holds the opened sealed part likewise; on the others it is as it was.
  * Proved    ReaderExact, ReadsBack, PayloadHanded; what working holds is the contract (`workingAfter` in crates/message/specs/Reading.antt).
@@ -699,13 +732,13 @@ uint32_t hub_open(uint64_t fragment_size, uint8_t *state, size_t state_n);
  *
  * Returns   HUB_DONE, HUB_WRONG_BUFFER (state, answer, or a report that is too short), then the first that applies of 25; 24; 1 to 9; 10 to 13
  *           (sealed messages); 14; 16; 15; 19, 17, 18, 21, 20, 22, 23.
- * On done   answer holds what to do (see hub_kind; words that a kind does not use are 0), state the next connection. HUB_KIND_TAKEN, HUB_KIND_REPEAT and
- *           HUB_KIND_COMPLETE tell how many of the indexes below the message's FragmentCount are heard, its own with them. HUB_KIND_TAKEN and HUB_KIND_COMPLETE:
- *           the piece is in report from F times its index on, no other byte of it changed. HUB_KIND_COMPLETE: the report has
- *           answer[HUB_ANSWER_LENGTH] bytes, never more than report_n; its SequenceNumber was the expected one before this step; and where the
- *           connection came from hub_open and hub_step alone, and the report buffer was the same and left alone since the report's first piece, it is
- *           the first bytes of report. The other kinds leave report unchanged; HUB_KIND_AGAIN and HUB_KIND_REPEAT state too. The first bytes of working hold
- *           the opened sealed part of a sealed message.
+ * On done   answer holds what to do (see hub_kind; words that a kind does not use are 0), state the next connection. HUB_KIND_TAKEN,
+ *           HUB_KIND_REPEAT and HUB_KIND_COMPLETE tell how many of the indexes below the message's FragmentCount are heard, its own with them.
+ *           HUB_KIND_TAKEN and HUB_KIND_COMPLETE: the piece is in report from F times its index on, no other byte of it changed. HUB_KIND_COMPLETE:
+ *           the report has answer[HUB_ANSWER_LENGTH] bytes, never more than report_n; its SequenceNumber was the expected one before this step; and
+ *           where the connection came from hub_open and hub_step alone, and the report buffer was the same and left alone since the report's first
+ *           piece, it is the first bytes of report. The other kinds leave report unchanged; HUB_KIND_AGAIN and HUB_KIND_REPEAT state too. The first
+ *           bytes of working hold the opened sealed part of a sealed message.
  * On refusal answer is 0, 0, 0 (HUB_KIND_REFUSED); state and report are as they were. So is working for 1 to 13, 24 and 25; for the others its first
  *           bytes hold the opened sealed part of a sealed message.
  * Proved    StepExact, LeavesAlone, WorkingBuffer, ByHostStates, StepsByState, RepeatedStep, RepeatedBytes, OnlyByZero, HeardCount, DemandThree,

@@ -206,7 +206,7 @@
 //!
 //! Until there are keys give a step `None`: a sealed message is then refused with 10. Keys of zeros
 //! would be keys that anybody knows. Each call sets its keys up anew: there is nothing to prepare,
-//! and nothing to keep or to erase between calls but the key bytes themselves.
+//! and nothing of them to keep between calls but the key bytes themselves.
 //!
 //! ## Vectors and numbers
 //!
@@ -233,7 +233,8 @@
 //! ## Fragment size
 //!
 //! F, the bytes of a piece, is agreed on outside the protocol, and both sides use the same. It is
-//! not the fragment size of a Connection Request, which document 01 fixes at 16,384.
+//! not the fragment size of a Connection Request, which document 01 fixes at 16,384 (another is
+//! refused with 14): nothing here takes F from it.
 //!
 //! ## Replies and Again
 //!
