@@ -95,10 +95,8 @@ static int send_report(uint64_t number, const uint8_t *report, size_t n)
 {
     static struct message message;
     uint64_t piece[HUB_PIECE_WORDS], index = 0;
-    uint64_t fields[HUB_FIELDS_WORDS] = {[HUB_HEADER_TYPE] = HUB_TYPE_SESSION,
-                                         [HUB_HEADER_FLAGS] = HUB_FLAGS_SEALED,
-                                         [HUB_HEADER_SEQUENCE] = number,
-                                         [HUB_HEADER_SESSION] = session};
+    uint64_t fields[HUB_FIELDS_WORDS] = {
+        [HUB_HEADER_TYPE] = HUB_TYPE_SESSION, [HUB_HEADER_FLAGS] = HUB_FLAGS_SEALED, [HUB_HEADER_SEQUENCE] = number, [HUB_HEADER_SESSION] = session};
 
     do {
         must(hub_cut(report, n, F, index, piece, HUB_PIECE_WORDS), "hub_cut");
