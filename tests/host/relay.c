@@ -126,11 +126,12 @@ static void start(struct side *side, const char *command, const char *argument)
     side->open = 1;
 }
 
-/* A stranger's message to the hub, of this SessionID: a Connection Request, each with another nonce; or one that is sealed, by keys of its own. */
+static struct message forged;
+
+/* Sends the hub a stranger's message of this SessionID: a Connection Request, each with another nonce; or one that is sealed, by keys of its own. */
 static void forge(uint64_t of_session, int sealed)
 {
     static const uint8_t coordinate[HUB_COORDINATE_BYTES];
-    static struct message forged;
     uint64_t fields[HUB_FIELDS_WORDS] = {[HUB_HEADER_TYPE] = HUB_TYPE_CONNECT, [HUB_HEADER_COUNT] = 1, [HUB_HEADER_SESSION] = of_session}, length;
     uint8_t payload[HUB_MOST_PAYLOAD], nonce[HUB_NONCE_BYTES];
     struct keys strange = {.n = HUB_KEYS_BYTES};
@@ -509,6 +510,23 @@ static void stranger(char **commands, const char *certificate)
     unknown++;
 }
 
+/* Past its deadline a program reads no message, even if one is there: whoever sends without end keeps it from nothing. The message is not lost. */
+static void hold_deadline(void)
+{
+    static struct link link;
+    int ends[2];
+
+    if (socketpair(AF_UNIX, SOCK_STREAM, 0, ends) != 0)
+        fail("there is no socket");
+    link.descriptor = ends[0];
+    if (write(ends[1], forged.bytes, forged.n) != (ssize_t)forged.n || receive(&link, now() - 1) != 0 || receive(&link, now()) != 0)
+        fail("a message is read after the deadline");
+    if (receive(&link, NEVER) != forged.n || memcmp(link.message, forged.bytes, forged.n) != 0)
+        fail("a message is not read");
+    close(ends[0]);
+    close(ends[1]);
+}
+
 int main(int argc, char **argv)
 {
     unsigned last;
@@ -535,6 +553,7 @@ int main(int argc, char **argv)
     stranger(argv + 3, CERTIFICATE_OF_GATEWAY "!");
     stranger(argv + 3, "gateway 7, block 12, Merlo");
     stranger(argv + 3, "gateway 8, block 12, Merlot");
+    hold_deadline();
     if (lost == 0 || twice == 0 || late == 0 || damaged == 0 || while_ready == 0 || again == 0 || dropped == 0 || replied <= 3 * (runs + cut_off))
         fail("the link was too good");
     printf("%u runs, %u messages: %u lost, %u twice, %u late, %u damaged, %u forged between, %u of them to a hub that is ready; ", runs, messages,
