@@ -400,7 +400,7 @@ static size_t run(char **commands, const struct cut *cut)
     struct pollfd streams[2] = {{0, POLLIN, 0}, {0, POLLIN, 0}};
     size_t before = 0;
 
-    drawn = seed;
+    drawn = seed + (cut == NULL ? 0 : 1000 * (1 + cut->messages + cut->pieces)); /* no two runs of a seed are alike */
     seen_n = agreed_n = by_gateways.n = by_hub.n = old_n = 0;
     keeping = cut != NULL;
     runs++;
