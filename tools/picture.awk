@@ -178,7 +178,7 @@ END {
     label = 10
     beside = 38
     if (gap) print answers " messages came; ./run --all lists them one by one."
-    print "A cell is a piece, numbered as it came; \"again\" is a repeated enrolment step."
+    print "Cell: piece, numbered as it came; again: repeated request; 15x5: five times 15."
     report = ""
     now = -1
     if (moving) draw()

@@ -1,10 +1,8 @@
 /* SPDX-License-Identifier: MPL-2.0 */
 /*
- * A gateway enrols with the hub and sends it a report, both sides in one program:
+ * A gateway enrols with the hub and sends it a report, both sides in one program. (hub.c and gateway.c are two, with a link between them.)
  *
  *     cc enrol.c $(pkg-config --cflags --libs hlidunsk) -o enrol && ./enrol
- *
- * hub.c and gateway.c are the two sides as programs of their own, with a link between them.
  */
 #include <stdio.h>
 #include <stdlib.h>
@@ -40,9 +38,10 @@ static size_t write_message(uint64_t type, uint64_t flags, uint64_t number, uint
                             uint64_t payload_n, uint8_t *out, size_t out_n)
 {
     uint64_t length, fields[HUB_FIELDS_WORDS] = {[HUB_HEADER_TYPE] = type,   [HUB_HEADER_FLAGS] = flags, [HUB_HEADER_SEQUENCE] = number,
-                                           [HUB_HEADER_INDEX] = index, [HUB_HEADER_COUNT] = count, [HUB_HEADER_SESSION] = 42};
+                                                 [HUB_HEADER_INDEX] = index, [HUB_HEADER_COUNT] = count, [HUB_HEADER_SESSION] = 42};
 
-    must(hub_write(fields, HUB_FIELDS_WORDS, HUB_NO_ENTRIES, HUB_NO_ENTRIES_N, payload, payload_n, agreed, HUB_KEYS_BYTES, out, out_n, &length, HUB_LENGTH_WORDS));
+    must(hub_write(fields, HUB_FIELDS_WORDS, HUB_NO_ENTRIES, HUB_NO_ENTRIES_N, payload, payload_n, agreed, HUB_KEYS_BYTES, out, out_n, &length,
+                   HUB_LENGTH_WORDS));
     return length;
 }
 
@@ -50,40 +49,41 @@ static size_t write_message(uint64_t type, uint64_t flags, uint64_t number, uint
 static int judge(const uint8_t *message, size_t message_n)
 {
     uint64_t header[HUB_HEADER_WORDS], place[HUB_PLACE_WORDS], connect[HUB_CONNECT_WORDS];
-    const uint8_t *payload;
 
-    if (hub_read(message, message_n, agreed, keys_n, working, sizeof working, header, HUB_HEADER_WORDS) != HUB_DONE || header[HUB_HEADER_TYPE] != HUB_TYPE_CONNECT)
-        return 0; /* the step will refuse it too */
+    if (hub_read_header(message, message_n, header, HUB_HEADER_WORDS) != HUB_DONE || header[HUB_HEADER_TYPE] != HUB_TYPE_CONNECT ||
+        header[HUB_HEADER_SEALED] != HUB_STILL_SEALED ||
+        hub_read(message, message_n, agreed, keys_n, working, sizeof working, header, HUB_HEADER_WORDS) != HUB_DONE)
+        return 0; /* it can show none, and is not opened; or the step will refuse it too */
     must(hub_payload(message, message_n, working, sizeof working, header, HUB_HEADER_WORDS, place, HUB_PLACE_WORDS));
-    payload = (place[HUB_PLACE_BUFFER] ? working : message) + place[HUB_PLACE_FROM];
-    return hub_read_connect(payload, place[HUB_PLACE_SIZE], connect, HUB_CONNECT_WORDS) == HUB_DONE && connect[HUB_CONNECT_CERTIFICATE_SIZE] == sizeof of_gateway &&
+    const uint8_t *payload = working + place[HUB_PLACE_FROM]; /* it was sealed */
+    must(hub_read_connect(payload, place[HUB_PLACE_SIZE], connect, HUB_CONNECT_WORDS));
+    return connect[HUB_CONNECT_TYPE] == HUB_AUTHENTICATION_REQUEST && connect[HUB_CONNECT_CERTIFICATE_SIZE] == sizeof of_gateway &&
            memcmp(payload + connect[HUB_CONNECT_CERTIFICATE_FROM], of_gateway, sizeof of_gateway) == 0;
 }
 
 /* The hub writes a reply; answers its length. */
 static size_t write_reply(uint64_t type, uint64_t status)
 {
-    uint64_t flags = type == HUB_CONNECTION_RESPONSE ? 0 : HUB_FLAGS_SEALED, length;
+    uint64_t flags = type == HUB_CONNECTION_RESPONSE ? 0 : HUB_FLAGS_SEALED, n;
     uint8_t payload[HUB_MOST_PAYLOAD];
 
     if (type == HUB_CONNECTION_RESPONSE)
-        must(hub_write_connection_response(HUB_MODE_PROXIMAL, HUB_PENDING, nonce, sizeof nonce, x, sizeof x, y, sizeof y, payload, sizeof payload,
-                                           &length, HUB_LENGTH_WORDS));
+        must(hub_write_connection_response(HUB_MODE_PROXIMAL, HUB_PENDING, nonce, sizeof nonce, x, sizeof x, y, sizeof y, payload, sizeof payload, &n,
+                                           HUB_LENGTH_WORDS));
     else if (type == HUB_AUTHENTICATION_RESPONSE)
-        must(hub_write_device_authentication(type, HUB_MODE_PROXIMAL, of_hub, sizeof of_hub, NULL, 0, payload, sizeof payload, &length, HUB_LENGTH_WORDS));
+        must(hub_write_device_authentication(type, HUB_MODE_PROXIMAL, of_hub, sizeof of_hub, NULL, 0, payload, sizeof payload, &n, HUB_LENGTH_WORDS));
     else
-        must(hub_write_done_response(HUB_MODE_PROXIMAL, status, payload, sizeof payload, &length, HUB_LENGTH_WORDS));
+        must(hub_write_done_response(HUB_MODE_PROXIMAL, status, payload, sizeof payload, &n, HUB_LENGTH_WORDS));
     keys_n = HUB_KEYS_BYTES; /* with the Connection Response both sides have what they need to agree on them */
-    return write_message(HUB_TYPE_CONNECT, flags, next_of_hub++, 0, 1, payload, length, reply, sizeof reply);
+    return write_message(HUB_TYPE_CONNECT, flags, next_of_hub++, 0, 1, payload, n, reply, sizeof reply);
 }
 
 /* The hub takes a message, and says what it answers. The verdict matters in one state alone. */
 static void take(const uint8_t *message, size_t message_n)
 {
-    uint64_t verdict = state[HUB_STATE_STATE] == HUB_WAITING_FOR_AUTHENTICATION && judge(message, message_n);
-    uint64_t answer[HUB_ANSWER_WORDS] = {0};
-    uint32_t number = hub_step(state, HUB_STATE_BYTES, message, message_n, agreed, keys_n, working, sizeof working, report, sizeof report, verdict, answer,
-                               HUB_ANSWER_WORDS);
+    uint64_t answer[HUB_ANSWER_WORDS] = {0}, verdict = state[HUB_STATE_STATE] == HUB_WAITING_FOR_AUTHENTICATION && judge(message, message_n);
+    uint32_t number = hub_step(state, HUB_STATE_BYTES, message, message_n, agreed, keys_n, working, sizeof working, report, sizeof report, verdict,
+                               answer, HUB_ANSWER_WORDS);
     unsigned value = (unsigned)answer[HUB_ANSWER_VALUE];
 
     printf("%4u bytes: ", (unsigned)message_n);
@@ -105,18 +105,18 @@ static void take(const uint8_t *message, size_t message_n)
 static void enrol(void)
 {
     uint8_t payload[HUB_MOST_PAYLOAD], message[HUB_MOST_REPLY];
-    uint64_t length, n;
+    uint64_t n;
 
-    must(hub_write_connection_request(HUB_MODE_PROXIMAL, nonce, sizeof nonce, x, sizeof x, y, sizeof y, payload, sizeof payload, &length,
+    must(hub_write_connection_request(HUB_MODE_PROXIMAL, nonce, sizeof nonce, x, sizeof x, y, sizeof y, payload, sizeof payload, &n,
                                       HUB_LENGTH_WORDS));
-    n = write_message(HUB_TYPE_CONNECT, 0, next_of_gateway++, 0, 1, payload, length, message, sizeof message);
+    n = write_message(HUB_TYPE_CONNECT, 0, next_of_gateway++, 0, 1, payload, n, message, sizeof message);
     take(message, n);
     take(message, n); /* the reply was lost */
     must(hub_write_device_authentication(HUB_AUTHENTICATION_REQUEST, HUB_MODE_PROXIMAL, of_gateway, sizeof of_gateway, NULL, 0, payload,
-                                         sizeof payload, &length, HUB_LENGTH_WORDS));
-    take(message, write_message(HUB_TYPE_CONNECT, HUB_FLAGS_SEALED, next_of_gateway++, 0, 1, payload, length, message, sizeof message));
-    must(hub_write_done_request(HUB_MODE_PROXIMAL, payload, sizeof payload, &length, HUB_LENGTH_WORDS));
-    take(message, write_message(HUB_TYPE_CONNECT, HUB_FLAGS_SEALED, next_of_gateway++, 0, 1, payload, length, message, sizeof message));
+                                         sizeof payload, &n, HUB_LENGTH_WORDS));
+    take(message, write_message(HUB_TYPE_CONNECT, HUB_FLAGS_SEALED, next_of_gateway++, 0, 1, payload, n, message, sizeof message));
+    must(hub_write_done_request(HUB_MODE_PROXIMAL, payload, sizeof payload, &n, HUB_LENGTH_WORDS));
+    take(message, write_message(HUB_TYPE_CONNECT, HUB_FLAGS_SEALED, next_of_gateway++, 0, 1, payload, n, message, sizeof message));
 }
 
 /* The gateway's report: its pieces arrive backwards, each of them damaged first, the first one once more at the end. */
@@ -129,8 +129,8 @@ static void send_report(void)
     must(hub_cut(sent, sizeof sent - 1, F, 0, piece, HUB_PIECE_WORDS));
     for (i = piece[HUB_PIECE_COUNT]; i-- > 0;) {
         must(hub_cut(sent, sizeof sent - 1, F, i, piece, HUB_PIECE_WORDS));
-        n = write_message(HUB_TYPE_SESSION, HUB_FLAGS_SEALED, 0, i, piece[HUB_PIECE_COUNT], sent + piece[HUB_PIECE_FROM], piece[HUB_PIECE_SIZE], message,
-                          sizeof message);
+        n = write_message(HUB_TYPE_SESSION, HUB_FLAGS_SEALED, 0, i, piece[HUB_PIECE_COUNT], sent + piece[HUB_PIECE_FROM], piece[HUB_PIECE_SIZE],
+                          message, sizeof message);
         message[n - 1] ^= 1;
         take(message, n);
         message[n - 1] ^= 1;

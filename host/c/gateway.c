@@ -13,13 +13,14 @@
 
 #include "link.h"
 
-#define SESSION 42 /* a real gateway draws it */
-#define WAIT 50    /* the milliseconds in which a reply should come */
-#define TRIES 4    /* how often a request is sent before enrolment starts over */
-#define STARTS 64  /* how often it starts */
-#define ROUNDS 16  /* how often each piece is sent: document 01 has nothing by which a hub says that it came */
+#define WAIT 50      /* the milliseconds in which a reply should come */
+#define TRIES 4      /* how often a request is sent before enrolment starts over */
+#define STARTS 64    /* how often it starts */
+#define ROUNDS 16    /* how often each piece is sent: document 01 has nothing by which a hub says that it came */
+#define LINGER 10000 /* the milliseconds in which the hub should close the stream */
 
 static struct link hub;
+static uint64_t session;
 static struct half ours;
 static struct keys keys;
 
@@ -29,7 +30,7 @@ static int is_reply(size_t n, uint64_t type)
     struct connect reply;
     struct half theirs;
 
-    if (!read_connect(&hub, n, &keys, &reply) || reply.header[HUB_HEADER_SESSION] != SESSION || reply.words[HUB_CONNECT_TYPE] != type)
+    if (!read_connect(&hub, n, &keys, &reply) || reply.header[HUB_HEADER_SESSION] != session || reply.words[HUB_CONNECT_TYPE] != type)
         return 0;
     switch (type) {
     case HUB_CONNECTION_RESPONSE:
@@ -50,8 +51,11 @@ static int ask(uint64_t flags, const uint8_t *payload, uint64_t payload_n, uint6
 {
     static uint64_t next_number = NUMBERS_OF_GATEWAY;
     static struct message request;
-    const uint64_t fields[HUB_FIELDS_WORDS] = {
-        [HUB_HEADER_TYPE] = HUB_TYPE_CONNECT, [HUB_HEADER_FLAGS] = flags, [HUB_HEADER_SEQUENCE] = next_number++, [HUB_HEADER_COUNT] = 1, [HUB_HEADER_SESSION] = SESSION};
+    const uint64_t fields[HUB_FIELDS_WORDS] = {[HUB_HEADER_TYPE] = HUB_TYPE_CONNECT,
+                                               [HUB_HEADER_FLAGS] = flags,
+                                               [HUB_HEADER_SEQUENCE] = next_number++,
+                                               [HUB_HEADER_COUNT] = 1,
+                                               [HUB_HEADER_SESSION] = session};
     int64_t deadline;
     size_t n;
     int i;
@@ -91,7 +95,8 @@ static int send_report(uint64_t number, const uint8_t *report, size_t n)
 {
     static struct message message;
     uint64_t piece[HUB_PIECE_WORDS], index = 0;
-    uint64_t fields[HUB_FIELDS_WORDS] = {[HUB_HEADER_TYPE] = HUB_TYPE_SESSION, [HUB_HEADER_FLAGS] = HUB_FLAGS_SEALED, [HUB_HEADER_SEQUENCE] = number, [HUB_HEADER_SESSION] = SESSION};
+    uint64_t fields[HUB_FIELDS_WORDS] = {
+        [HUB_HEADER_TYPE] = HUB_TYPE_SESSION, [HUB_HEADER_FLAGS] = HUB_FLAGS_SEALED, [HUB_HEADER_SEQUENCE] = number, [HUB_HEADER_SESSION] = session};
 
     do {
         must(hub_cut(report, n, F, index, piece, HUB_PIECE_WORDS), "hub_cut");
@@ -115,7 +120,7 @@ static int send_reports(void)
 
     for (number = 0; number < sizeof sizes / sizeof sizes[0]; number++) {
         for (n = 0; n < sizes[number];)
-            n += (size_t)sprintf(report + n, "day %u, vine %u: 1.8 kg; ", (unsigned)number, (unsigned)n);
+            n += (size_t)sprintf(report + n, "session %u, day %u, vine %u: 1.8 kg; ", (unsigned)session, (unsigned)number, (unsigned)n);
         print_report(number, (const uint8_t *)report, sizes[number]);
         for (i = 0; i < ROUNDS; i++)
             if (!send_report(number, (const uint8_t *)report, sizes[number]))
@@ -126,6 +131,7 @@ static int send_reports(void)
 
 int main(int argc, char **argv)
 {
+    int64_t deadline;
     int i = 0;
 
     if (argc != 2 && argc != 3) {
@@ -133,6 +139,7 @@ int main(int argc, char **argv)
         return 2;
     }
     open_link(&hub, argv[1]);
+    draw_bytes(&session, sizeof session);
     draw_half(&ours, 'g');
     /* A Connection Request or Response that was damaged, or a stranger's, gives keys that do not fit: nothing sealed is replied to. */
     while (!enrol(argc == 3 ? argv[2] : CERTIFICATE_OF_GATEWAY))
@@ -144,7 +151,8 @@ int main(int argc, char **argv)
         return 1;
     /* Whoever closes a stream with replies unread may lose what it has sent: say that no more comes, and wait for the hub to close. */
     shutdown(hub.descriptor, SHUT_WR);
-    while (receive(&hub, now() + 20 * WAIT) > 0)
+    deadline = now() + LINGER;
+    while (receive(&hub, deadline) > 0)
         continue;
     return 0;
 }

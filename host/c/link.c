@@ -19,9 +19,21 @@ void must(uint32_t number, const char *call)
     }
 }
 
+void draw_bytes(void *bytes, size_t n)
+{
+    FILE *source = fopen("/dev/urandom", "rb");
+
+    if (source == NULL || fread(bytes, 1, n, source) != n) {
+        fprintf(stderr, "/dev/urandom cannot be read\n");
+        exit(1);
+    }
+    fclose(source);
+}
+
 void draw_half(struct half *half, int letter)
 {
     memset(half, letter, sizeof *half);
+    draw_bytes(half->nonce, sizeof half->nonce);
 }
 
 void agree(const struct half *gateway, const struct half *hub, struct keys *keys)
@@ -52,7 +64,8 @@ int64_t now(void)
     return (int64_t)time.tv_sec * 1000 + time.tv_nsec / 1000000;
 }
 
-/* Waits until there is something to read, be it the end of the stream; answers whether it came before the deadline. */
+/* Waits until there is something to read, be it the end of the stream; answers whether it came before the deadline. After it nothing is read, even if
+   something is there: whoever sends without end must not keep this side from its own next message. */
 static int readable(int descriptor, int64_t deadline)
 {
     struct pollfd stream = {descriptor, POLLIN, 0};
@@ -61,7 +74,9 @@ static int readable(int descriptor, int64_t deadline)
 
     do {
         left = deadline - now();
-        ready = poll(&stream, 1, deadline == NEVER ? -1 : left < 0 ? 0 : (int)left);
+        if (left <= 0)
+            return 0;
+        ready = poll(&stream, 1, deadline == NEVER ? -1 : (int)left);
     } while (ready < 0 && errno == EINTR);
     return ready > 0;
 }
@@ -120,7 +135,8 @@ int read_connect(struct link *link, size_t n, const struct keys *keys, struct co
     if (hub_read(link->message, n, keys->bytes, keys->n, link->working, sizeof link->working, connect->header, HUB_HEADER_WORDS) != HUB_DONE ||
         connect->header[HUB_HEADER_TYPE] != HUB_TYPE_CONNECT)
         return 0;
-    must(hub_payload(link->message, n, link->working, sizeof link->working, connect->header, HUB_HEADER_WORDS, place, HUB_PLACE_WORDS), "hub_payload");
+    must(hub_payload(link->message, n, link->working, sizeof link->working, connect->header, HUB_HEADER_WORDS, place, HUB_PLACE_WORDS),
+         "hub_payload");
     connect->payload = (place[HUB_PLACE_BUFFER] ? link->working : link->message) + place[HUB_PLACE_FROM];
     must(hub_read_connect(connect->payload, (size_t)place[HUB_PLACE_SIZE], connect->words, HUB_CONNECT_WORDS), "hub_read_connect");
     return 1;
@@ -137,7 +153,8 @@ int shows(const struct connect *connect, const char *certificate)
 {
     size_t n = strlen(certificate);
 
-    return connect->words[HUB_CONNECT_CERTIFICATE_SIZE] == n && memcmp(connect->payload + connect->words[HUB_CONNECT_CERTIFICATE_FROM], certificate, n) == 0;
+    return connect->words[HUB_CONNECT_CERTIFICATE_SIZE] == n &&
+           memcmp(connect->payload + connect->words[HUB_CONNECT_CERTIFICATE_FROM], certificate, n) == 0;
 }
 
 void print_report(uint64_t number, const uint8_t *report, size_t n)

@@ -22,7 +22,10 @@ struct half {
     uint8_t nonce[HUB_NONCE_BYTES], x[HUB_COORDINATE_BYTES], y[HUB_COORDINATE_BYTES];
 };
 
-/* A side's half: EXAMPLE BYTES. A real side draws a nonce and a key pair for each connection. */
+/* Random bytes. */
+void draw_bytes(void *bytes, size_t n);
+
+/* A side's half: its nonce is drawn, and of its public key EXAMPLE BYTES. A real side makes a key pair for each connection too. */
 void draw_half(struct half *half, int letter);
 
 struct keys {

@@ -4,12 +4,13 @@
  *
  *     relay FIRST LAST HUB GATEWAY
  *
- * HUB and GATEWAY are commands, which are given the number of a descriptor. For each seed from FIRST to LAST both run once, and what they send to
- * each other is lost, sent twice, held back or damaged, message by message; a stranger's Connection Requests come between. The hub must print each
- * report once, in order, as the gateway sent it. Then come gateways whose certificates the hub does not know. A line at the end says what was
- * counted.
+ * HUB and GATEWAY are commands, which are given the number of a descriptor. For each seed from FIRST to LAST both run, and what they send to each
+ * other is lost, sent twice, held back or damaged, message by message; a stranger's Connection Requests come between, also when the hub is ready. The
+ * hub must print each report once, in order, as the gateway sent it. Then both run with a gateway before that is cut off: in its enrolment, in the
+ * midst of a report, or when the hub has not accepted its certificate. The hub must hear the other one, and print its reports from 0 on. A line at
+ * the end says what was counted.
  */
-#define _POSIX_C_SOURCE 200112L
+#define _POSIX_C_SOURCE 200809L
 #include <fcntl.h>
 #include <poll.h>
 #include <signal.h>
@@ -22,10 +23,11 @@
 
 #include "link.h"
 
-#define LIMIT 60      /* the seconds of a run */
-#define IDLE 5        /* the milliseconds of silence after which nothing is held back any longer */
-#define HELD 8        /* how many messages of a side are held back at a time */
-#define PRINTED 65536 /* more than a program prints */
+#define LIMIT 60        /* the seconds of a run */
+#define IDLE 5          /* the milliseconds of silence after which nothing is held back any longer */
+#define HELD 8          /* how many messages of a side are held back at a time */
+#define PRINTED 1048576 /* more than a program prints */
+#define REFUSAL "the certificate is not accepted"
 
 /* One of the two programs: our end of its stream, what it prints, and those of its messages that are held back. */
 struct side {
@@ -43,8 +45,12 @@ static struct side gateway;
 static struct side hub = {.other = &gateway};
 static struct side gateway = {.other = &hub};
 
-static struct message forged, early; /* a stranger's Connection Request, and its sealed message that comes before there are keys */
-static unsigned seed, messages, lost, twice, late, damaged, forgeries, reports, replied, again, dropped, unknown;
+/* Of the gateway that runs: its SessionID, how many messages it has sent, and how many of those are Session messages; then the hub is ready. */
+static uint64_t session;
+static unsigned sent_messages, sent_pieces;
+
+static unsigned seed, runs, messages, lost, twice, late, damaged, forgeries, while_ready, replayed, cut_off, in_report, unknown;
+static unsigned reports, replied, again, dropped;
 
 static void say_log(FILE *log)
 {
@@ -60,7 +66,7 @@ static void fail(const char *what)
 {
     say_log(hub.log);
     say_log(gateway.log);
-    fprintf(stderr, "relay: seed %u: %s\n", seed - 1, what);
+    fprintf(stderr, "relay: seed %u: %s\n", seed, what);
     exit(1);
 }
 
@@ -83,18 +89,24 @@ static size_t draw(size_t n)
     return (size_t)((drawn >> 33) % n);
 }
 
-/* Starts a program on one end of a new stream. */
-static void start(struct side *side, const char *command, const char *argument)
+/* A side without a program, for a new run. */
+static void clear(struct side *side)
 {
-    char line[1024];
-    int ends[2];
-
-    if (side->out != NULL) { /* of the run before */
+    if (side->out != NULL) {
         fclose(side->out);
         fclose(side->log);
     }
     side->out = tmpfile();
     side->log = tmpfile();
+    memset(side->held, 0, sizeof side->held);
+}
+
+/* Starts a program on one end of a new stream. What it prints comes after what the side printed before. */
+static void start(struct side *side, const char *command, const char *argument)
+{
+    char line[1024];
+    int ends[2];
+
     if (side->out == NULL || side->log == NULL || socketpair(AF_UNIX, SOCK_STREAM, 0, ends) != 0) {
         perror("relay");
         exit(1);
@@ -109,50 +121,111 @@ static void start(struct side *side, const char *command, const char *argument)
         _exit(127);
     }
     close(ends[1]);
-    memset(side->held, 0, sizeof side->held);
     side->link.descriptor = ends[0];
     side->link.come = 0;
     side->open = 1;
 }
 
-static void forge(void)
+static struct message forged;
+
+/* Sends the hub a stranger's message of this SessionID: a Connection Request, each with another nonce; or one that is sealed, by keys of its own. */
+static void forge(uint64_t of_session, int sealed)
 {
-    static const uint8_t nonce[HUB_NONCE_BYTES], coordinate[HUB_COORDINATE_BYTES];
-    uint64_t fields[HUB_FIELDS_WORDS] = {[HUB_HEADER_TYPE] = HUB_TYPE_CONNECT, [HUB_HEADER_COUNT] = 1, [HUB_HEADER_SESSION] = 666}, length;
-    uint8_t payload[HUB_MOST_PAYLOAD];
+    static const uint8_t coordinate[HUB_COORDINATE_BYTES];
+    uint64_t fields[HUB_FIELDS_WORDS] = {[HUB_HEADER_TYPE] = HUB_TYPE_CONNECT, [HUB_HEADER_COUNT] = 1, [HUB_HEADER_SESSION] = of_session}, length;
+    uint8_t payload[HUB_MOST_PAYLOAD], nonce[HUB_NONCE_BYTES];
     struct keys strange = {.n = HUB_KEYS_BYTES};
 
-    must(hub_write_connection_request(HUB_MODE_NONE, nonce, HUB_NONCE_BYTES, coordinate, HUB_COORDINATE_BYTES, coordinate, HUB_COORDINATE_BYTES, payload,
-                                      sizeof payload, &length, HUB_LENGTH_WORDS),
+    draw_bytes(nonce, sizeof nonce);
+    must(hub_write_connection_request(HUB_MODE_NONE, nonce, HUB_NONCE_BYTES, coordinate, HUB_COORDINATE_BYTES, coordinate, HUB_COORDINATE_BYTES,
+                                      payload, sizeof payload, &length, HUB_LENGTH_WORDS),
          "hub_write_connection_request");
+    if (sealed) {
+        fields[HUB_HEADER_TYPE] = HUB_TYPE_SESSION;
+        fields[HUB_HEADER_FLAGS] = HUB_FLAGS_SEALED;
+    }
     write_message(fields, payload, length, &strange, &forged);
-    fields[HUB_HEADER_TYPE] = HUB_TYPE_SESSION;
-    fields[HUB_HEADER_FLAGS] = HUB_FLAGS_SEALED;
-    write_message(fields, payload, length, &strange, &early);
+    forgeries += (unsigned)send_bytes(&hub.link, forged.bytes, forged.n);
+    while_ready += sent_pieces > 0;
 }
 
-/* The sealed messages of this run: the four numbers that the vector is made of, and a digest of the bytes. */
+/* The halves that gateways and hub have shown in this run, and the keys that each two of them give: all that both sides can have agreed on. */
+static struct shown {
+    struct half halves[1024];
+    size_t n;
+} by_gateways, by_hub;
+static struct keys agreed[2048];
+static size_t agreed_n;
+
+/* Takes note of a half that a side shows, with the keys that it gives. */
+static void note(struct shown *side, const struct half *half)
+{
+    struct shown *others = side == &by_hub ? &by_gateways : &by_hub;
+    size_t i;
+
+    for (i = 0; i < side->n; i++)
+        if (memcmp(&side->halves[i], half, sizeof *half) == 0)
+            return;
+    if (side->n == sizeof side->halves / sizeof side->halves[0] || agreed_n + others->n > sizeof agreed / sizeof agreed[0])
+        fail("a program draws ever new halves");
+    side->halves[side->n++] = *half;
+    for (i = 0; i < others->n; i++)
+        agree(side == &by_hub ? &others->halves[i] : half, side == &by_hub ? half : &others->halves[i], &agreed[agreed_n++]);
+}
+
+/* Under which keys the message of n bytes is sealed; SIZE_MAX where it is none of these: a gateway that was given a damaged half has keys of its own.
+   The last ones are tried first. */
+static size_t sealed_by(struct link *link, size_t n)
+{
+    static size_t last;
+    uint64_t header[HUB_HEADER_WORDS];
+    size_t i, k;
+
+    for (k = 0; k < agreed_n; k++) {
+        i = (last + k) % agreed_n;
+        if (hub_read(link->message, n, agreed[i].bytes, agreed[i].n, link->working, sizeof link->working, header, HUB_HEADER_WORDS) == HUB_DONE)
+            return last = i;
+    }
+    return SIZE_MAX;
+}
+
+/* The sealed messages of this run: the keys, the four numbers that the vector is made of, and a digest of the bytes. */
 static struct {
-    uint64_t vector[4];
+    uint64_t vector[5];
     uint8_t digest[HUB_DIGEST_BYTES];
 } seen[1024];
 static size_t seen_n;
 
-/* No two sealed messages of different bytes have the same vector, whoever sends them. */
-static void watch(const uint8_t *message, size_t n)
+/* Under one set of keys no two sealed messages of different bytes have the same vector, whoever sends them. */
+static void watch(struct side *from, size_t n)
 {
-    uint64_t header[HUB_HEADER_WORDS], vector[4];
+    static const struct keys none;
+    uint64_t header[HUB_HEADER_WORDS], vector[5];
     uint8_t digest[HUB_DIGEST_BYTES];
+    struct connect connect;
+    struct half half;
     size_t i = 0;
 
-    if (hub_read_header(message, n, header, HUB_HEADER_WORDS) != HUB_DONE || hub_digest(message, n, digest, HUB_DIGEST_BYTES) != HUB_DONE)
+    if (hub_read_header(from->link.message, n, header, HUB_HEADER_WORDS) != HUB_DONE ||
+        hub_digest(from->link.message, n, digest, HUB_DIGEST_BYTES) != HUB_DONE)
         fail("what a program sends is no message");
-    if (header[HUB_HEADER_SEALED] != HUB_STILL_SEALED)
+    if (from == &gateway) {
+        session = header[HUB_HEADER_SESSION];
+        sent_messages++;
+        sent_pieces += header[HUB_HEADER_TYPE] == HUB_TYPE_SESSION;
+    }
+    if (header[HUB_HEADER_SEALED] != HUB_STILL_SEALED) {
+        if (!read_connect(&from->link, n, &none, &connect))
+            fail("a plain message is no Connect message");
+        read_half(&connect, &half);
+        note(from == &hub ? &by_hub : &by_gateways, &half);
         return;
-    vector[0] = header[HUB_HEADER_SESSION];
-    vector[1] = header[HUB_HEADER_SEQUENCE];
-    vector[2] = header[HUB_HEADER_INDEX];
-    vector[3] = header[HUB_HEADER_COUNT];
+    }
+    vector[0] = sealed_by(&from->link, n);
+    vector[1] = header[HUB_HEADER_SESSION];
+    vector[2] = header[HUB_HEADER_SEQUENCE];
+    vector[3] = header[HUB_HEADER_INDEX];
+    vector[4] = header[HUB_HEADER_COUNT];
     while (i < seen_n && memcmp(seen[i].vector, vector, sizeof vector) != 0)
         i++;
     if (i == sizeof seen / sizeof seen[0])
@@ -191,20 +264,29 @@ static void release(struct side *from, int all)
         }
 }
 
+/* The requests of the gateway that is to be cut off, kept until then. */
+static struct message old[64];
+static size_t old_n;
+static int keeping;
+
 /* Passes on a message of n bytes that has come, or does not. MessageLength stays as it is: a stream has no other way to find its messages. */
 static void pass(struct side *from, size_t n)
 {
     enum { LOST, TWICE, LATE, DAMAGED, FATES = 8 };
     int first = messages++ == 0; /* a Connection Request: it goes twice, after what is forged, so that these come in every test */
-    uint8_t *message = from->link.message;
+    uint8_t *message = from->link.message, bit;
     size_t at;
     int copies = 1;
 
-    watch(message, n);
+    watch(from, n);
+    if (from == &gateway && keeping && sent_pieces == 0 && old_n < sizeof old / sizeof old[0]) {
+        memcpy(old[old_n].bytes, message, n);
+        old[old_n++].n = n;
+    }
     if (first)
-        forgeries += (unsigned)send_bytes(&hub.link, early.bytes, early.n);
+        forge(session, 1);
     if (first || (from == &gateway && draw(8) == 0))
-        forgeries += (unsigned)send_bytes(&hub.link, forged.bytes, forged.n);
+        forge(draw(2) == 0 ? session : ~session, 0);
     switch (first ? TWICE : draw(FATES)) {
     case LOST:
         lost++;
@@ -219,15 +301,27 @@ static void pass(struct side *from, size_t n)
         late += !copies;
         break;
     case DAMAGED:
-        do
-            at = draw(n);
-        while (at == 2 || at == 3);
-        message[at] ^= (uint8_t)(1 << draw(8));
-        damaged++;
+        at = draw(n);
+        bit = (uint8_t)(1 << draw(8));
+        message[at] ^= bit;
+        if (hub_wanted(message, n) != n)
+            message[at] ^= bit;
+        else
+            damaged++;
     }
     while (copies-- > 0)
         (void)send_bytes(&from->other->link, message, n);
     release(from, 0);
+}
+
+/* Sends them to the hub once more, when another gateway is in its place: whatever they say, it is of the past. */
+static void replay(void)
+{
+    size_t i;
+
+    for (i = 0; i < old_n; i++)
+        replayed += (unsigned)send_bytes(&hub.link, old[i].bytes, old[i].n);
+    old_n = 0;
 }
 
 /* What came to a side's end: a message, or the end of its stream, which the other side then hears of. */
@@ -255,19 +349,76 @@ static int ended(struct side *side)
     return WEXITSTATUS(status);
 }
 
-/* Runs both programs over the link until both have ended, with these statuses. */
-static void run(char **commands, const char *certificate, int hub_status, int gateway_status)
+/* What a program has printed so far: read without moving the place at which it goes on. */
+static size_t printed(FILE *file, char text[PRINTED])
 {
-    struct pollfd streams[2] = {{0, POLLIN, 0}, {0, POLLIN, 0}};
+    ssize_t n = pread(fileno(file), text, PRINTED - 1, 0);
+
+    if (n < 0 || n == PRINTED - 1)
+        fail("what a program prints cannot be read");
+    text[n] = 0;
+    return (size_t)n;
+}
+
+/* Whether the hub has said that it does not accept a certificate. */
+static int turned_away(void)
+{
+    static char text[PRINTED];
+
+    printed(hub.log, text);
+    return strstr(text, REFUSAL) != NULL;
+}
+
+static void start_gateway(char **commands, const char *certificate)
+{
     char argument[128];
 
-    drawn = seed++;
-    seen_n = 0;
-    alarm(LIMIT);
+    sent_messages = sent_pieces = 0;
     snprintf(argument, sizeof argument, "'%s'", certificate);
-    start(&hub, commands[0], "");
     start(&gateway, commands[1], argument);
+}
+
+/* A gateway that is cut off: its certificate, and when that is: after so many messages, or so many pieces of reports, or where both are 0 once the
+   hub has turned it away. */
+struct cut {
+    const char *certificate;
+    unsigned messages, pieces;
+};
+
+static int time_to_cut(const struct cut *cut)
+{
+    if (cut->messages > 0)
+        return sent_messages >= cut->messages;
+    return cut->pieces > 0 ? sent_pieces >= cut->pieces : turned_away();
+}
+
+/* Runs the hub and a gateway over the link until both have ended; before that gateway one that is cut off, where there is such a one. What was held
+   back of it comes late, when the other one runs. Answers how many bytes the one that was cut off has printed. */
+static size_t run(char **commands, const struct cut *cut)
+{
+    static char text[PRINTED];
+    struct pollfd streams[2] = {{0, POLLIN, 0}, {0, POLLIN, 0}};
+    size_t before = 0;
+
+    drawn = seed + (cut == NULL ? 0 : 1000 * (1 + cut->messages + cut->pieces)); /* no two runs of a seed are alike */
+    seen_n = agreed_n = by_gateways.n = by_hub.n = old_n = 0;
+    keeping = cut != NULL;
+    runs++;
+    alarm(LIMIT);
+    clear(&hub);
+    clear(&gateway);
+    start(&hub, commands[0], "");
+    start_gateway(commands, cut == NULL ? CERTIFICATE_OF_GATEWAY : cut->certificate);
     while (hub.open || gateway.open) {
+        if (keeping && time_to_cut(cut)) {
+            if (ended(&gateway) != 1)
+                fail("a gateway that is cut off ends with another status");
+            before = printed(gateway.out, text);
+            start_gateway(commands, CERTIFICATE_OF_GATEWAY);
+            keeping = 0;
+        }
+        if (!keeping && sent_pieces == HUB_MOST_PIECES)
+            replay();
         streams[0].fd = hub.open ? hub.link.descriptor : -1;
         streams[1].fd = gateway.open ? gateway.link.descriptor : -1;
         if (poll(streams, 2, IDLE) == 0) {
@@ -280,37 +431,46 @@ static void run(char **commands, const char *certificate, int hub_status, int ga
         if (streams[1].revents != 0)
             serve(&gateway);
     }
-    if (ended(&hub) != hub_status || ended(&gateway) != gateway_status)
+    if (ended(&hub) != 0 || ended(&gateway) != 0)
         fail("a program ends with another status");
+    if (keeping || old_n > 0)
+        fail("a gateway is not cut off, or no other one is ready then");
+    return before;
 }
 
-/* What a program printed. */
-static size_t printed(FILE *file, char text[PRINTED])
+/* The reports in a text: each is whole, and they are numbered from 0 on, the first one empty. Answers how many, and the size of the last one. */
+static unsigned numbered(const char *text, size_t n, unsigned *size)
 {
-    size_t n;
-
-    rewind(file);
-    n = fread(text, 1, PRINTED - 1, file);
-    text[n] = 0;
-    return n;
-}
-
-/* The hub printed what the gateway did: reports from 0 on, the first one empty, the last of 64 whole pieces. */
-static void hold_reports(void)
-{
-    static char came[PRINTED], sent[PRINTED];
-    size_t n = printed(hub.out, came), at;
-    unsigned number = 0, named, size = 1;
+    unsigned number, named;
+    size_t at = 0;
     int head;
 
-    if (printed(gateway.out, sent) != n || memcmp(came, sent, n) != 0)
-        fail("the hub prints other reports than were sent");
-    for (at = 0; at < n; at += (size_t)head + size + 2, number++)
-        if (sscanf(came + at, "report %u, %u bytes:%n", &named, &size, &head) != 2 || named != number || (number == 0 && size != 0))
+    for (number = 0; at < n; at += (size_t)head + *size + 2, number++)
+        if (sscanf(text + at, "report %u, %u bytes:%n", &named, size, &head) != 2 || named != number || (number == 0 && *size != 0))
             fail("the hub prints no report, or one out of order");
-    if (at != n || number < 4 || size != HUB_MOST_PIECES * F)
+    if (at != n)
+        fail("a report is not whole");
+    return number;
+}
+
+/* The hub printed what the gateway did, the last report of 64 whole pieces; and before that the first reports of the one that was cut off, which has
+   printed so many bytes. Answers how many reports of that one it printed. */
+static unsigned hold_reports(size_t before)
+{
+    static char came[PRINTED], sent[PRINTED];
+    size_t came_n = printed(hub.out, came), sent_n = printed(gateway.out, sent) - before;
+    unsigned number, size = 0, first;
+
+    if (came_n < sent_n || memcmp(came + came_n - sent_n, sent + before, sent_n) != 0)
+        fail("the hub prints other reports than were sent");
+    if (came_n - sent_n > before || memcmp(came, sent, came_n - sent_n) != 0)
+        fail("the hub prints other reports than the gateway sent that was cut off");
+    first = numbered(came, came_n - sent_n, &size);
+    number = numbered(sent + before, sent_n, &size);
+    if (number < 4 || size != HUB_MOST_PIECES * F)
         fail("a report is missing");
-    reports += number;
+    reports += number + first;
+    return first;
 }
 
 /* Adds up what the hub counted. */
@@ -331,23 +491,45 @@ static void hold_counts(void)
         fail("the hub does not say what it counted");
 }
 
-/* A gateway whose certificate the hub does not know. */
+/* A gateway is cut off, and another one comes. Answers how many reports came of the first. */
+static unsigned restart(char **commands, const char *certificate, unsigned after_messages, unsigned after_pieces)
+{
+    struct cut cut = {certificate, after_messages, after_pieces};
+    unsigned first = hold_reports(run(commands, &cut));
+
+    hold_counts();
+    cut_off++;
+    return first;
+}
+
+/* A gateway whose certificate the hub does not know sends no report; one that it knows is heard after it. */
 static void stranger(char **commands, const char *certificate)
 {
-    static char text[PRINTED];
-
-    run(commands, certificate, 1, 1);
-    if (printed(hub.out, text) != 0 || printed(gateway.out, text) != 0)
+    if (restart(commands, certificate, 0, 0) != 0)
         fail("a stranger sends reports");
-    printed(hub.log, text);
-    if (strstr(text, "the certificate is not accepted") == NULL)
-        fail("the hub does not say why it ends");
     unknown++;
+}
+
+/* Past its deadline a program reads no message, even if one is there: whoever sends without end keeps it from nothing. The message is not lost. */
+static void hold_deadline(void)
+{
+    static struct link link;
+    int ends[2];
+
+    if (socketpair(AF_UNIX, SOCK_STREAM, 0, ends) != 0)
+        fail("there is no socket");
+    link.descriptor = ends[0];
+    if (write(ends[1], forged.bytes, forged.n) != (ssize_t)forged.n || receive(&link, now() - 1) != 0 || receive(&link, now()) != 0)
+        fail("a message is read after the deadline");
+    if (receive(&link, NEVER) != forged.n || memcmp(link.message, forged.bytes, forged.n) != 0)
+        fail("a message is not read");
+    close(ends[0]);
+    close(ends[1]);
 }
 
 int main(int argc, char **argv)
 {
-    unsigned last, runs = 0;
+    unsigned last;
 
     if (argc != 5) {
         fprintf(stderr, "usage: relay FIRST LAST HUB GATEWAY\n");
@@ -355,21 +537,29 @@ int main(int argc, char **argv)
     }
     signal(SIGALRM, time_is_up);
     signal(SIGPIPE, SIG_IGN);
-    forge();
-    seed = (unsigned)atoi(argv[1]);
-    for (last = (unsigned)atoi(argv[2]); seed <= last; runs++) {
-        run(argv + 3, CERTIFICATE_OF_GATEWAY, 0, 0);
-        hold_reports();
+    last = (unsigned)atoi(argv[2]);
+    for (seed = (unsigned)atoi(argv[1]); seed <= last; seed++) {
+        (void)hold_reports(run(argv + 3, NULL));
+        if (turned_away())
+            fail("the hub turns its gateway away");
         hold_counts();
+        (void)restart(argv + 3, CERTIFICATE_OF_GATEWAY, 1 + seed % 8, 0);
+        /* Before the last report come 10 pieces, 16 times each; of that one, which has 64, fewer than 64 are sent. */
+        if (restart(argv + 3, CERTIFICATE_OF_GATEWAY, 0, 10 * 16 + 1 + seed % 63) != 5)
+            fail("a report that was cut off is complete");
+        in_report++;
     }
     /* One that begins with the known certificate, one that the known one begins with, one of the same length. */
     stranger(argv + 3, CERTIFICATE_OF_GATEWAY "!");
     stranger(argv + 3, "gateway 7, block 12, Merlo");
     stranger(argv + 3, "gateway 8, block 12, Merlot");
-    if (lost == 0 || twice == 0 || late == 0 || damaged == 0 || forgeries == 0 || again == 0 || dropped == 0 || replied <= 3 * runs)
+    hold_deadline();
+    if (lost == 0 || twice == 0 || late == 0 || damaged == 0 || while_ready == 0 || again == 0 || dropped == 0 || replied <= 3 * (runs + cut_off))
         fail("the link was too good");
-    printf("%u run%s, %u messages: %u lost, %u twice, %u late, %u damaged, %u forged between; %u reports came once, in order, as sent; %u replies, "
-           "%u sent again, %u messages dropped; %u unknown certificates not accepted\n",
-           runs, runs == 1 ? "" : "s", messages, lost, twice, late, damaged, forgeries, reports, replied, again, dropped, unknown);
+    printf("%u runs, %u messages: %u lost, %u twice, %u late, %u damaged, %u forged between, %u of them to a hub that is ready; ", runs, messages,
+           lost, twice, late, damaged, forgeries, while_ready);
+    printf("%u gateways cut off, %u in a report, and another one heard, whatever %u old requests say; ", cut_off, in_report, replayed);
+    printf("%u reports came once, in order, as sent; %u replies, %u sent again, %u messages dropped; ", reports, replied, again, dropped);
+    printf("%u unknown certificates not accepted\n", unknown);
     return 0;
 }
