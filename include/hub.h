@@ -86,8 +86,12 @@
  * HUB_WAITING_FOR_REQUEST, where a message is refused with 15 or 16, try it on a new connection, by hub_open and a step without keys. If that
  * answers HUB_KIND_REPLY, keep the new one beside the old one, with keys, replies and a report buffer of its own, and drop the old one when the new
  * one is HUB_PASSED. Bound how many you keep. While there are several, each message goes to one after the other until one does not refuse it. So
- * neither a stranger nor an old request cuts a gateway off, and one that starts over is heard (host/c/hub.c). A gateway whose sealed requests get
- * no reply starts over with its Connection Request.
+ * neither a stranger nor an old request cuts a gateway off, and one that starts over is heard (host/c/hub.c).
+ *
+ * The gateway. A reply counts where hub_read does not refuse it, its SessionID is the gateway's, its type is HUB_TYPE_CONNECT, and hub_read_connect
+ * gives the type that is awaited: 1 with Result HUB_PENDING, whose nonce, X and Y lead to the keys; 3, whose certificate is judged as the hub
+ * judges the gateway's; 7 with Status HUB_SUCCESS. Every other message is dropped: it is late, damaged or a stranger's. A gateway whose sealed
+ * requests get no reply starts over with its Connection Request.
  *
  * Reports. Lend a connection the same report buffer at each step, and leave it alone, until the report is complete; then take the report before the
  * next step. A connection comes from hub_open and goes through hub_step alone. Then the first answer[HUB_ANSWER_LENGTH] bytes of report are, at

@@ -293,8 +293,16 @@
 //! is heard.
 //!
 //! While there are several, each message goes to one after the other until one does not refuse it;
-//! what is refused leaves a connection as it was. A gateway whose sealed requests get no reply
-//! starts over with its Connection Request.
+//! what is refused leaves a connection as it was.
+//!
+//! ## The gateway
+//!
+//! A reply counts where [`read`] does not refuse it, its SessionID is the gateway's, and
+//! [`Message::connect`] gives the payload that is awaited: a Connection Response whose Result is
+//! Pending, which leads to the keys; a Device Authentication Response, whose certificate is judged
+//! as the hub judges the gateway's; a Done Response with
+//! [`Success`](payload::Status::Success). Every other message is dropped: it is late, damaged or a
+//! stranger's. A gateway whose sealed requests get no reply starts over with its Connection Request.
 //!
 //! ## Reports and their buffer
 //!
