@@ -66,7 +66,8 @@ static size_t write_message(size_t payload_n)
     fields[HUB_HEADER_TYPE] = HUB_TYPE_SESSION;
     fields[HUB_HEADER_FLAGS] = HUB_FLAGS_SEALED;
     fields[HUB_HEADER_COUNT] = 1;
-    number = hub_write(fields, HUB_FIELDS_WORDS, HUB_NO_ENTRIES, HUB_NO_ENTRIES_N, payload, payload_n, keys, HUB_KEYS_BYTES, out, sizeof out, length, HUB_LENGTH_WORDS);
+    number = hub_write(fields, HUB_FIELDS_WORDS, HUB_NO_ENTRIES, HUB_NO_ENTRIES_N, payload, payload_n, keys, HUB_KEYS_BYTES, out, sizeof out, length,
+                       HUB_LENGTH_WORDS);
     must(number == HUB_DONE, "hub_write refuses");
     return (size_t)length[0];
 }

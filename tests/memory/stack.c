@@ -18,10 +18,12 @@
 static uint8_t stack[STACK];
 static ucontext_t here, there;
 
-static const uint8_t nonce[HUB_NONCE_BYTES], x[HUB_COORDINATE_BYTES], y[HUB_COORDINATE_BYTES], certificate[HUB_MOST_CERTIFICATE], thumbprint[HUB_MOST_THUMBPRINT];
+static const uint8_t nonce[HUB_NONCE_BYTES], x[HUB_COORDINATE_BYTES], y[HUB_COORDINATE_BYTES];
+static const uint8_t certificate[HUB_MOST_CERTIFICATE], thumbprint[HUB_MOST_THUMBPRINT];
 static uint8_t keys[HUB_KEYS_BYTES], state[HUB_STATE_BYTES], before[HUB_STATE_BYTES], working[HUB_MOST_SEALED], report[3 * F];
 static uint8_t message[HUB_MOST_READ], out[HUB_MOST_WRITTEN], digest[HUB_DIGEST_BYTES], line[HUB_LINE_BYTES], payload[F], chain[8 * (2 + ENTRY) + 2];
-static uint64_t header[HUB_HEADER_WORDS], fields[HUB_FIELDS_WORDS], place[HUB_PLACE_WORDS], answer[HUB_ANSWER_WORDS], length[HUB_LENGTH_WORDS], connect[HUB_CONNECT_WORDS];
+static uint64_t header[HUB_HEADER_WORDS], fields[HUB_FIELDS_WORDS], place[HUB_PLACE_WORDS], answer[HUB_ANSWER_WORDS];
+static uint64_t length[HUB_LENGTH_WORDS], connect[HUB_CONNECT_WORDS];
 static size_t message_n, payload_n;
 static uint64_t verdict;
 static uint32_t number;
@@ -38,7 +40,8 @@ static void do_read(void) { number = hub_read(message, message_n, keys, sizeof k
 static void do_payload(void) { number = hub_payload(message, message_n, working, sizeof working, header, HUB_HEADER_WORDS, place, HUB_PLACE_WORDS); }
 static void do_write(void)
 {
-    number = hub_write(fields, HUB_FIELDS_WORDS, chain, sizeof chain, payload, payload_n, keys, sizeof keys, out, sizeof out, length, HUB_LENGTH_WORDS);
+    number = hub_write(fields, HUB_FIELDS_WORDS, chain, sizeof chain, payload, payload_n, keys, sizeof keys, out, sizeof out, length,
+                       HUB_LENGTH_WORDS);
 }
 static void do_presence_request(void) { number = hub_write_presence_request(payload, sizeof payload, length, HUB_LENGTH_WORDS); }
 static void do_connection_request(void)

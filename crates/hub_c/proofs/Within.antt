@@ -1,6 +1,7 @@
 -- SPDX-License-Identifier: MPL-2.0
--- Once the piece with the last index has come, the report lies in the report buffer: 22 has seen to it where that piece comes; where it came before, the
--- report's length was known, and a shorter buffer was a wrong one. So a report that is complete lies in the buffer, and no step makes it too short.
+-- Once the piece with the last index has come, the report lies in the report buffer: 22 has seen to it where that piece comes; where it came
+-- before, the report's length was known, and a shorter buffer was a wrong one. So a report that is complete lies in the buffer, and no step makes
+-- it too short.
 use Rattle.laws.proofs.Kit.{ℕ, _+_, _-_, _*_, _<_, _≤_, _≡_, refl, sym, _∙_, Bool, true, false, not, List, _++_, length, eqb, eqb-true}
 use Rattle.laws.proofs.Kit.{eqb-false, ne-eqb, ltb, ltb-false, le-ltb, not-false, _||_, arith}
 use Prim.Native.Nat.{zero-le}

@@ -13,9 +13,9 @@ use Rattle.wire.specs.Reader.{readHeader, wanted}
 unfoldable pub wantedBy : List ℕ → ℕ
 wantedBy bytes = cond (ltb (length bytes) 4) 42 (wanted bytes)
 
--- What the bytes say that have come of a message, which the reader of headers does not refuse, and of what follows it. Before MessageLength is there, the
--- least; from then on the message's length. So whoever reads as many bytes as are missing never has one of the message after; and what was said once
--- MessageLength is there does not change.
+-- What the bytes say that have come of a message, which the reader of headers does not refuse, and of what follows it: before MessageLength is
+-- there, the least; from then on the message's length. So whoever reads as many bytes as are missing never has one of the message after; and what
+-- was said once MessageLength is there does not change.
 pub record NextMessage : Type 0 where
   pub unknown : (bytes : List ℕ) → length bytes < 4 → wantedBy bytes ≡ 42
   pub known : (message more : List ℕ) (n : ℕ) → foundHeader (readHeader message) .refusal ≡ 0 → 4 ≤ n
