@@ -4,11 +4,10 @@ use Rattle.laws.proofs.Kit.{ℕ, zero, suc, _+_, _*_, _/_, _%_, _<_, _≡_, ref
 use Rattle.laws.proofs.Kit.{take-all, take-at, length-take-le, drop-at, getD-take, arith}
 use lib.ListN.{take-append-drop}
 use lib.Seq.{getD-drop}
-use Rattle.aes.specs.State.{Block, addRoundKey}
+use Rattle.aes.specs.State.{Block, Keys, addRoundKey}
 use Rattle.aes.specs.Cipher.{invCipher}
 use Rattle.aes.specs.Cbc.{chain, cbcEncryptBlock, cbcDecryptBlock, cbcEncrypt, cbcDecrypt}
 use Rattle.aes.proofs.Steps.{add-length, add-block, add-add}
-use Rattle.aes.proofs.Schedule.{Keys}
 use Rattle.aes.proofs.Undo.{cipher-length, cipher-block, invCipher-cipher}
 
 -- ---- lengths

@@ -2,6 +2,7 @@
 pub mod Steps
 pub mod StateWords
 pub mod TableRounds
+pub mod KeyWords
 pub mod Schedule
 pub mod Undo
 pub mod Chain

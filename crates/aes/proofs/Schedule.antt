@@ -1,33 +1,51 @@
 -- SPDX-License-Identifier: MPL-2.0
 -- The round keys: each is a block, and the code makes the next.
-use Rattle.laws.proofs.Kit.{ℕ, zero, suc, _+_, _/_, _%_, _<_, _≡_, List, [], _∷_, getD, lit<}
+use Rattle.laws.proofs.Kit.{ℕ, zero, suc, _/_, _%_, _<_, _≡_, refl, List, [], lit<, arith}
 use Rattle.laws.specs.Runs.{run}
 use Rattle.field.specs.Xor.{xor}
 use Rattle.field.specs.Sbox.{sbox}
+use Rattle.field.specs.Words.{word, byteAt}
 use Rattle.laws.proofs.Runs.{run-from-zero}
-use Rattle.field.proofs.Xor.{byte}
+use Rattle.field.proofs.Xor.{zero-r, byte, assoc}
 use Rattle.field.proofs.Linear.{xtime-byte}
 use Rattle.field.proofs.Sbox.{sbox-byte}
-use Rattle.aes.specs.State.{block, Block}
+use Rattle.field.proofs.Each.{byteAt-lt, word-at0, word-at1, word-at2, word-at3}
+use Rattle.aes.specs.declared.columns.State.{State}
+use Rattle.aes.specs.State.{block, Block, Keys}
+use Rattle.aes.specs.Words.{bytesOf}
 use Rattle.aes.specs.Key.{rcon, turnedByte, nextByte, nextKey, roundKey, expandKey}
 use Rattle.aes.proofs.Steps.{all-bytes, block-of}
+use Rattle.aes.proofs.StateWords.{byteAt-sum}
+use Rattle.aes.proofs.TableRounds.{taken}
 
 -- ---- one round key more
 
--- n words as the code adds them: to the four bytes of the round key k from place i on p, q, r, s are added, and each sum to the byte four on
-abbrev sums : List ℕ → ℕ → ℕ → ℕ → ℕ → ℕ → ℕ → List ℕ
-sums k i zero p q r s = []
-sums k i (suc n) p q r s =
-    let a : ℕ = xor (getD k i 0) p in
-    let b : ℕ = xor (getD k (i + 1) 0) q in
-    let c : ℕ = xor (getD k (i + 2) 0) r in
-    let d : ℕ = xor (getD k (i + 3) 0) s in
-    a ∷ b ∷ c ∷ d ∷ sums k (i + 4) n a b c d
+-- as the code adds its words: to the first the substitutes p of the last word y, turned, and the round constant c, and each sum to the next
+module _ (k : State) (c y p : ℕ) where
+  abbrev first : ℕ
+  first = xor (xor (k .a) p) c
 
-pub next-by : (k : List ℕ) (c p q r s : ℕ) → p ≡ sbox (getD k 13 0) → q ≡ sbox (getD k 14 0) → r ≡ sbox (getD k 15 0) → s ≡ sbox (getD k 12 0)
-    → sums k 0 4 (xor p c) q r s ≡ nextKey k c
-unfolding nextKey nextByte turnedByte block run
-next-by k c p q r s ep eq er es = λ t. sums k 0 4 (xor (ep t) c) (eq t) (er t) (es t)
+  abbrev second : ℕ
+  second = xor (k .b) first
+
+  abbrev third : ℕ
+  third = xor (k .c) second
+
+  pub next-words : c < 256 → y ≡ word (byteAt (k .d) 1) (byteAt (k .d) 2) (byteAt (k .d) 3) (byteAt (k .d) 0) → p ≡ taken word sbox y y y y
+      → bytesOf (record { a = first; b = second; c = third; d = xor (k .d) third }) ≡ nextKey (bytesOf k) c
+  unfolding nextKey nextByte turnedByte block run bytesOf
+  next-words h ey ep =
+      let s : (m : ℕ) → sbox (byteAt y m) < 256 = λ m. sbox-byte _ (byteAt-lt y m) in
+      let d : (m : ℕ) → byteAt (k .d) m < 256 = byteAt-lt (k .d) in
+      let p0 : byteAt p 0 ≡ sbox (byteAt (k .d) 1) = rw (ep, word-at0 _ _ _ _ (s 0) (s 1) (s 2) (s 3), ey, word-at0 _ _ _ _ (d 1) (d 2) (d 3) (d 0)) in
+      let p1 : byteAt p 1 ≡ sbox (byteAt (k .d) 2) = rw (ep, word-at1 _ _ _ _ (s 0) (s 1) (s 2) (s 3), ey, word-at1 _ _ _ _ (d 1) (d 2) (d 3) (d 0)) in
+      let p2 : byteAt p 2 ≡ sbox (byteAt (k .d) 3) = rw (ep, word-at2 _ _ _ _ (s 0) (s 1) (s 2) (s 3), ey, word-at2 _ _ _ _ (d 1) (d 2) (d 3) (d 0)) in
+      let p3 : byteAt p 3 ≡ sbox (byteAt (k .d) 0) = rw (ep, word-at3 _ _ _ _ (s 0) (s 1) (s 2) (s 3), ey, word-at3 _ _ _ _ (d 1) (d 2) (d 3) (d 0)) in
+      let c0 : byteAt c 0 ≡ c = omega arith in
+      let c1 : byteAt c 1 ≡ 0 = omega arith in
+      let c2 : byteAt c 2 ≡ 0 = omega arith in
+      let c3 : byteAt c 3 ≡ 0 = omega arith in
+      simp (byteAt-sum, p0, p1, p2, p3, c0, c1, c2, c3, zero-r, assoc) refl
 
 -- ---- round keys are blocks
 
@@ -54,10 +72,6 @@ roundKey-block : (key : List ℕ) → Block key → (n : ℕ) → Block (roundKe
 unfolding roundKey
 roundKey-block key b zero = b
 roundKey-block key b (suc n) = next-block (roundKey key n) (rcon n) (rcon-byte n) (roundKey-block key b n)
-
--- each of the eleven is a block
-abbrev pub Keys : List (List ℕ) → Type 0
-Keys ks = (i : ℕ) → i < 11 → Block (getD ks i [])
 
 pub expandKey-keys : (key : List ℕ) → Block key → Keys (expandKey key)
 unfolding expandKey

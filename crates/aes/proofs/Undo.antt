@@ -1,30 +1,60 @@
 -- SPDX-License-Identifier: MPL-2.0
 -- Decryption undoes encryption, for every key and block; and the rounds as the code counts them.
-use Rattle.laws.proofs.Kit.{ℕ, zero, suc, _-_, _≤_, _<_, _≡_, List, [], length, getD, lit<, arith}
-use Rattle.aes.specs.State.{Block, subBytes, shiftRows, addRoundKey, invShiftRows, invSubBytes, invMixColumns}
-use Rattle.aes.specs.Words.{InverseKeys}
+use Rattle.laws.proofs.Kit.{ℕ, zero, suc, _-_, _≤_, _<_, _≡_, refl, _∙_, List, [], length, getD, lt-ltb, lit<, arith}
+use Rattle.laws.specs.Runs.{run}
+use Rattle.laws.proofs.Runs.{run-from-zero}
+use Rattle.aes.specs.State.{Block, Keys, subBytes, shiftRows, addRoundKey, invShiftRows, invSubBytes, invMixColumns}
 use Rattle.aes.specs.Key.{expandKey}
-use Rattle.aes.specs.Cipher.{rounds, cipher, unrounds, invCipher}
+use Rattle.aes.specs.Cipher.{rounds, cipher, unrounds, invCipher, eqUnrounds, eqInvCipher, eqKey, eqKeys}
 use Rattle.aes.proofs.Steps.{add-length, add-block, add-add, sub-block, unsub-sub, unsub-block, shift-block, unshift-shift}
-use Rattle.aes.proofs.Steps.{unshift-block, mix-block, unmix-mix, unmix-add}
-use Rattle.aes.proofs.Schedule.{Keys, expandKey-keys}
+use Rattle.aes.proofs.Steps.{unshift-block, mix-block, unmix-mix, unmix-block, unmix-add}
+use Rattle.aes.proofs.Schedule.{expandKey-keys}
 
 -- ---- the rounds back
 
--- one less, by a key that InvMixColumns was applied to
-pub unrounds-less : (ks ds : List (List ℕ)) → InverseKeys ks ds 10 → (k : List ℕ) (n : ℕ) → 0 < n → n ≤ 9 → k ≡ getD ds n [] → (s r : List ℕ)
-    → (r ≡ addRoundKey (invMixColumns (invSubBytes (invShiftRows s))) k) × Block s → unrounds ks (n - 1) r ≡ unrounds ks n s
-unfolding unrounds
-unrounds-less ks ds inv k zero h g ek s r e = absurd (omega arith)
-unrounds-less ks ds inv k (suc n) h g ek s r (er, b) =
-    let key = inv (suc n) (omega arith) (omega arith) in
-    let m : suc n - 1 ≡ n = omega arith in
-    rw (m, er, ek, key .0, ← unmix-add _ _ (unsub-block _ (unshift-block s b)) (key .1))
+-- the round keys of EqInvCipher(): at both ends, and between
+module _ (ks : List (List ℕ)) where
+  first-key : getD (eqKeys ks) 0 [] ≡ getD ks 0 []
+  unfolding eqKeys eqKey run
+  first-key = refl
 
-pub invCipher-whole : (ks : List (List ℕ)) (k l : List ℕ) (n : ℕ) → k ≡ getD ks 10 [] → n ≤ 0 → l ≡ getD ks 0 [] → (b s₀ s r : List ℕ)
-    → s₀ ≡ addRoundKey b k → unrounds ks n s ≡ unrounds ks 9 s₀ → r ≡ addRoundKey (invSubBytes (invShiftRows s)) l → r ≡ invCipher ks b
-unfolding invCipher unrounds
-invCipher-whole ks k l n ek h el b s₀ s r e₀ es er = let z : n ≡ 0 = omega arith in cc
+  last-key : getD (eqKeys ks) 10 [] ≡ getD ks 10 []
+  unfolding eqKeys eqKey run
+  last-key = refl
+
+  middle-key : (i : ℕ) → 0 < i → i < 10 → getD (eqKeys ks) i [] ≡ invMixColumns (getD ks i [])
+  unfolding eqKeys eqKey
+  middle-key i h g = run-from-zero (eqKey ks) 11 i [] (omega arith) ∙ rw (lt-ltb 0 i h, lt-ltb i 10 g)
+
+  -- one round after the other, by a key that InvMixColumns was applied to
+  eq-unrounds : Keys ks → (n : ℕ) → n ≤ 9 → (s : List ℕ) → Block s → eqUnrounds (eqKeys ks) n s ≡ unrounds ks n s
+  unfolding eqUnrounds unrounds
+  eq-unrounds hk zero h s b = rw first-key
+  eq-unrounds hk (suc n) h s b =
+      let x = unsub-block _ (unshift-block s b) in
+      let k = hk (suc n) (omega arith) in
+      rw (middle-key (suc n) (omega arith) (omega arith), ← unmix-add _ _ x k) (eq-unrounds hk n (omega arith) _ (unmix-block _ (add-block _ _ x k)))
+
+  pub eqInvCipher-is : Keys ks → (b : List ℕ) → Block b → eqInvCipher (eqKeys ks) b ≡ invCipher ks b
+  unfolding eqInvCipher invCipher
+  eqInvCipher-is hk b h = rw last-key (eq-unrounds hk 9 (omega arith) _ (add-block b (getD ks 10 []) h (hk 10 (lit< tt))))
+
+-- a round less to come, and none
+module _ (ds : List (List ℕ)) where
+  pub eq-less : (n : ℕ) (s s′ : List ℕ) → 0 < n → s′ ≡ addRoundKey (invMixColumns (invSubBytes (invShiftRows s))) (getD ds n [])
+      → eqUnrounds ds (n - 1) s′ ≡ eqUnrounds ds n s
+  unfolding eqUnrounds
+  eq-less zero s s′ h e = absurd (omega arith)
+  eq-less (suc n) s s′ h e = let p : suc n - 1 ≡ n = omega arith in rw (p, e)
+
+  eq-last : (s : List ℕ) → addRoundKey (invSubBytes (invShiftRows s)) (getD ds 0 []) ≡ eqUnrounds ds 0 s
+  unfolding eqUnrounds
+  eq-last s = refl
+
+  pub eq-whole : (b s₀ s r : List ℕ) (n : ℕ) → n ≤ 0 → s₀ ≡ addRoundKey b (getD ds 10 []) → eqUnrounds ds n s ≡ eqUnrounds ds 9 s₀
+      → r ≡ addRoundKey (invSubBytes (invShiftRows s)) (getD ds 0 []) → r ≡ eqInvCipher ds b
+  unfolding eqInvCipher
+  eq-whole b s₀ s r n h begun inv ended = let z : n ≡ 0 = omega arith in ended ∙ eq-last s ∙ rw (z, begun) at inv
 
 -- ---- lengths and bytes
 

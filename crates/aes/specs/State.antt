@@ -2,7 +2,7 @@
 -- FIPS 197, 5.1 and 5.3: the state, a block of sixteen bytes, and the steps of a round each way. Byte i of the list stands in row i % 4
 -- and column i / 4 (3.4). Each step is given byte by byte.
 use mathlib.Core.Path.{_≡_}
-use mathlib.Core.List.{List}
+use mathlib.Core.List.{List, []}
 use Prim.Native.Nat.{ℕ, _+_, _-_, _*_, _/_, _%_, _<_}
 use lib.ListN.{getD, length}
 use Rattle.laws.specs.Runs.{run}
@@ -18,6 +18,10 @@ block f = run f 0 16
 pub record Block (s : List ℕ) : Type 0 where
   pub len : length s ≡ 16
   pub bytes : (i : ℕ) → i < 16 → getD s i 0 < 256
+
+-- Each of the eleven lists is a block, as round keys are.
+abbrev pub Keys : List (List ℕ) → Type 0
+Keys ks = (i : ℕ) → i < 11 → Block (getD ks i [])
 
 -- 5.1.1, SubBytes(): each byte is substituted.
 unfoldable pub subBytes : List ℕ → List ℕ

@@ -1,28 +1,27 @@
 // SPDX-License-Identifier: MPL-2.0
 // One block, both ways (FIPS 197, 5.1 and 5.3). The public calls take the round keys by value. What chaining calls block by block goes by
-// references, to these and to tables, that are bound once a call.
+// references, to the words of these and to a table, that are made once a call.
 use super::columns::State;
 use super::columns::add;
 use super::columns::bytes_of;
 use super::columns::words;
+use super::roundkeys::inverse_words;
+use super::roundkeys::key_at;
+use super::roundkeys::key_words;
 use super::rounds::inv_last_round;
 use super::rounds::inv_round;
 use super::rounds::last_round;
 use super::rounds::round;
-use super::rounds::unmix_key;
 use field::tables::inverse_substitution;
-use field::tables::mixing;
 use field::tables::substitution;
-use field::tables::unmixing;
 ghost use mathlib.Core.Path.{_≡_};
 ghost use Prim.Native.Nat.{_≤_};
 ghost use lib.ListN.{getD, length};
 ghost use Rattle.laws.specs.Runs.{table};
 ghost use Rattle.field.specs.Sbox.{sbox, invSbox};
-ghost use Rattle.field.specs.Words.{Mixes};
 ghost use Rattle.aes.specs.State.{loadBlock};
-ghost use Rattle.aes.specs.Words.{bytesOf, InverseKeys};
-ghost use Rattle.aes.specs.Cipher.{cipher, invCipher};
+ghost use Rattle.aes.specs.Words.{bytesOf, keysOf};
+ghost use Rattle.aes.specs.Cipher.{cipher, invCipher, eqInvCipher};
 
 // The sixteen bytes at the front of a slice that has them.
 pub(crate) fn front(s: &[u8]) -> [u8; 16]
@@ -87,74 +86,31 @@ pub(crate) fn words_from(s: &[u8]) -> State
 }
 
 // The cipher on four words.
-pub(crate) fn encrypt(keys: &[[u8; 16]; 11], sb: &[u8; 256], t: &[u64; 256], b: State) -> State
-    requires { ⌜ (now sb ≡ table sbox) × Mixes sbox 2 3 1 1 (now t) ⌝ }
-    ensures { λ r. ⌜ bytesOf r ≡ cipher (now (keys .entry)) (bytesOf b) ⌝ }
+pub(crate) fn encrypt(keys: &[u32; 44], sb: &[u8; 256], b: State) -> State
+    requires { ⌜ now sb ≡ table sbox ⌝ }
+    ensures { λ r. ⌜ bytesOf r ≡ cipher (keysOf (now (keys .entry))) (bytesOf b) ⌝ }
 {
-    let first = keys[0];
-    let mut s = add(b, words(first));
+    let mut s = add(b, key_at(keys, 0));
     let mut n: usize = 0;
     while n < 9 {
-        let k = keys[n + 1];
-        s = round(t, s, words(k));
+        s = round(s, key_at(keys, n + 1));
         n += 1;
     }
-    let last = keys[10];
-    last_round(sb, s, words(last))
+    last_round(sb, s, key_at(keys, 10))
 }
 
-// The round keys of the way back, between the first and the last, which stay as they are.
-pub(crate) fn inverse_keys(keys: &[[u8; 16]; 11], sb: &[u8; 256], t: &[u64; 256]) -> [[u8; 16]; 11]
-    requires { ⌜ (now sb ≡ table sbox) × Mixes invSbox 14 11 13 9 (now t) ⌝ }
-    ensures { λ r. ⌜ InverseKeys (now (keys .entry)) r 10 ⌝ }
+// The inverse cipher on four words, by its own round keys.
+pub(crate) fn decrypt(keys: &[u32; 44], sb: &[u8; 256], b: State) -> State
+    requires { ⌜ now sb ≡ table invSbox ⌝ }
+    ensures { λ r. ⌜ bytesOf r ≡ eqInvCipher (keysOf (now (keys .entry))) (bytesOf b) ⌝ }
 {
-    let mut inverse = [[0u8; 16]; 11];
-    let mut n: usize = 1;
-    while n < 10 {
-        let k = keys[n];
-        let u = unmix_key(sb, t, k);
-        inverse[n] = u;
-        n += 1;
-    }
-    inverse
-}
-
-// Two blocks.
-pub struct Pair {
-    pub x: State,
-    pub y: State,
-}
-
-// The inverse cipher on two blocks, whose rounds do not wait for each other.
-pub(crate) fn decrypt_pair(
-    keys: &[[u8; 16]; 11],
-    inverse: &[[u8; 16]; 11],
-    sb: &[u8; 256],
-    t: &[u64; 256],
-    p: Pair,
-) -> Pair
-    requires { ⌜ (now sb ≡ table invSbox) × Mixes invSbox 14 11 13 9 (now t) × InverseKeys (now keys) (now inverse) 10 ⌝ }
-    ensures { λ r. ⌜ (bytesOf (r .x) ≡ invCipher (now (keys .entry)) (bytesOf (p .x)))
-        × (bytesOf (r .y) ≡ invCipher (now (keys .entry)) (bytesOf (p .y))) ⌝ }
-{
-    let first = keys[10];
-    let k = words(first);
-    let mut x = add(p.x, k);
-    let mut y = add(p.y, k);
+    let mut s = add(b, key_at(keys, 10));
     let mut n: usize = 9;
     while 0 < n {
-        let kn = inverse[n];
-        let kw = words(kn);
-        x = inv_round(t, x, kw);
-        y = inv_round(t, y, kw);
+        s = inv_round(s, key_at(keys, n));
         n -= 1;
     }
-    let last = keys[0];
-    let kl = words(last);
-    Pair {
-        x: inv_last_round(sb, x, kl),
-        y: inv_last_round(sb, y, kl),
-    }
+    inv_last_round(sb, s, key_at(keys, 0))
 }
 
 // Cipher().
@@ -162,22 +118,15 @@ pub fn encrypt_block(keys: [[u8; 16]; 11], block: [u8; 16]) -> [u8; 16]
     ensures { λ r. ⌜ r ≡ cipher keys block ⌝ }
 {
     let sb = substitution();
-    let t = mixing();
-    bytes_of(encrypt(&keys, &sb, &t, words(block)))
+    let w = key_words(keys);
+    bytes_of(encrypt(&w, &sb, words(block)))
 }
 
-// InvCipher(), by a pair of the block and itself.
+// InvCipher().
 pub fn decrypt_block(keys: [[u8; 16]; 11], block: [u8; 16]) -> [u8; 16]
     ensures { λ r. ⌜ r ≡ invCipher keys block ⌝ }
 {
-    let sb = substitution();
-    let isb = inverse_substitution();
-    let t = unmixing();
-    let inverse = inverse_keys(&keys, &sb, &t);
-    let pair = Pair {
-        x: words(block),
-        y: words(block),
-    };
-    let p = decrypt_pair(&keys, &inverse, &isb, &t, pair);
-    bytes_of(p.x)
+    let sb = inverse_substitution();
+    let w = inverse_words(keys);
+    bytes_of(decrypt(&w, &sb, words(block)))
 }

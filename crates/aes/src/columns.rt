@@ -2,7 +2,7 @@
 // The state as four words, a column to each, its first byte the lowest.
 ghost use mathlib.Core.Path.{_≡_};
 ghost use Prim.Native.Nat.{_<_};
-ghost use Rattle.field.specs.Words.{word};
+ghost use Rattle.field.specs.Words.{word, byteAt};
 ghost use Rattle.aes.specs.State.{addRoundKey};
 ghost use Rattle.aes.specs.Words.{bytesOf};
 
@@ -13,7 +13,7 @@ pub struct State {
     pub d: u32,
 }
 
-fn wide(x: u8) -> u32
+pub(crate) fn wide(x: u8) -> u32
     ensures { λ r. ⌜ (r ≡ x) × (r < 256) ⌝ }
 {
     x as u32
@@ -24,6 +24,14 @@ pub(crate) fn join(a: u8, b: u8, c: u8, d: u8) -> u32
     ensures { λ r. ⌜ r ≡ word a b c d ⌝ }
 {
     ((wide(d) * 256 + wide(c)) * 256 + wide(b)) * 256 + wide(a)
+}
+
+// Byte m of a word.
+pub(crate) fn byte(w: u32, m: usize) -> u8
+    requires { ⌜ m < 4 ⌝ }
+    ensures { λ r. ⌜ r ≡ byteAt w m ⌝ }
+{
+    ((w >> (8 * m)) % 256) as u8
 }
 
 // The sixteen bytes of a block as four words.

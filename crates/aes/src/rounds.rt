@@ -4,51 +4,109 @@
 // A round looks up four words for each column: SubBytes, ShiftRows and MixColumns in one. The table holds each word twice over, so that a
 // lower row reads it turned, at the cost of no rotation. The last round has no MixColumns and takes bytes.
 // The way back is the same with the other table, once InvMixColumns was applied to the round keys (FIPS 197, 5.3.5): it is linear.
+//
+// Each table of words is looked at from one place, in two loops of four turns, which the compiler writes out: so it stands beside the code
+// (field::tables). The round key comes first and the word that is ready last comes last, so that little is left to wait for. The cipher has its
+// columns in the order d c b a, and so turns its rows as its inverse does; in the order a b c d its words do not all fit into registers.
 use super::columns::State;
-use super::columns::bytes_of;
+use super::columns::byte;
 use super::columns::join;
-use super::columns::words;
+use field::tables::mixing;
+use field::tables::unmixing;
 ghost use mathlib.Core.Path.{_≡_};
-ghost use Prim.Native.Nat.{_/_, _%_, _<_};
+ghost use Prim.Native.Nat.{_<_};
 ghost use Rattle.laws.specs.Runs.{table};
 ghost use Rattle.field.specs.Sbox.{sbox, invSbox};
-ghost use Rattle.field.specs.Words.{column, Mixes};
-ghost use Rattle.aes.specs.State.{Block, subBytes, shiftRows, mixColumns, addRoundKey, invShiftRows, invSubBytes, invMixColumns};
-ghost use Rattle.aes.specs.Words.{bytesOf, lookedUp, lookedUpBytes};
+ghost use Rattle.field.specs.Words as words;
+ghost use Rattle.aes.specs.State.{subBytes, shiftRows, mixColumns, addRoundKey, invShiftRows, invSubBytes, invMixColumns};
+ghost use Rattle.aes.specs.Words.{bytesOf, rowFrom, lookedUp, lookedUpBytes};
 
-// A column by a table of doubled words: each division by a power of 256 reads the word turned.
-fn look(t: &[u64; 256], a: u32, b: u32, c: u32, d: u32) -> u32
-    ensures { λ r. ⌜ (r ≡ lookedUp (now (t .entry)) a b c d) × (d < 4294967296) ⌝ }
+// The word that stands m bytes further up in a word twice over.
+fn turned(x: u64, m: usize) -> u32
+    requires { ⌜ m < 4 ⌝ }
+    ensures { λ r. ⌜ r ≡ words.turned x m ⌝ }
 {
-    (t[(a % 256) as usize] % 4294967296) as u32
-        ^ (t[(b / 256 % 256) as usize] / 16777216 % 4294967296) as u32
-        ^ (t[(c / 65536 % 256) as usize] / 65536 % 4294967296) as u32
-        ^ (t[(d / 16777216) as usize] / 256 % 4294967296) as u32
+    ((x >> (32 - 8 * m)) % 4294967296) as u32
 }
 
-// A column by one table of bytes.
-fn look_bytes(t: &[u8; 256], a: u32, b: u32, c: u32, d: u32) -> u32
-    ensures { λ r. ⌜ (r ≡ lookedUpBytes (now (t .entry)) a b c d) × (d < 4294967296) ⌝ }
+// Column n of a round of the cipher, by a word of the round key: its row m comes from m columns back.
+fn column(s: &[u32; 4], n: usize, k: u32) -> u32
+    requires { ⌜ n < 4 ⌝ }
+    ensures { λ r. ⌜ r ≡ lookedUp words.mixes (rowFrom (now (s .entry)) n) k 4 ⌝ }
 {
-    join(
-        t[(a % 256) as usize],
-        t[(b / 256 % 256) as usize],
-        t[(c / 65536 % 256) as usize],
-        t[(d / 16777216) as usize],
-    )
+    let mut w = k;
+    let mut m: usize = 0;
+    while m < 4 {
+        w = w ^ turned(mixing(byte(s[(n + 4 - m) % 4], m)), m);
+        m += 1;
+    }
+    w
+}
+
+// The same for the way back.
+fn inv_column(s: &[u32; 4], n: usize, k: u32) -> u32
+    requires { ⌜ n < 4 ⌝ }
+    ensures { λ r. ⌜ r ≡ lookedUp words.unmixes (rowFrom (now (s .entry)) n) k 4 ⌝ }
+{
+    let mut w = k;
+    let mut m: usize = 0;
+    while m < 4 {
+        w = w ^ turned(unmixing(byte(s[(n + 4 - m) % 4], m)), m);
+        m += 1;
+    }
+    w
 }
 
 // A round of the cipher.
-pub(crate) fn round(t: &[u64; 256], s: State, k: State) -> State
-    requires { ⌜ Mixes sbox 2 3 1 1 (now t) ⌝ }
+pub(crate) fn round(s: State, k: State) -> State
     ensures { λ r. ⌜ bytesOf r ≡ addRoundKey (mixColumns (shiftRows (subBytes (bytesOf s)))) (bytesOf k) ⌝ }
 {
-    State {
-        a: look(t, s.a, s.b, s.c, s.d) ^ k.a,
-        b: look(t, s.b, s.c, s.d, s.a) ^ k.b,
-        c: look(t, s.c, s.d, s.a, s.b) ^ k.c,
-        d: look(t, s.d, s.a, s.b, s.c) ^ k.d,
+    let from = [s.d, s.c, s.b, s.a];
+    let key = [k.d, k.c, k.b, k.a];
+    let mut r = [0u32; 4];
+    let mut n: usize = 0;
+    while n < 4 {
+        r[n] = column(&from, n, key[n]);
+        n += 1;
     }
+    State {
+        a: r[3],
+        b: r[2],
+        c: r[1],
+        d: r[0],
+    }
+}
+
+// A round of the inverse cipher, by a round key that InvMixColumns was applied to.
+pub(crate) fn inv_round(s: State, k: State) -> State
+    ensures { λ r. ⌜ bytesOf r ≡ addRoundKey (invMixColumns (invSubBytes (invShiftRows (bytesOf s)))) (bytesOf k) ⌝ }
+{
+    let from = [s.a, s.b, s.c, s.d];
+    let key = [k.a, k.b, k.c, k.d];
+    let mut r = [0u32; 4];
+    let mut n: usize = 0;
+    while n < 4 {
+        r[n] = inv_column(&from, n, key[n]);
+        n += 1;
+    }
+    State {
+        a: r[0],
+        b: r[1],
+        c: r[2],
+        d: r[3],
+    }
+}
+
+// A column by one table of bytes.
+pub(crate) fn look_bytes(t: &[u8; 256], a: u32, b: u32, c: u32, d: u32) -> u32
+    ensures { λ r. ⌜ r ≡ lookedUpBytes (now (t .entry)) a b c d ⌝ }
+{
+    join(
+        t[byte(a, 0) as usize],
+        t[byte(b, 1) as usize],
+        t[byte(c, 2) as usize],
+        t[byte(d, 3) as usize],
+    )
 }
 
 // The last round of the cipher.
@@ -64,19 +122,6 @@ pub(crate) fn last_round(t: &[u8; 256], s: State, k: State) -> State
     }
 }
 
-// A round of the inverse cipher, by a round key that InvMixColumns was applied to.
-pub(crate) fn inv_round(t: &[u64; 256], s: State, k: State) -> State
-    requires { ⌜ Mixes invSbox 14 11 13 9 (now t) ⌝ }
-    ensures { λ r. ⌜ (bytesOf r ≡ addRoundKey (invMixColumns (invSubBytes (invShiftRows (bytesOf s)))) (bytesOf k)) × Block (bytesOf s) ⌝ }
-{
-    State {
-        a: look(t, s.a, s.d, s.c, s.b) ^ k.a,
-        b: look(t, s.b, s.a, s.d, s.c) ^ k.b,
-        c: look(t, s.c, s.b, s.a, s.d) ^ k.c,
-        d: look(t, s.d, s.c, s.b, s.a) ^ k.d,
-    }
-}
-
 // The last round of the inverse cipher.
 pub(crate) fn inv_last_round(t: &[u8; 256], s: State, k: State) -> State
     requires { ⌜ now t ≡ table invSbox ⌝ }
@@ -88,27 +133,4 @@ pub(crate) fn inv_last_round(t: &[u8; 256], s: State, k: State) -> State
         c: look_bytes(t, s.c, s.b, s.a, s.d) ^ k.c,
         d: look_bytes(t, s.d, s.c, s.b, s.a) ^ k.d,
     }
-}
-
-// InvMixColumns of one column: the table undoes the substitution before it mixes.
-fn unmix_word(sb: &[u8; 256], t: &[u64; 256], x: u32) -> u32
-    requires { ⌜ (now sb ≡ table sbox) × Mixes invSbox 14 11 13 9 (now t) ⌝ }
-    ensures { λ r. ⌜ (r ≡ column 14 11 13 9 (x % 256) (x / 256 % 256) (x / 65536 % 256) (x / 16777216)) × (x < 4294967296) ⌝ }
-{
-    let y = look_bytes(sb, x, x, x, x);
-    look(t, y, y, y, y)
-}
-
-// InvMixColumns of a round key.
-pub(crate) fn unmix_key(sb: &[u8; 256], t: &[u64; 256], k: [u8; 16]) -> [u8; 16]
-    requires { ⌜ (now sb ≡ table sbox) × Mixes invSbox 14 11 13 9 (now t) ⌝ }
-    ensures { λ r. ⌜ (r ≡ invMixColumns k) × Block k ⌝ }
-{
-    let s = words(k);
-    bytes_of(State {
-        a: unmix_word(sb, t, s.a),
-        b: unmix_word(sb, t, s.b),
-        c: unmix_word(sb, t, s.c),
-        d: unmix_word(sb, t, s.d),
-    })
 }

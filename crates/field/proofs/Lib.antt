@@ -3,6 +3,9 @@ pub mod Xor
 pub mod Linear
 pub mod Additive
 pub mod Product
+pub mod Inverse
 pub mod Sbox
 pub mod Mix
 pub mod Words
+pub mod Arms
+pub mod Each

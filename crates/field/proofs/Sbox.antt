@@ -1,32 +1,12 @@
 -- SPDX-License-Identifier: MPL-2.0
--- The substitution has the standard's rule at each byte, nothing else has it, and the substitution back undoes it.
-use Rattle.laws.proofs.Kit.{ℕ, zero, suc, min, _<_, _≡_, refl, sym, _∙_, ap, lit<, arith}
-use Rattle.field.specs.Xor.{xor}
-use Rattle.field.specs.Field.{xtime, times, mul, square, ones, inverse}
+-- The substitution has the standard's rule at each byte, nothing else has it, and the substitution back undoes it. Both are found by the list of
+-- inverses, as the tables are tested.
+use Rattle.laws.proofs.Kit.{ℕ, zero, suc, _<_, _≡_, refl, sym, _∙_, ap, getD, arith}
+use Rattle.field.specs.Field.{mul, inverse}
 use Rattle.field.specs.Sbox.{affine, unaffine, sbox, invSbox, Substitute}
-use Rattle.field.proofs.Linear.{mul-byte}
-use Rattle.field.proofs.Product.{mul-zero, one-times, times-comm, times-assoc}
+use Rattle.field.proofs.Product.{mul-zero, times-comm}
+use Rattle.field.proofs.Inverse.{inverses, one-inverse, inverse-byte, inverts, inverse-zero, inverse-at}
 use Rattle.laws.proofs.Below.{agree}
-
--- ---- b to the power of 254 is the inverse of b
-
-ones-byte : (n b : ℕ) → b < 256 → ones n b < 256
-unfolding ones square
-ones-byte zero b h = h
-ones-byte (suc n) b h = mul-byte b _ (mul-byte (ones n b) (ones n b) (ones-byte n b h))
-
-inverse-byte : (b : ℕ) → b < 256 → inverse b < 256
-unfolding inverse square
-inverse-byte b h = mul-byte (ones 6 b) (ones 6 b) (ones-byte 6 b h)
-
--- the one test over all bytes
-inverts : (b : ℕ) → b < 256 → 0 < b → mul b (inverse b) ≡ 1
-unfolding inverse square ones mul times xtime xor
-inverts b h g = agree (λ b. mul b (inverse b)) (λ b. min b 1) 256 refl b h ∙ omega arith
-
-inverse-zero : inverse 0 ≡ 0
-unfolding inverse square ones mul times xtime xor
-inverse-zero = refl
 
 pub sbox-substitutes : (b : ℕ) → b < 256 → Substitute b (sbox b)
 unfolding sbox
@@ -39,11 +19,7 @@ sbox-substitutes b h =
       image = refl;
     }
 
--- ---- a byte has one inverse, and is the inverse of it
-
-one-inverse : (b y z : ℕ) → b < 256 → y < 256 → z < 256 → mul b y ≡ 1 → mul b z ≡ 1 → y ≡ z
-one-inverse b y z hb hy hz ey ez =
-    sym (one-times y hy) ∙ rw (← ez, times-comm b z hb hz, times-assoc z b y hz hb hy, ey, times-comm z 1 hz (lit< tt), one-times z hz)
+-- ---- a byte is the inverse of its inverse
 
 inverse-positive : (b i : ℕ) → mul b i ≡ 1 → 0 < i
 inverse-positive b zero e = let z = mul-zero b in absurd (omega arith)
@@ -81,3 +57,19 @@ invSbox-byte b h = inverse-byte (unaffine b) (omega arith)
 pub invSbox-sbox : (b : ℕ) → b < 256 → invSbox (sbox b) ≡ b
 unfolding invSbox sbox
 invSbox-sbox b h = rw (unaffine-affine _ (inverse-byte b h), inverse-inverse b h)
+
+-- ---- by the list of inverses
+
+unfoldable pub sboxBy : ℕ → ℕ
+sboxBy b = affine (getD inverses b 0)
+
+unfoldable pub invSboxBy : ℕ → ℕ
+invSboxBy b = getD inverses (unaffine b) 0
+
+pub sbox-by : (b : ℕ) → b < 256 → sboxBy b ≡ sbox b
+unfolding sboxBy sbox
+sbox-by b h = ap affine (inverse-at b h)
+
+pub invSbox-by : (b : ℕ) → b < 256 → invSboxBy b ≡ invSbox b
+unfolding invSboxBy invSbox unaffine
+invSbox-by b h = inverse-at (unaffine b) (omega arith)

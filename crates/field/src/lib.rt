@@ -1,3 +1,4 @@
 // SPDX-License-Identifier: MPL-2.0
 // The byte field of AES (FIPS 197, section 4), the substitution of bytes, and the tables by which both are computed.
+pub mod matrix;
 pub mod tables;

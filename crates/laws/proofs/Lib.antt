@@ -1,5 +1,6 @@
 -- SPDX-License-Identifier: MPL-2.0
 pub mod Kit
+pub mod Arms
 pub mod Tests
 pub mod ByteLists
 pub mod Firsts

@@ -33,6 +33,10 @@ pub table-at : (f : ℕ → ℕ) (x : ℕ) → x < 256 → getD (table f) x 0 �
 unfolding table
 table-at f x h = run-from-zero f 256 x 0 h
 
+pub table-same : (f g : ℕ → ℕ) → ((x : ℕ) → x < 256 → f x ≡ g x) → table f ≡ table g
+unfolding table
+table-same f g h = run-is 0 g 256 (run f 0 256) (run-length f 0 256) (λ k b. run-from-zero f 256 k 0 b ∙ h k b)
+
 -- ---- a list that a loop fills element by element
 
 -- of the n elements of r, P holds of each of the first i, by its place

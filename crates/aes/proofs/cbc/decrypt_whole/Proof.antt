@@ -15,14 +15,16 @@ decrypt-blocks-requires c κs =
     let start : tie.Start = search in
     let a = start .args in
     let room = roomy (length (a .source .now)) (length (a .target .now)) (at-if .before .fit .ensures) (at-if .if1 .left) in
-    (search needs, search needs, search needs, room .0, room .1)
+    (search needs, room .0, room .1)
 
 returns-2 : tie.Need-returns-2
 returns-2 c =
-    let at-words : tie.After-words = search in
     let at-if : tie.Else1 = search in
+    let at-words : tie.After-words = search in
+    let keys : tie.After-inverse-words = search in
+    let k = keys .inverse-words .ensures in
     rw (sym (at-if .before .fit .ensures) ∙ not-false _ (at-if .if1 .left))
-    (refl, rw (at-words .words .ensures) at (c .before .before .decrypt-blocks .ensures))
+    (refl, rw (at-words .words .ensures) at (c .before .before .decrypt-blocks .ensures _ (k .1) (k .0)))
 
 pub decrypt-whole-spec : {M : Type 1} → statement M
-decrypt-whole-spec = tie.close (tie.spec _ returns _ _ _ (λ c κs. search needs) _ decrypt-blocks-requires (λ c. search needs) returns-2)
+decrypt-whole-spec = tie.close (tie.spec _ returns _ _ _ decrypt-blocks-requires (λ c. search needs) returns-2)

@@ -2,7 +2,7 @@
 -- Block by block; what is not done yet is as it was.
 use Rattle.laws.proofs.Kit.{_-_, _<_, _∙_, ap, append-nil, length, take, drop-length, arith, needs}
 use native.Mathlib.Nat.{le-refl}
-use Rattle.aes.specs.Words.{bytesOf}
+use Rattle.aes.specs.Words.{bytesOf, keysOf}
 use Rattle.aes.specs.Cbc.{cbcEncryptBlock, cbcEncrypt}
 use Rattle.aes.proofs.ChainLoop.{enough, loaded, Chained, begin, more, done}
 use Rattle.aes.proofs.Chain.{encrypt-long}
@@ -10,14 +10,14 @@ use Rattle.aes.proofs.cbc.encrypt_buffer.Statement.{statement}
 use Rattle.aes.proofs.cbc.encrypt_buffer.Tie as tie
 
 abbrev Inv-loop : tie.InvT-loop
-Inv-loop keys sb t buffer₀ v₀ at₀ buffer v at = Chained (cbcEncryptBlock keys) (λ b c. c) buffer₀ buffer₀ (bytesOf v₀) (bytesOf v) buffer at
-    × (length buffer₀ < 18446744073709551616)
+Inv-loop keys sb buffer₀ v₀ at₀ buffer v at =
+    Chained (cbcEncryptBlock (keysOf keys)) (λ b c. c) buffer₀ buffer₀ (bytesOf v₀) (bytesOf v) buffer at × (length buffer₀ < 18446744073709551616)
 
 abbrev μ-loop : tie.MeasureT-loop
-μ-loop keys sb t buffer₀ v₀ at₀ buffer v at = length buffer₀ - at
+μ-loop keys sb buffer₀ v₀ at₀ buffer v at = length buffer₀ - at
 
 loop-holds : tie.Need-loop-holds Inv-loop μ-loop
-loop-holds c = (begin _ _ _ _ _ (c .before .pre .2) (le-refl _), omega arith)
+loop-holds c = (begin _ _ _ _ _ (c .before .pre .1) (le-refl _), omega arith)
 
 words-from-requires : tie.Need-words-from-requires Inv-loop μ-loop
 words-from-requires c κs =

@@ -9,9 +9,11 @@ returns c = rw (ne-eqb _ _ (c .if1 .taken)) (refl, refl)
 
 returns-2 : tie.Need-returns-2
 returns-2 c =
-    let at-words = c .before .before .before .before in
-    let whole = eq-eqb _ _ (at-words .before .before .before .before .before .if1 .left) in
-    rw whole (refl, rw (at-words .words .ensures) at (c .before .before .encrypt-buffer .ensures))
+    let at-if : tie.Else1 = search in
+    let at-words : tie.After-words = search in
+    let keys : tie.After-key-words = search in
+    rw (eq-eqb _ _ (at-if .if1 .left))
+    (refl, rw (at-words .words .ensures, keys .key-words .ensures) at (c .before .before .encrypt-buffer .ensures))
 
 pub encrypt-whole-spec : {M : Type 1} → statement M
 encrypt-whole-spec = tie.close (tie.spec returns _ _ _ (λ c κs. search needs) (λ c. search needs) returns-2)

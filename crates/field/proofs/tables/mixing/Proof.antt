@@ -1,17 +1,15 @@
 -- SPDX-License-Identifier: MPL-2.0
--- The words of MixColumns, tested over the whole table.
-use Rattle.laws.proofs.Kit.{refl}
+-- 128 added twice is nothing.
+use Rattle.laws.proofs.Kit.{_∙_, ap}
 use Rattle.field.specs.Xor.{xor}
-use Rattle.field.specs.Field.{xtime, times, mul, square, ones, inverse}
-use Rattle.field.specs.Sbox.{affine, sbox}
-use Rattle.field.specs.Words.{spread, twice}
-use Rattle.laws.specs.Runs.{run, table}
+use Rattle.field.specs.Words.{mixes}
+use Rattle.field.proofs.Xor.{cancel}
 use Rattle.field.proofs.tables.mixing.Statement.{statement}
 use Rattle.field.proofs.tables.mixing.Tie as tie
 
 returns : tie.Need-returns
-unfolding table run twice spread sbox affine inverse square ones mul times xtime xor
-returns c = refl
+unfolding xor
+returns c = c .mixing-from-128 .ensures ∙ ap mixes (cancel _ 128)
 
 pub mixing-spec : {M : Type 1} → statement M
-mixing-spec = tie.close (tie.spec returns)
+mixing-spec = tie.close (tie.spec _ returns)

@@ -1,17 +1,15 @@
 -- SPDX-License-Identifier: MPL-2.0
--- The words of InvMixColumns, tested over the whole table.
-use Rattle.laws.proofs.Kit.{refl}
+-- 128 added twice is nothing.
+use Rattle.laws.proofs.Kit.{_∙_, ap}
 use Rattle.field.specs.Xor.{xor}
-use Rattle.field.specs.Field.{xtime, times, mul, square, ones, inverse}
-use Rattle.field.specs.Sbox.{unaffine, invSbox}
-use Rattle.field.specs.Words.{spread, twice}
-use Rattle.laws.specs.Runs.{run, table}
+use Rattle.field.specs.Words.{unmixes}
+use Rattle.field.proofs.Xor.{cancel}
 use Rattle.field.proofs.tables.unmixing.Statement.{statement}
 use Rattle.field.proofs.tables.unmixing.Tie as tie
 
 returns : tie.Need-returns
-unfolding table run twice spread invSbox unaffine inverse square ones mul times xtime xor
-returns c = refl
+unfolding xor
+returns c = c .unmixing-from-128 .ensures ∙ ap unmixes (cancel _ 128)
 
 pub unmixing-spec : {M : Type 1} → statement M
-unmixing-spec = tie.close (tie.spec returns)
+unmixing-spec = tie.close (tie.spec _ returns)
