@@ -1,18 +1,27 @@
 -- SPDX-License-Identifier: MPL-2.0
 -- Opening: a sealed part by its first and its last block, what the rows before the tag leave, and the table as a whole.
-use Rattle.laws.proofs.Kit.{ℕ, _-_, _*_, _/_, _%_, _≤_, _<_, _≡_, refl, sym, Bool, false, List, _++_, length, take, drop, length-drop, take-all, leb}
-use Rattle.laws.proofs.Kit.{ne-eqb, eqb-true, ltb-false, leb-false, not-false, arith}
+use Rattle.laws.proofs.Kit.{ℕ, _-_, _*_, _/_, _%_, _≤_, _<_, _≡_, refl, sym, _∙_, Bool, true, false, List, _++_, length, take, drop, length-drop, take-all, take-at, take-length, leb}
+use Rattle.laws.proofs.Kit.{ne-eqb, eqb-true, le-ltb, ltb-false, le-leb, leb-false, not-false, arith}
+use lib.Seq.{take-append-le, drop-append-le}
 use Rattle.laws.proofs.Bools.{or-false}
 use Rattle.laws.specs.Rows.{first, testOf}
 use Rattle.laws.proofs.Firsts.{first-append, row-false}
-use Rattle.wire.specs.Refusals.{tooShort, wrongLength, wrongSealedSize, wrongKeys}
-use Rattle.aes.specs.Cbc.{cbcDecrypt, cbcDecryptBlock, blockBefore}
+use Rattle.wire.specs.Refusals.{tooShort, wrongLength, wrongSealedSize, wrongKeys, wrongPadding}
+use Rattle.aes.specs.Cbc.{cbcDecrypt, cbcDecryptBlock, blockBefore, written}
 use Rattle.aes.proofs.Chain.{cbcDecrypt-length}
 use Rattle.aes.proofs.Ends.{cbcDecrypt-first, cbcDecrypt-last}
-use Rattle.seal.specs.Padding.{badPlain, badBlocks}
+use Rattle.seal.specs.Padding.{badPlain, unlessBad, badBlocks}
 use Rattle.seal.specs.Opening.{noPartRows, noPart, keyRows, earlyRows, tagRows, partRows, partRefusal, openRefusal}
-use Rattle.seal.specs.Opening.{sealedPart, partInto, openedInto, intoUnless}
+use Rattle.seal.specs.Opening.{sealedPart, plainOf, partInto, openedInto, intoUnless}
 use Rattle.seal.proofs.Padded.{badPlain-blocks}
+
+-- What stands in the front of a buffer, by its first and its last block.
+front-judged : (plain rest : List ℕ) → 16 ≤ length plain
+    → badBlocks (length plain) (take 16 (plain ++ rest)) (take 16 (drop (length plain - 16) (plain ++ rest))) ≡ badPlain plain
+front-judged plain rest some =
+    let n = length plain - 16 in
+    let last : length (drop n plain) ≡ 16 = simp length-drop (omega arith) in
+    rw (take-append-le 16 plain rest some, drop-append-le n plain rest (omega arith), take-at (drop n plain) rest 16 last) (sym (badPlain-blocks plain))
 
 module _ (keys : List (List ℕ)) (v sealed : List ℕ) (some : 16 ≤ length sealed) (blocks : length sealed % 16 ≡ 0) where
   -- The last block, by the cipher block before it.
@@ -34,6 +43,28 @@ module _ (keys : List (List ℕ)) (v sealed : List ℕ) (some : 16 ≤ length se
       rw (← cbcDecrypt-first keys v sealed some, last-decrypted, ← cbcDecrypt-length keys v sealed blocks)
       (sym (badPlain-blocks (cbcDecrypt keys v sealed)))
 
+  -- A part that was opened into the front of a local, which the code judges there and copies.
+  module _ (zeros local : List ℕ) (room : length sealed ≤ length zeros) (e : local ≡ written sealed (cbcDecrypt keys v sealed) zeros) where
+    abbrev plain : List ℕ
+    plain = cbcDecrypt keys v sealed
+
+    long : length plain ≡ length sealed
+    long = cbcDecrypt-length keys v sealed blocks
+
+    in-front : local ≡ plain ++ drop (length sealed) zeros
+    in-front = rw (blocks, le-leb _ _ room) at e
+
+    pub local-judged : {front end : List ℕ} {bad : Bool} → front ≡ take 16 local → end ≡ take 16 (drop (length sealed - 16) local)
+        → bad ≡ badBlocks (length sealed) front end → bad ≡ badPlain plain
+    local-judged ef ee eb = rw (eb, ef, ee, in-front, ← long) (front-judged plain _ (omega (arith, long)))
+
+    pub local-copied : (after working : List ℕ) → let part = take (length sealed - 0) local in
+        after ≡ take (length part) part ++ drop (length part) working → after ≡ plain ++ drop (length plain) working
+    local-copied after working h =
+        let all : length sealed - 0 ≡ length sealed = omega arith in
+        let same : take (length sealed - 0) local ≡ plain = rw (all, in-front) (take-at plain _ (length sealed) long) in
+        rw (same, take-length) at h
+
 -- What the rows before the tag leave.
 pub record Placed (given start keys : ℕ) : Type 0 where
   pub long : 42 ≤ given
@@ -54,6 +85,17 @@ placed given start keys e =
       blocks = eqb-true _ 0 (not-false _ (nine .1));
       keys64 = eqb-true keys 64 (not-false _ (at wrongKeys));
     }
+
+-- The way through `open_part` once there is room: p is the plain text, and `bad` and `after` what came of opening it.
+module _ (keys m sealed working after p : List ℕ) (bad : Bool) (room : length sealed ≤ length working) (e : plainOf keys m sealed ≡ p)
+    (judged : bad ≡ badPlain p) (held : after ≡ unlessBad p working) where
+  pub part-refused : bad ≡ true → (wrongPadding ≡ partRefusal keys m sealed (length working)) × (after ≡ partInto keys m sealed working)
+  unfolding partRefusal partInto intoUnless unlessBad
+  part-refused b = let rule = sym judged ∙ b in rw (le-ltb _ _ room, e, held, rule) (refl, refl)
+
+  pub part-opened : bad ≡ false → (0 ≡ partRefusal keys m sealed (length working)) × (after ≡ partInto keys m sealed working)
+  unfolding partRefusal partInto intoUnless unlessBad
+  part-opened b = let rule = sym judged ∙ b in rw (le-ltb _ _ room, e, held, rule) (refl, refl)
 
 -- The rows of all that is tested, as one table.
 module _ (keys m : List ℕ) (start room : ℕ) where

@@ -4,7 +4,8 @@
 //     | header and chain | sealed part: whole blocks (9) | tag (11) |
 //     0                start                        length - 32   length
 //
-// The first and the last block of the sealed part decide 13 in locals, so that nothing is written to the working buffer before.
+// The first and the last block of the sealed part decide 13 in locals, so that nothing is written to the working buffer before. A small part is
+// decrypted whole into a local, a larger one after these two.
 use crate::KEYS;
 use crate::key::block_at;
 use crate::key::tag_of;
@@ -28,8 +29,11 @@ ghost use Rattle.laws.specs.Rows.{first};
 ghost use Rattle.laws.specs.Same.{same};
 ghost use Rattle.aes.specs.Cbc.{cbcDecrypt, blockBefore};
 ghost use Rattle.seal.specs.Keys.{tagOf};
-ghost use Rattle.seal.specs.Padding.{badPlain};
+ghost use Rattle.seal.specs.Padding.{badPlain, unlessBad};
 ghost use Rattle.seal.specs.Opening.{bodyOf, tagIn, noBlocks, earlyRows, partRefusal, partInto, openRefusal, openedInto};
+
+// As many bytes, a payload of 124, are opened by way of a local.
+const SMALL: usize = 128;
 
 // Refusal 9: whether what stands from `start` to the tag of a message of `given` bytes is empty or no multiple of 16.
 fn no_blocks(given: usize, start: usize) -> bool
@@ -93,6 +97,49 @@ fn bad_part(keys: [[u8; 16]; 11], vector: [u8; 16], sealed: &[u8]) -> bool
     bad_blocks(size, front, end)
 }
 
+// Opens a small sealed part: whether it is refused by 13. Each block is decrypted once, into a local.
+fn open_small(keys: [[u8; 16]; 11], vector: [u8; 16], sealed: &[u8], working: &mut [u8]) -> bool
+    requires { ⌜ (16 ≤ length (now sealed)) × (length (now sealed) % 16 ≡ 0) ⌝ }
+    requires { ⌜ (length (now sealed) ≤ 128) × (length (now sealed) ≤ length (now working)) ⌝ }
+    ensures { λ r. ⌜ r ≡ badPlain (cbcDecrypt keys vector (now (sealed .entry))) ⌝ }
+    ensures { λ _. ⌜ now (working .exit) ≡ unlessBad (cbcDecrypt keys vector (now (sealed .entry))) (now (working .entry)) ⌝ }
+{
+    let size = sealed.len();
+    let mut plain = [0u8; SMALL];
+    aes::cbc::cbc_decrypt(keys, vector, sealed, &mut plain);
+    if bad_blocks(size, block_at(&plain, 0), block_at(&plain, size - 16)) {
+        return true;
+    }
+    bytes::copy(&plain[0..size], working);
+    false
+}
+
+// Opens a sealed part of any size. Its first and its last block are decrypted twice, which costs less than a copy of all of them would.
+fn open_large(keys: [[u8; 16]; 11], vector: [u8; 16], sealed: &[u8], working: &mut [u8]) -> bool
+    requires { ⌜ (16 ≤ length (now sealed)) × (length (now sealed) % 16 ≡ 0) × (length (now sealed) ≤ length (now working)) ⌝ }
+    ensures { λ r. ⌜ r ≡ badPlain (cbcDecrypt keys vector (now (sealed .entry))) ⌝ }
+    ensures { λ _. ⌜ now (working .exit) ≡ unlessBad (cbcDecrypt keys vector (now (sealed .entry))) (now (working .entry)) ⌝ }
+{
+    if bad_part(keys, vector, sealed) {
+        return true;
+    }
+    aes::cbc::cbc_decrypt(keys, vector, sealed, working);
+    false
+}
+
+// Opens a sealed part for which the working buffer has room: whether it is refused by 13.
+fn open_blocks(keys: [[u8; 16]; 11], vector: [u8; 16], sealed: &[u8], working: &mut [u8]) -> bool
+    requires { ⌜ (16 ≤ length (now sealed)) × (length (now sealed) % 16 ≡ 0) × (length (now sealed) ≤ length (now working)) ⌝ }
+    ensures { λ r. ⌜ r ≡ badPlain (cbcDecrypt keys vector (now (sealed .entry))) ⌝ }
+    ensures { λ _. ⌜ now (working .exit) ≡ unlessBad (cbcDecrypt keys vector (now (sealed .entry))) (now (working .entry)) ⌝ }
+{
+    if sealed.len() <= SMALL {
+        open_small(keys, vector, sealed, working)
+    } else {
+        open_large(keys, vector, sealed, working)
+    }
+}
+
 // Opens a sealed part that was found in a message whose tag is right: 12 or 13, or 0.
 fn open_part(keys: &[u8], message: &[u8], sealed: &[u8], working: &mut [u8]) -> u8
     requires { ⌜ (length (now keys) ≡ 64) × (42 ≤ length (now message)) ⌝ }
@@ -105,10 +152,9 @@ fn open_part(keys: &[u8], message: &[u8], sealed: &[u8], working: &mut [u8]) -> 
     }
     let round_keys = aes::key::expand_key(block_at(keys, 0));
     let first = vector(keys, message);
-    if bad_part(round_keys, first, sealed) {
+    if open_blocks(round_keys, first, sealed, working) {
         return WRONG_PADDING;
     }
-    aes::cbc::cbc_decrypt(round_keys, first, sealed, working);
     0
 }
 
