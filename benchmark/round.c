@@ -11,8 +11,8 @@
 
 enum operation { ENCRYPT, DECRYPT, DIGEST, MAC, SEAL, OPEN, STEP, OPERATIONS };
 static const char *const names[] = {"CBC encryption", "CBC decryption", "SHA-256", "HMAC", "seal", "open", "step"};
-static const size_t sizes[] = {64, 1024, LARGEST};
-enum { SIZES = 3, TURNS = 6 };
+static const size_t sizes[] = {64, 1024, LARGEST}, pieces[] = {64, 256, 1024, 4096, LARGEST};
+enum { SIZES = 3, PIECE_SIZES = 5, TURNS = 6 };
 static const double turn = 250000;
 
 static uint8_t keys[KEYS], source[PIECES * LARGEST], target[MESSAGE], message[MESSAGE], working[MESSAGE], report[PIECES * LARGEST];
@@ -114,9 +114,9 @@ int main(int words, char **word)
     for (int operation = 0; operation < OPERATIONS; operation++)
         for (int k = 0; k < SIZES; k++)
             time_subjects(all ? subjects : subjects + 1, all ? n : 1, (enum operation)operation, sizes[k]);
-    for (int k = 0; all && k < SIZES; k++) {
-        time_joining("ours", our_join_all, sizes[k]);
-        time_joining("C", plain_join_all, sizes[k]);
-        time_joining("memcpy", copy_all, sizes[k]);
+    for (int k = 0; all && k < PIECE_SIZES; k++) {
+        time_joining("ours", our_join_all, pieces[k]);
+        time_joining("C", plain_join_all, pieces[k]);
+        time_joining("memcpy", copy_all, pieces[k]);
     }
 }
