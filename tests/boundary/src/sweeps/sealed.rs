@@ -91,6 +91,37 @@ pub fn by_the_rule<I: Implementation>(comparison: &mut Comparison<I>) -> Tried {
     by_hand(comparison, (0..16).map(|pad| (28 - u32::from(pad), [pad; 28])), true)
 }
 
+/// Sealed parts of one to twelve blocks with each number of padding bytes: as the rule gives, with
+/// a size one more and one less, with the first and with the last byte of padding wrong.
+pub fn blocks<I: Implementation>(comparison: &mut Comparison<I>) -> Tried {
+    let parts = pairs(1..=12, 0..16).into_iter().filter(|(blocks, pad)| 4 + pad <= 16 * blocks);
+    let texts = parts.flat_map(|(blocks, pad): (usize, usize)| {
+        let size = 16 * blocks - 4 - pad;
+        let text: Vec<u8> = (0..size).map(|i| i as u8).chain(vec![pad as u8; pad]).collect();
+        let changed = |place: usize| {
+            let mut text = text.clone();
+            text[place] ^= 0x81;
+            (size, text)
+        };
+        let mut texts = vec![(size, text.clone()), (size + 1, text.clone())];
+        texts.extend((size > 0).then(|| (size - 1, text.clone())));
+        texts.extend((pad > 0).then(|| changed(size)));
+        texts.extend((pad > 0).then(|| changed(size + pad - 1)));
+        texts
+    });
+    each(comparison, texts, |(size, text), comparison| -> Result<(), Difference> {
+        let writing = piece(NO_ENTRY, (text.len(), 4 + text.len()));
+        let whole = writing.there_and_back(comparison)?;
+        let mut draft = Draft::new(writing.case.header, text.clone());
+        (draft.size, draft.padding) = (Some(*size as u32), Some(Vec::new()));
+        let pad = (16 - (4 + size) % 16) % 16;
+        let right = size + pad == text.len() && text[*size..].iter().all(|&b| b as usize == pad);
+        let payload = || (writing.case.header, text[..*size].to_vec());
+        let expected = if right { Ok(payload()) } else { Err(13) };
+        Reading { case: Case { message: draft.bytes(&KEYS), ..whole }, expected }.judge(comparison)
+    })
+}
+
 /// 10: keys of 63 bytes, and of 65 whose first 64 are right; read and written.
 pub fn keys<I: Implementation>(comparison: &mut Comparison<I>) -> Tried {
     let given = [KEYS[..63].to_vec(), [&KEYS[..], &[0]].concat()];
