@@ -170,9 +170,9 @@
  * The stack that a call takes, its return address included, is at most so many bytes. This is measured (tests/memory, which fails where a call takes
  * more) and not proved; what a call reserves and never writes is not seen.
  *
- *     hub_step                        5,184
- *     hub_read                        3,904
- *     hub_write                       2,944
+ *     hub_step                        3,584
+ *     hub_read                        2,240
+ *     hub_write                       1,856
  *     hub_hmac                        1,472
  *     hub_digest                      1,024
  *     hub_read_header                   768
