@@ -1,5 +1,5 @@
 /* SPDX-License-Identifier: MPL-2.0 */
-/* One call of ours, so many times:  work OPERATION BYTES TIMES.  benchmark/work counts the instructions. */
+/* One call of ours, so many times:  work OPERATION BYTES TIMES.  benchmark/work counts what they execute, read and write. */
 #include "bytes.h"
 #include "subject.h"
 

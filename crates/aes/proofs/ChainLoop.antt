@@ -1,9 +1,9 @@
 -- SPDX-License-Identifier: MPL-2.0
 -- A chain that a loop writes block by block: what its invariant says, how it begins, goes on and ends.
 use Rattle.laws.proofs.Kit.{ℕ, suc, _+_, _-_, _*_, _/_, _%_, _≤_, _<_, _≡_, refl, sym, _∙_, List, _++_, append-nil, append-assoc, length, take, drop}
-use Rattle.laws.proofs.Kit.{length-drop, take-all, length-take-le, drop-at, drop-drop, getD-take, arith}
+use Rattle.laws.proofs.Kit.{length-drop, take-all, length-take-le, drop-drop, getD-take, arith}
 use lib.ListN.{take-append-drop}
-use lib.Seq.{paste, length-paste, take-paste, drop-paste, take-append-le, take-take}
+use lib.Seq.{paste, length-paste, take-paste, drop-paste}
 use Rattle.laws.proofs.Lists.{part-from}
 use Rattle.aes.specs.State.{loadBlock}
 use Rattle.aes.specs.Cbc.{chain}

@@ -1,7 +1,7 @@
 -- SPDX-License-Identifier: MPL-2.0
 -- The words of the round keys: a key that is put stands there, and the others stand as they did.
-use Rattle.laws.proofs.Kit.{ℕ, _+_, _*_, _≤_, _<_, _≡_, refl, sym, _∙_, ap, List, [], length, getD, set, length-set, getD-set-same, getD-set-other, lit<, arith}
-use Rattle.laws.proofs.Kit.{lt-ltb, le-ltb}
+use Rattle.laws.proofs.Kit.{ℕ, _+_, _*_, _≤_, _<_, _≡_, sym, _∙_, List, [], length, getD, set, length-set, getD-set-same, getD-set-other}
+use Rattle.laws.proofs.Kit.{lt-ltb, lit<, arith}
 use native.Mathlib.Decide.{ℕ-discrete}
 use Rattle.laws.specs.Runs.{run}
 use Rattle.laws.proofs.Runs.{run-length, run-from-zero, run-is}
@@ -50,11 +50,12 @@ module _ (w : List ℕ) (i : ℕ) (k : State) where
       let la : length wa ≡ 44 = length-set w (4 * i) (k .a) ∙ hl in
       let lb : length wb ≡ 44 = length-set wa (4 * i + 1) (k .b) ∙ la in
       let lc : length wc ≡ 44 = length-set wb (4 * i + 2) (k .c) ∙ lb in
-      let over : (p : ℕ) → p < 4 * i + 3 → getD (set wc (4 * i + 3) (k .d)) p 0 ≡ getD wc p 0 = λ p h. getD-set-other wc (4 * i + 3) p (k .d) 0 (λ e. omega arith) in
-      let over2 : (p : ℕ) → p < 4 * i + 2 → getD wc p 0 ≡ getD wb p 0 = λ p h. getD-set-other wb (4 * i + 2) p (k .c) 0 (λ e. omega arith) in
-      let over3 : (p : ℕ) → p < 4 * i + 1 → getD wb p 0 ≡ getD wa p 0 = λ p h. getD-set-other wa (4 * i + 1) p (k .b) 0 (λ e. omega arith) in
+      let before : (v : List ℕ) (q x p : ℕ) → p < q → getD (set v q x) p 0 ≡ getD v p 0 = λ v q x p h. getD-set-other v q p x 0 (λ e. omega arith) in
+      let over : (p : ℕ) → p < 4 * i + 3 → getD (set wc (4 * i + 3) (k .d)) p 0 ≡ getD wc p 0 = before wc _ _ in
+      let over2 : (p : ℕ) → p < 4 * i + 2 → getD wc p 0 ≡ getD wb p 0 = before wb _ _ in
+      let over3 : (p : ℕ) → p < 4 * i + 1 → getD wb p 0 ≡ getD wa p 0 = before wa _ _ in
       record {
-        a = (over (4 * i) (omega arith) ∙ over2 (4 * i) (omega arith) ∙ over3 (4 * i) (omega arith) ∙ getD-set-same w (4 * i) (k .a) 0 (omega arith)) t;
+        a = (over _ (omega arith) ∙ over2 _ (omega arith) ∙ over3 (4 * i) (omega arith) ∙ getD-set-same w (4 * i) (k .a) 0 (omega arith)) t;
         b = (over (4 * i + 1) (omega arith) ∙ over2 (4 * i + 1) (omega arith) ∙ getD-set-same wa (4 * i + 1) (k .b) 0 (omega (arith, la))) t;
         c = (over (4 * i + 2) (omega arith) ∙ getD-set-same wb (4 * i + 2) (k .c) 0 (omega (arith, lb))) t;
         d = getD-set-same wc (4 * i + 3) (k .d) 0 (omega (arith, lc)) t;
@@ -67,7 +68,8 @@ pub record Laid (ks : List (List ℕ)) (w : List ℕ) (i : ℕ) : Type 0 where
   pub len : length w ≡ 44
   pub done : (j : ℕ) → j < i → bytesOf (keyAt w j) ≡ getD ks j []
 
-pub lay-more : (ks : List (List ℕ)) (w : List ℕ) (i : ℕ) (k : State) → Laid ks w i → i < 11 → bytesOf k ≡ getD ks i [] → Laid ks (putKey w i k) (i + 1)
+pub lay-more : (ks : List (List ℕ)) (w : List ℕ) (i : ℕ) (k : State) → Laid ks w i → i < 11 → bytesOf k ≡ getD ks i []
+    → Laid ks (putKey w i k) (i + 1)
 lay-more ks w i k l h e = record { len = put-length w i k ∙ l .len; done = λ j g. here j g (ℕ-discrete j i) }
   where
     here : (j : ℕ) → j < i + 1 → Dec (j ≡ i) → bytesOf (keyAt (putKey w i k) j) ≡ getD ks j []
@@ -104,7 +106,8 @@ module _ (w r : List ℕ) (e : r ≡ run (λ j. unmixedWord (getD w j 0)) 0 44) 
   unfolding keyAt
   middle i h =
       let at : (j : ℕ) → j < 44 → getD r j 0 ≡ unmixedWord (getD w j 0) = λ j g. rw e (run-from-zero _ 44 j 0 g) in
-      (λ t. bytesOf (record { a = at (4 * i) (omega arith) t; b = at (4 * i + 1) (omega arith) t; c = at (4 * i + 2) (omega arith) t; d = at (4 * i + 3) (omega arith) t }))
+      let word : (j : ℕ) → j < 4 → getD r (4 * i + j) 0 ≡ unmixedWord (getD w (4 * i + j) 0) = λ j g. at (4 * i + j) (omega arith) in
+      (λ t. bytesOf (record { a = at (4 * i) (omega arith) t; b = word 1 (lit< tt) t; c = word 2 (lit< tt) t; d = word 3 (lit< tt) t }))
       ∙ unmixed-key (keyAt w i)
 
   each-key : (i : ℕ) → i < 11 → Dec (i ≡ 0) → Dec (i ≡ 10) → bytesOf (keyAt (putKey first 10 (keyAt w 10)) i) ≡ eqKey (keysOf w) i

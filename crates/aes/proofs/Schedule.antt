@@ -35,17 +35,21 @@ module _ (k : State) (c y p : ℕ) where
       → bytesOf (record { a = first; b = second; c = third; d = xor (k .d) third }) ≡ nextKey (bytesOf k) c
   unfolding nextKey nextByte turnedByte block run bytesOf
   next-words h ey ep =
-      let s : (m : ℕ) → sbox (byteAt y m) < 256 = λ m. sbox-byte _ (byteAt-lt y m) in
-      let d : (m : ℕ) → byteAt (k .d) m < 256 = byteAt-lt (k .d) in
-      let p0 : byteAt p 0 ≡ sbox (byteAt (k .d) 1) = rw (ep, word-at0 _ _ _ _ (s 0) (s 1) (s 2) (s 3), ey, word-at0 _ _ _ _ (d 1) (d 2) (d 3) (d 0)) in
-      let p1 : byteAt p 1 ≡ sbox (byteAt (k .d) 2) = rw (ep, word-at1 _ _ _ _ (s 0) (s 1) (s 2) (s 3), ey, word-at1 _ _ _ _ (d 1) (d 2) (d 3) (d 0)) in
-      let p2 : byteAt p 2 ≡ sbox (byteAt (k .d) 3) = rw (ep, word-at2 _ _ _ _ (s 0) (s 1) (s 2) (s 3), ey, word-at2 _ _ _ _ (d 1) (d 2) (d 3) (d 0)) in
-      let p3 : byteAt p 3 ≡ sbox (byteAt (k .d) 0) = rw (ep, word-at3 _ _ _ _ (s 0) (s 1) (s 2) (s 3), ey, word-at3 _ _ _ _ (d 1) (d 2) (d 3) (d 0)) in
+      let sub : (m : ℕ) → sbox (byteAt y m) < 256 = λ m. sbox-byte _ (byteAt-lt y m) in
+      let of : (m : ℕ) → byteAt (k .d) m < 256 = byteAt-lt (k .d) in
+      let p0 : byteAt p 0 ≡ sbox (byteAt y 0) = rw ep (word-at0 _ _ _ _ (sub 0) (sub 1) (sub 2) (sub 3)) in
+      let p1 : byteAt p 1 ≡ sbox (byteAt y 1) = rw ep (word-at1 _ _ _ _ (sub 0) (sub 1) (sub 2) (sub 3)) in
+      let p2 : byteAt p 2 ≡ sbox (byteAt y 2) = rw ep (word-at2 _ _ _ _ (sub 0) (sub 1) (sub 2) (sub 3)) in
+      let p3 : byteAt p 3 ≡ sbox (byteAt y 3) = rw ep (word-at3 _ _ _ _ (sub 0) (sub 1) (sub 2) (sub 3)) in
+      let y0 : byteAt y 0 ≡ byteAt (k .d) 1 = rw ey (word-at0 _ _ _ _ (of 1) (of 2) (of 3) (of 0)) in
+      let y1 : byteAt y 1 ≡ byteAt (k .d) 2 = rw ey (word-at1 _ _ _ _ (of 1) (of 2) (of 3) (of 0)) in
+      let y2 : byteAt y 2 ≡ byteAt (k .d) 3 = rw ey (word-at2 _ _ _ _ (of 1) (of 2) (of 3) (of 0)) in
+      let y3 : byteAt y 3 ≡ byteAt (k .d) 0 = rw ey (word-at3 _ _ _ _ (of 1) (of 2) (of 3) (of 0)) in
       let c0 : byteAt c 0 ≡ c = omega arith in
       let c1 : byteAt c 1 ≡ 0 = omega arith in
       let c2 : byteAt c 2 ≡ 0 = omega arith in
       let c3 : byteAt c 3 ≡ 0 = omega arith in
-      simp (byteAt-sum, p0, p1, p2, p3, c0, c1, c2, c3, zero-r, assoc) refl
+      simp (byteAt-sum, p0, p1, p2, p3, y0, y1, y2, y3, c0, c1, c2, c3, zero-r, assoc) refl
 
 -- ---- round keys are blocks
 

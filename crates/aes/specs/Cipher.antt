@@ -26,16 +26,16 @@ unrounds ks (suc n) s = unrounds ks n (invMixColumns (addRoundKey (invSubBytes (
 unfoldable pub invCipher : List (List ℕ) → List ℕ → List ℕ
 invCipher ks b = unrounds ks 9 (addRoundKey b (getD ks 10 []))
 
--- The same rounds where the round key is added after InvMixColumns.
+-- The same by EqInvCipher(), where the round key, of ds, is added after InvMixColumns.
 unfoldable pub eqUnrounds : List (List ℕ) → ℕ → List ℕ → List ℕ
 eqUnrounds ds zero s = addRoundKey (invSubBytes (invShiftRows s)) (getD ds 0 [])
 eqUnrounds ds (suc n) s = eqUnrounds ds n (addRoundKey (invMixColumns (invSubBytes (invShiftRows s))) (getD ds (suc n) []))
 
--- 5.3.5, EqInvCipher(): by round keys of its own.
+-- 5.3.5, EqInvCipher(): as InvCipher(), by these rounds and by round keys of its own.
 unfoldable pub eqInvCipher : List (List ℕ) → List ℕ → List ℕ
 eqInvCipher ds b = eqUnrounds ds 9 (addRoundKey b (getD ds 10 []))
 
--- 5.3.5, KeyExpansionEIC(): to each round key but the first and the last InvMixColumns is applied.
+-- Round key i of KeyExpansionEIC() (5.3.5): InvMixColumns of it, but for the first and the last.
 unfoldable pub eqKey : List (List ℕ) → ℕ → List ℕ
 eqKey ks i = cond (ltb 0 i && ltb i 10) (invMixColumns (getD ks i [])) (getD ks i [])
 

@@ -19,7 +19,7 @@ pub record Block (s : List ℕ) : Type 0 where
   pub len : length s ≡ 16
   pub bytes : (i : ℕ) → i < 16 → getD s i 0 < 256
 
--- Each of the eleven lists is a block, as round keys are.
+-- The first eleven lists are blocks, as round keys are.
 abbrev pub Keys : List (List ℕ) → Type 0
 Keys ks = (i : ℕ) → i < 11 → Block (getD ks i [])
 

@@ -16,11 +16,11 @@ bytesOf s =
     byteAt (s .c) 0 ∷ byteAt (s .c) 1 ∷ byteAt (s .c) 2 ∷ byteAt (s .c) 3 ∷
     byteAt (s .d) 0 ∷ byteAt (s .d) 1 ∷ byteAt (s .d) 2 ∷ byteAt (s .d) 3 ∷ []
 
--- The word that row m of column n is read from: the one m places before it, from the end again before the first.
+-- The word of s that row m of the word at place n is read from: the one m places before it, from the end again before the first.
 abbrev pub rowFrom : List ℕ → ℕ → ℕ → ℕ
 rowFrom s n m = getD s ((n + 4 - m) % 4) 0
 
--- The word k with what the first m rows add to it: row i is looked up in t by byte i of the word x i.
+-- The word k with what the first m rows add to it: row i is looked up in t by byte i of the word x i, and turned by i bytes.
 unfoldable pub lookedUp : (ℕ → ℕ) → (ℕ → ℕ) → ℕ → ℕ → ℕ
 lookedUp t x k zero = k
 lookedUp t x k (suc m) = xor (lookedUp t x k m) (turned (t (byteAt (x m) m)) m)

@@ -99,7 +99,7 @@ pub(crate) fn encrypt(keys: &[u32; 44], sb: &[u8; 256], b: State) -> State
     last_round(sb, s, key_at(keys, 10))
 }
 
-// The inverse cipher on four words, by its own round keys.
+// EqInvCipher() on four words, by its own round keys (5.3.5).
 pub(crate) fn decrypt(keys: &[u32; 44], sb: &[u8; 256], b: State) -> State
     requires { ⌜ now sb ≡ table invSbox ⌝ }
     ensures { λ r. ⌜ bytesOf r ≡ eqInvCipher (keysOf (now (keys .entry))) (bytesOf b) ⌝ }

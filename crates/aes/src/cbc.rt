@@ -116,8 +116,8 @@ pub fn cbc_encrypt_in_place(keys: [[u8; 16]; 11], vector: [u8; 16], buffer: &mut
     encrypt_whole(keys, vector, buffer)
 }
 
-// Cipher(), as a chain of one block after zeros, which add nothing. It is for a program that chains as well: there `encrypt_block` would be a
-// second copy of the rounds and their table, and with two callers the rounds would not stay within the loop of the chain.
+// Cipher(), as a chain of one block after zeros, which add nothing. It is for a program that chains as well: beside `encrypt_block` the rounds would
+// have two callers there, and would not stay within the loop of the chain.
 pub fn cbc_encrypt_one(keys: [[u8; 16]; 11], block: [u8; 16]) -> [u8; 16]
     ensures { λ r. ⌜ r ≡ cipher keys block ⌝ }
 {

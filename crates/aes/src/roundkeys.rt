@@ -4,7 +4,6 @@ use super::columns::State;
 use super::columns::words;
 use field::matrix::unmix;
 ghost use mathlib.Core.Path.{_≡_};
-ghost use mathlib.Core.List.{[]};
 ghost use Prim.Native.Nat.{_<_};
 ghost use lib.ListN.{getD};
 ghost use Rattle.laws.specs.Runs.{run};
@@ -26,6 +25,7 @@ pub(crate) fn key_at(w: &[u32; 44], i: usize) -> State
     }
 }
 
+// Puts round key i among the words.
 fn put_key(w: &mut [u32; 44], i: usize, k: State)
     requires { ⌜ i < 11 ⌝ }
     ensures { λ _. ⌜ now (w .exit) ≡ putKey (now (w .entry)) i k ⌝ }
@@ -50,7 +50,7 @@ pub(crate) fn key_words(keys: [[u8; 16]; 11]) -> [u32; 44]
     w
 }
 
-// InvMixColumns of every round key.
+// InvMixColumns of every word of the round keys.
 fn unmix_words(w: &[u32; 44]) -> [u32; 44]
     ensures { λ r. ⌜ r ≡ run (λ j. unmixedWord (getD (now (w .entry)) j 0)) 0 44 ⌝ }
 {
@@ -63,7 +63,7 @@ fn unmix_words(w: &[u32; 44]) -> [u32; 44]
     r
 }
 
-// The words of the round keys of EqInvCipher() (FIPS 197, 5.3.5): the first and the last are as they were.
+// The words of the round keys of EqInvCipher() (FIPS 197, 5.3.5): the first and the last are as they were. The keys are blocks, as its callers cite.
 pub(crate) fn inverse_words(keys: [[u8; 16]; 11]) -> [u32; 44]
     ensures { λ r. ⌜ (keysOf r ≡ eqKeys keys) × Keys keys ⌝ }
 {

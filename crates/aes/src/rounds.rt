@@ -21,7 +21,7 @@ ghost use Rattle.field.specs.Words as words;
 ghost use Rattle.aes.specs.State.{subBytes, shiftRows, mixColumns, addRoundKey, invShiftRows, invSubBytes, invMixColumns};
 ghost use Rattle.aes.specs.Words.{bytesOf, rowFrom, lookedUp, lookedUpBytes};
 
-// The word that stands m bytes further up in a word twice over.
+// The word that stands m bytes below the top of a word twice over.
 fn turned(x: u64, m: usize) -> u32
     requires { ⌜ m < 4 ⌝ }
     ensures { λ r. ⌜ r ≡ words.turned x m ⌝ }
@@ -29,7 +29,7 @@ fn turned(x: u64, m: usize) -> u32
     ((x >> (32 - 8 * m)) % 4294967296) as u32
 }
 
-// Column n of a round of the cipher, by a word of the round key: its row m comes from m columns back.
+// A column of a round of the cipher, the n-th from the last, by its word of the round key: its row m comes from m places before it in `s`.
 fn column(s: &[u32; 4], n: usize, k: u32) -> u32
     requires { ⌜ n < 4 ⌝ }
     ensures { λ r. ⌜ r ≡ lookedUp words.mixes (rowFrom (now (s .entry)) n) k 4 ⌝ }
@@ -43,7 +43,7 @@ fn column(s: &[u32; 4], n: usize, k: u32) -> u32
     w
 }
 
-// The same for the way back.
+// The same for the way back, column n from the first.
 fn inv_column(s: &[u32; 4], n: usize, k: u32) -> u32
     requires { ⌜ n < 4 ⌝ }
     ensures { λ r. ⌜ r ≡ lookedUp words.unmixes (rowFrom (now (s .entry)) n) k 4 ⌝ }

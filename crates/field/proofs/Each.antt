@@ -2,7 +2,7 @@
 -- A word byte by byte: its multiples, their sums and the column that turned ones make.
 use Rattle.laws.proofs.Kit.{ℕ, _+_, _-_, _*_, _/_, _%_, _<_, _≡_, refl, sym, _∙_, ap, ap₂, lit<, mod-lt, arith}
 use native.Mathlib.Nat.{div-one, div-div-eq-div-mul, mod-eq-of-lt}
-use lib.Bits.{bitAnd, and-block, and-mask, and-high, and-lt}
+use lib.Bits.{bitAnd, and-block, and-mask, and-high}
 use Rattle.field.specs.Xor.{xor}
 use Rattle.field.specs.Field.{xtime, times, mul}
 use Rattle.field.specs.Mix.{xor4, row}
@@ -11,7 +11,7 @@ use Rattle.laws.proofs.Below.{agree}
 use Rattle.field.proofs.Xor.{byte, assoc}
 use Rattle.field.proofs.Linear.{mul-byte, xor-mul}
 use Rattle.field.proofs.Product.{one-times, times-assoc}
-use Rattle.field.proofs.Words.{words, xor-word, byte0, byte1, byte2, byte3}
+use Rattle.field.proofs.Words.{words, xor-word}
 
 -- ---- the word of what is made of each byte
 
@@ -33,16 +33,16 @@ each-same f g h x = words (h _ (byteAt-lt x 0)) (h _ (byteAt-lt x 1)) (h _ (byte
 -- the bytes of a word, and so what is made of each
 module _ (a b c d : ℕ) (ha : a < 256) (hb : b < 256) (hc : c < 256) (hd : d < 256) where
   pub word-at0 : byteAt (word a b c d) 0 ≡ a
-  word-at0 = rw (div-one (word a b c d)) (byte0 a b c d ha hb hc hd)
+  word-at0 = rw (div-one (word a b c d)) (omega arith)
 
   pub word-at1 : byteAt (word a b c d) 1 ≡ b
-  word-at1 = byte1 a b c d ha hb hc hd
+  word-at1 = omega arith
 
   pub word-at2 : byteAt (word a b c d) 2 ≡ c
-  word-at2 = byte2 a b c d ha hb hc hd
+  word-at2 = omega arith
 
   pub word-at3 : byteAt (word a b c d) 3 ≡ d
-  word-at3 = rw (byte3 a b c d ha hb hc hd) (mod-eq-of-lt hd)
+  word-at3 = let top : word a b c d / 16777216 ≡ d = omega arith in rw top (mod-eq-of-lt hd)
 
   each-word : (f : ℕ → ℕ) → each f (word a b c d) ≡ word (f a) (f b) (f c) (f d)
   unfolding each

@@ -9,7 +9,7 @@ use Rattle.field.specs.Field.{xtime, times, mul, square, ones, inverse}
 use Rattle.field.proofs.Xor.{byte, assoc, cancel}
 use Rattle.field.proofs.Linear.{mul-byte, mul-xor, xor-mul}
 use Rattle.field.proofs.Additive.{Additive, additive-same}
-use Rattle.field.proofs.Product.{mul-zero, one-times, times-comm, times-assoc}
+use Rattle.field.proofs.Product.{one-times, times-comm, times-assoc}
 
 -- ---- the witness
 

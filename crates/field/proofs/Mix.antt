@@ -30,8 +30,8 @@ by-columns : (a b c d e f g h i j k l m n o p : ℕ)
 unfolding xor4
 by-columns a b c d e f g h i j k l m n o p = rw (zip i, zip e, zip a b)
 
-pub each : {a b c d e f g h : ℕ} → a ≡ e → b ≡ f → c ≡ g → d ≡ h → xor4 a b c d ≡ xor4 e f g h
-each p q r s = λ i. xor4 (p i) (q i) (r i) (s i)
+xor4-same : {a b c d e f g h : ℕ} → a ≡ e → b ≡ f → c ≡ g → d ≡ h → xor4 a b c d ≡ xor4 e f g h
+xor4-same p q r s = λ i. xor4 (p i) (q i) (r i) (s i)
 
 alone : (a : ℕ) → xor4 a 0 0 0 ≡ a
 unfolding xor4
@@ -83,11 +83,11 @@ pub unmixed-mixed : (a b c d : ℕ) → a < 256 → b < 256 → c < 256 → d < 
     → unmixed (mixed a b c d) (mixed b c d a) (mixed c d a b) (mixed d a b c) ≡ a
 unfolding unmixed row mixed
 unmixed-mixed a b c d ha hb hc hd =
-    each (mul-row 14 2 3 1 1 a b c d ha hb hc hd) (mul-row 11 2 3 1 1 b c d a hb hc hd ha ∙ turn _ _ _ _)
+    xor4-same (mul-row 14 2 3 1 1 a b c d ha hb hc hd) (mul-row 11 2 3 1 1 b c d a hb hc hd ha ∙ turn _ _ _ _)
     (mul-row 13 2 3 1 1 c d a b hc hd ha hb ∙ turn _ _ _ _ ∙ turn _ _ _ _)
     (mul-row 9 2 3 1 1 d a b c hd ha hb hc ∙ turn _ _ _ _ ∙ turn _ _ _ _ ∙ turn _ _ _ _)
     ∙ by-columns _ _ _ _ _ _ _ _ _ _ _ _ _ _ _ _
-    ∙ each (row-mul 14 11 13 9 2 1 1 3 1 a (lit< tt) ha (products .0) ∙ one-times a ha)
+    ∙ xor4-same (row-mul 14 11 13 9 2 1 1 3 1 a (lit< tt) ha (products .0) ∙ one-times a ha)
     (row-mul 14 11 13 9 3 2 1 1 0 b (lit< tt) hb (products .1) ∙ zero-times b hb)
     (row-mul 14 11 13 9 1 3 2 1 0 c (lit< tt) hc (products .2) ∙ zero-times c hc)
     (row-mul 14 11 13 9 1 1 3 2 0 d (lit< tt) hd (products .3) ∙ zero-times d hd)

@@ -20,20 +20,6 @@ xor-word a b c d e f g h ha hb hc he hf hg = rw (xor-block 8 _ _ a e ha he, xor-
 pub words : {a b c d e f g h : ℕ} → a ≡ e → b ≡ f → c ≡ g → d ≡ h → word a b c d ≡ word e f g h
 words p q r s = λ i. word (p i) (q i) (r i) (s i)
 
--- the bytes of a word
-module _ (a b c d : ℕ) (ha : a < 256) (hb : b < 256) (hc : c < 256) (hd : d < 256) where
-  pub byte0 : word a b c d % 256 ≡ a
-  byte0 = omega arith
-
-  pub byte1 : word a b c d / 256 % 256 ≡ b
-  byte1 = omega arith
-
-  pub byte2 : word a b c d / 65536 % 256 ≡ c
-  byte2 = omega arith
-
-  pub byte3 : word a b c d / 16777216 ≡ d
-  byte3 = omega arith
-
 spread-column : (k l m n a b c d : ℕ) → a < 256 → b < 256 → c < 256 → d < 256
     → xor (xor (xor (spread k l m n a) (spread l m n k b)) (spread m n k l c)) (spread n k l m d) ≡ column k l m n a b c d
 unfolding spread column row xor4
@@ -41,7 +27,7 @@ spread-column k l m n a b c d ha hb hc hd =
     simp (xor-word, byte, mul-byte, assoc)
     (words refl (sym (turn (mul k b) (mul l c) (mul m d) (mul n a))) (turn _ _ _ _ ∙ turn _ _ _ _) (turn _ _ _ _))
 
--- ---- a word read out of two: turned by as many bytes as it is read further up, it serves that many rows below
+-- ---- a word read out of two: turned by as many bytes as it is read below the top, it serves that many rows below
 
 -- the digits of x in the middle: above l, which is below n, and below h
 middle : (n x h r l : ℕ) → 0 < n → l < n → r < 4294967296 → x ≡ (h * 4294967296 + r) * n + l → x / n % 4294967296 ≡ r

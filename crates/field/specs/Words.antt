@@ -1,6 +1,5 @@
 -- SPDX-License-Identifier: MPL-2.0
--- A column of four bytes as one word, the first byte the lowest, and the table by which a round is computed: what one byte adds to its
--- column stands there ready.
+-- A column of four bytes as one word, the first byte the lowest; and what one byte adds to its column in a round, as the code has it ready.
 use Prim.Native.Nat.{ℕ, _+_, _-_, _*_, _/_, _%_, _^_}
 use Rattle.field.specs.Field.{mul}
 use Rattle.field.specs.Mix.{row}
@@ -30,11 +29,11 @@ unmixedWord x = column 0x0E 0x0B 0x0D 0x09 (byteAt x 0) (byteAt x 1) (byteAt x 2
 unfoldable pub spread : ℕ → ℕ → ℕ → ℕ → ℕ → ℕ
 spread k l m n a = word (mul k a) (mul n a) (mul m a) (mul l a)
 
--- A word twice over: read from one byte further up it is the word with its bytes turned by one place.
+-- A word twice over: read from one byte below its top it is the word with its bytes turned by one place.
 unfoldable pub twice : ℕ → ℕ
 twice x = x * 0x100000001
 
--- The word that stands m bytes further up in a word twice over.
+-- The word that stands m bytes below the top of a word twice over.
 abbrev pub turned : ℕ → ℕ → ℕ
 turned x m = x / 2 ^ (32 - 8 * m) % 4294967296
 

@@ -62,16 +62,16 @@ pub fn inverse_substitution() -> [u8; 256]
     INV_SBOX
 }
 
-// What the substitute of a byte, standing in the first row, adds to its column in MixColumns: the word twice over, so that one read from a byte
-// further up serves the row below.
+// What the substitute of a byte (FIPS 197, 5.1.1), standing in the first row, adds to its column in MixColumns (5.1.3): the word twice over, so that
+// one read from a byte further down serves the row below.
 pub fn mixing(x: u8) -> u64
     ensures { λ r. ⌜ r ≡ mixes x ⌝ }
 {
     mixing_from_128(x ^ 128)
 }
 
-// The same for the byte y ^ 128. The compiler takes the arms for a signed byte's, the first that of -128, and adds 128 to what it looks up: which the
-// 128 above takes off again.
+// The same for the byte y ^ 128. The compiler takes y for a signed byte, so that its table begins with -128, and adds 128 to find the place: the 128
+// above takes that off again.
 fn mixing_from_128(y: u8) -> u64
     ensures { λ r. ⌜ r ≡ mixes (xor y 128) ⌝ }
 {
@@ -335,14 +335,14 @@ fn mixing_from_128(y: u8) -> u64
     }
 }
 
-// The same for the way back: INVSBOX() and InvMixColumns.
+// The same for the way back: INVSBOX() and InvMixColumns (5.3.2 and 5.3.3).
 pub fn unmixing(x: u8) -> u64
     ensures { λ r. ⌜ r ≡ unmixes x ⌝ }
 {
     unmixing_from_128(x ^ 128)
 }
 
-// So for the way back.
+// The same for the byte y ^ 128, as `mixing_from_128`.
 fn unmixing_from_128(y: u8) -> u64
     ensures { λ r. ⌜ r ≡ unmixes (xor y 128) ⌝ }
 {

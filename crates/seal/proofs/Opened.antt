@@ -1,7 +1,7 @@
 -- SPDX-License-Identifier: MPL-2.0
 -- Opening: a sealed part by its first and its last block, what the rows before the tag leave, and the table as a whole.
-use Rattle.laws.proofs.Kit.{ℕ, _-_, _*_, _/_, _%_, _≤_, _<_, _≡_, refl, sym, _∙_, Bool, true, false, List, _++_, length, take, drop, length-drop, take-all, take-at, take-length, leb}
-use Rattle.laws.proofs.Kit.{ne-eqb, eqb-true, le-ltb, ltb-false, le-leb, leb-false, not-false, arith}
+use Rattle.laws.proofs.Kit.{ℕ, _-_, _*_, _/_, _%_, _≤_, _<_, _≡_, refl, sym, Bool, false, cond, List, _++_, length, take, drop, length-drop, leb}
+use Rattle.laws.proofs.Kit.{take-all, take-at, take-length, ne-eqb, eqb-true, le-ltb, ltb-false, le-leb, leb-false, not-false, arith}
 use lib.Seq.{take-append-le, drop-append-le}
 use Rattle.laws.proofs.Bools.{or-false}
 use Rattle.laws.specs.Rows.{first, testOf}
@@ -10,9 +10,9 @@ use Rattle.wire.specs.Refusals.{tooShort, wrongLength, wrongSealedSize, wrongKe
 use Rattle.aes.specs.Cbc.{cbcDecrypt, cbcDecryptBlock, blockBefore, written}
 use Rattle.aes.proofs.Chain.{cbcDecrypt-length}
 use Rattle.aes.proofs.Ends.{cbcDecrypt-first, cbcDecrypt-last}
-use Rattle.seal.specs.Padding.{badPlain, unlessBad, badBlocks}
+use Rattle.seal.specs.Padding.{badPlain, badBlocks}
 use Rattle.seal.specs.Opening.{noPartRows, noPart, keyRows, earlyRows, tagRows, partRows, partRefusal, openRefusal}
-use Rattle.seal.specs.Opening.{sealedPart, plainOf, partInto, openedInto, intoUnless}
+use Rattle.seal.specs.Opening.{sealedPart, plainOf, unlessBad, partInto, openedInto, intoUnless}
 use Rattle.seal.proofs.Padded.{badPlain-blocks}
 
 -- What stands in the front of a buffer, by its first and its last block.
@@ -21,7 +21,8 @@ front-judged : (plain rest : List ℕ) → 16 ≤ length plain
 front-judged plain rest some =
     let n = length plain - 16 in
     let last : length (drop n plain) ≡ 16 = simp length-drop (omega arith) in
-    rw (take-append-le 16 plain rest some, drop-append-le n plain rest (omega arith), take-at (drop n plain) rest 16 last) (sym (badPlain-blocks plain))
+    rw (take-append-le 16 plain rest some, drop-append-le n plain rest (omega arith), take-at (drop n plain) rest 16 last)
+    (sym (badPlain-blocks plain))
 
 module _ (keys : List (List ℕ)) (v sealed : List ℕ) (some : 16 ≤ length sealed) (blocks : length sealed % 16 ≡ 0) where
   -- The last block, by the cipher block before it.
@@ -86,16 +87,12 @@ placed given start keys e =
       keys64 = eqb-true keys 64 (not-false _ (at wrongKeys));
     }
 
--- The way through `open_part` once there is room: p is the plain text, and `bad` and `after` what came of opening it.
+-- The way through `open_part` where there is room: p is the plain text, and `bad` and `after` what came of opening it.
 module _ (keys m sealed working after p : List ℕ) (bad : Bool) (room : length sealed ≤ length working) (e : plainOf keys m sealed ≡ p)
     (judged : bad ≡ badPlain p) (held : after ≡ unlessBad p working) where
-  pub part-refused : bad ≡ true → (wrongPadding ≡ partRefusal keys m sealed (length working)) × (after ≡ partInto keys m sealed working)
-  unfolding partRefusal partInto intoUnless unlessBad
-  part-refused b = let rule = sym judged ∙ b in rw (le-ltb _ _ room, e, held, rule) (refl, refl)
-
-  pub part-opened : bad ≡ false → (0 ≡ partRefusal keys m sealed (length working)) × (after ≡ partInto keys m sealed working)
-  unfolding partRefusal partInto intoUnless unlessBad
-  part-opened b = let rule = sym judged ∙ b in rw (le-ltb _ _ room, e, held, rule) (refl, refl)
+  pub part-opened : (cond bad wrongPadding 0 ≡ partRefusal keys m sealed (length working)) × (after ≡ partInto keys m sealed working)
+  unfolding partRefusal partInto unlessBad
+  part-opened = rw (le-ltb _ _ room, e, held, judged) (refl, refl)
 
 -- The rows of all that is tested, as one table.
 module _ (keys m : List ℕ) (start room : ℕ) where

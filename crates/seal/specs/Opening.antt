@@ -79,6 +79,10 @@ openRefusal keys m start room =
 unfoldable pub intoUnless : ℕ → List ℕ → List ℕ → List ℕ
 intoUnless refusal plain working = cond (eqb refusal 0) (plain ++ drop (length plain) working) working
 
+-- The same of a plain text by itself: 13 is its one refusal.
+unfoldable pub unlessBad : List ℕ → List ℕ → List ℕ
+unlessBad plain working = intoUnless (cond (badPlain plain) wrongPadding 0) plain working
+
 -- The working buffer after a sealed part was opened.
 unfoldable pub partInto : List ℕ → List ℕ → List ℕ → List ℕ → List ℕ
 partInto keys m sealed working = intoUnless (partRefusal keys m sealed (length working)) (plainOf keys m sealed) working

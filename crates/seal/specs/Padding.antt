@@ -2,7 +2,7 @@
 -- The plain text of a sealed part: the payload's size in four bytes, the payload, and padding up to a multiple of sixteen.
 use Prim.Native.Nat.{ℕ, _+_, _-_, _%_}
 use mathlib.Core.List.{List, _++_}
-use mathlib.Core.Bool.{Bool, not, cond, _||_}
+use mathlib.Core.Bool.{Bool, not, _||_}
 use lib.ListN.{length, take, drop, replicate}
 use lib.Dec.{eqb}
 use Rattle.laws.specs.Bytes.{be32, bytes32}
@@ -29,10 +29,6 @@ unfoldable pub badPlain : List ℕ → Bool
 badPlain plain =
     not (eqb (length plain) (sealedSize (be32 plain 0)))
     || not (same (drop (4 + be32 plain 0) plain) (paddingBytes (be32 plain 0)))
-
--- What a buffer holds once a sealed part was opened into its front: all that it held where 13 refuses.
-unfoldable pub unlessBad : List ℕ → List ℕ → List ℕ
-unlessBad plain buffer = cond (badPlain plain) buffer (plain ++ drop (length plain) buffer)
 
 -- The payload of an opened sealed part.
 abbrev pub payloadOf : List ℕ → List ℕ

@@ -5,7 +5,7 @@
 //     0                start                        length - 32   length
 //
 // The first and the last block of the sealed part decide 13 in locals, so that nothing is written to the working buffer before. A small part is
-// decrypted whole into a local, a larger one after these two.
+// decrypted whole into a local and copied from there, a larger one is decrypted into the working buffer once these two were judged.
 use crate::KEYS;
 use crate::key::block_at;
 use crate::key::tag_of;
@@ -29,10 +29,10 @@ ghost use Rattle.laws.specs.Rows.{first};
 ghost use Rattle.laws.specs.Same.{same};
 ghost use Rattle.aes.specs.Cbc.{cbcDecrypt, blockBefore};
 ghost use Rattle.seal.specs.Keys.{tagOf};
-ghost use Rattle.seal.specs.Padding.{badPlain, unlessBad};
-ghost use Rattle.seal.specs.Opening.{bodyOf, tagIn, noBlocks, earlyRows, partRefusal, partInto, openRefusal, openedInto};
+ghost use Rattle.seal.specs.Padding.{badPlain};
+ghost use Rattle.seal.specs.Opening.{bodyOf, tagIn, noBlocks, earlyRows, partRefusal, unlessBad, partInto, openRefusal, openedInto};
 
-// As many bytes, a payload of 124, are opened by way of a local.
+// A sealed part of at most so many bytes, a payload of at most 124, is opened by way of a local.
 const SMALL: usize = 128;
 
 // Refusal 9: whether what stands from `start` to the tag of a message of `given` bytes is empty or no multiple of 16.
@@ -114,7 +114,7 @@ fn open_small(keys: [[u8; 16]; 11], vector: [u8; 16], sealed: &[u8], working: &m
     false
 }
 
-// Opens a sealed part of any size. Its first and its last block are decrypted twice, which costs less than a copy of all of them would.
+// Opens a sealed part that need not be small. Its first and its last block are decrypted twice, since no local has room for all of them.
 fn open_large(keys: [[u8; 16]; 11], vector: [u8; 16], sealed: &[u8], working: &mut [u8]) -> bool
     requires { ⌜ (16 ≤ length (now sealed)) × (length (now sealed) % 16 ≡ 0) × (length (now sealed) ≤ length (now working)) ⌝ }
     ensures { λ r. ⌜ r ≡ badPlain (cbcDecrypt keys vector (now (sealed .entry))) ⌝ }

@@ -92,7 +92,8 @@ pub fn by_the_rule<I: Implementation>(comparison: &mut Comparison<I>) -> Tried {
 }
 
 /// Sealed parts of one to twelve blocks with each number of padding bytes: as the rule gives, with
-/// a size one more and one less, with the first and with the last byte of padding wrong.
+/// a size one more (which is by the rule too where there was one byte of padding) and one less, with
+/// the first and with the last byte of padding wrong.
 pub fn blocks<I: Implementation>(comparison: &mut Comparison<I>) -> Tried {
     let parts = pairs(1..=12, 0..16).into_iter().filter(|(blocks, pad)| 4 + pad <= 16 * blocks);
     let texts = parts.flat_map(|(blocks, pad): (usize, usize)| {
@@ -106,7 +107,7 @@ pub fn blocks<I: Implementation>(comparison: &mut Comparison<I>) -> Tried {
         let mut texts = vec![(size, text.clone()), (size + 1, text.clone())];
         texts.extend((size > 0).then(|| (size - 1, text.clone())));
         texts.extend((pad > 0).then(|| changed(size)));
-        texts.extend((pad > 0).then(|| changed(size + pad - 1)));
+        texts.extend((pad > 1).then(|| changed(size + pad - 1)));
         texts
     });
     each(comparison, texts, |(size, text), comparison| -> Result<(), Difference> {

@@ -19,15 +19,18 @@ loop-holds c = (search needs, refl)
 
 loop-again : tie.Need-loop-again Inv-loop μ-loop
 loop-again c =
-    let l = c .before .before .before .loop in
+    let at-loop : tie.At-loop Inv-loop μ-loop = search in
+    let at-test : tie.In-loop Inv-loop μ-loop = search in
+    let l = at-loop .loop in
     let key = rw (c .before .key-at2 .ensures, ← key-of _ (l .n) (omega arith)) at (c .inv-round .ensures) in
-    (search needs, eq-less _ _ _ _ (c .before .before .loop-test .taken) key ∙ l .inv .1)
+    (search needs, eq-less _ _ _ _ (at-test .loop-test .taken) key ∙ l .inv .1)
 
 returns : tie.Need-returns Inv-loop μ-loop
 returns c =
-    let at-loop = c .before .before .before in
+    let at-loop : tie.At-loop Inv-loop μ-loop = search in
+    let at-test : tie.After-loop Inv-loop μ-loop = search in
     let added = at-loop .before in
-    eq-whole _ _ _ _ _ _ (c .before .before .loop-test .left) (rw (added .before .key-at .ensures, ← key-of _ 10 (lit< tt)) at (added .add .ensures))
+    eq-whole _ _ _ _ _ _ (at-test .loop-test .left) (rw (added .before .key-at .ensures, ← key-of _ 10 (lit< tt)) at (added .add .ensures))
     (at-loop .loop .inv .1) (rw (c .before .key-at3 .ensures, ← key-of _ 0 (lit< tt)) at (c .inv-last-round .ensures))
 
 pub decrypt-spec : {M : Type 1} → statement M

@@ -20,13 +20,14 @@ loop-holds c = search needs
 loop-again : tie.Need-loop-again Inv-loop μ-loop
 unfolding rounds
 loop-again c =
-    let l = c .before .before .before .loop in
+    let at-loop : tie.At-loop Inv-loop μ-loop = search in
+    let l = at-loop .loop in
     (search needs, rw (c .round .ensures, c .before .key-at2 .ensures, l .inv .1, ← key-of _ (l .n + 1) (omega arith), add-one))
 
 returns : tie.Need-returns Inv-loop μ-loop
 unfolding cipher
 returns c =
-    let at-loop = c .before .before .before in
+    let at-loop : tie.At-loop Inv-loop μ-loop = search in
     let added = at-loop .before in
     let e : at-loop .loop .n ≡ 9 = omega arith in
     rw (
@@ -43,5 +44,5 @@ returns c =
 pub encrypt-spec : {M : Type 1} → statement M
 encrypt-spec =
     tie.close (tie.spec
-    Inv-loop μ-loop (λ c κs. search needs) _ loop-holds (λ c. search needs) (λ c κs. search needs) _ (λ c. search needs) (λ c. search needs) loop-again
-    (λ c κs. search needs) (λ c κs. search needs) returns)
+    Inv-loop μ-loop (λ c κs. search needs) _ loop-holds (λ c. search needs) (λ c κs. search needs) _ (λ c. search needs) (λ c. search needs)
+    loop-again (λ c κs. search needs) (λ c κs. search needs) returns)

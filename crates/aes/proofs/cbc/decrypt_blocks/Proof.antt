@@ -1,7 +1,7 @@
 -- SPDX-License-Identifier: MPL-2.0
 -- Block by block.
-use Rattle.laws.proofs.Kit.{ℕ, _+_, _-_, _%_, _≡_, refl, _∙_, ap, List, length, take, drop, arith, needs}
-use lib.Seq.{paste, length-paste}
+use Rattle.laws.proofs.Kit.{ℕ, _-_, _%_, _≡_, refl, _∙_, ap, List, length, take, drop, arith, needs}
+use lib.Seq.{paste}
 use Rattle.aes.specs.State.{Keys}
 use Rattle.aes.specs.Words.{bytesOf, keysOf}
 use Rattle.aes.specs.Cipher.{eqKeys}
@@ -43,8 +43,19 @@ loop-again c =
     let block = x .words-from .ensures ∙ loaded (start .args .source .now) (l .at) (omega arith) in
     let plain : (ks : List (List ℕ)) → Keys ks → keysOf (start .args .keys .now) ≡ eqKeys ks
     → b .bytes-of .result ≡ cbcDecryptBlock ks (bytesOf (l .v)) (take 16 (drop (l .at) (start .args .source .now))) =
-    λ ks hk e. rw (b .bytes-of .ensures, z .add .ensures, y .decrypt .ensures, e, eqInvCipher-is ks hk _ (bytesOf-block (x .words-from .result)), block) in
-    (omega arith, search needs, λ ks hk e. more (l .inv .2 ks hk e) (decrypt-long ks) (omega arith) _ _ block (p ∙ ap (λ (q : List ℕ). paste (l .target) (l .at) q 16) (plain ks hk e)))
+    λ ks hk e. rw (
+      b .bytes-of .ensures,
+      z .add .ensures,
+      y .decrypt .ensures,
+      e,
+      eqInvCipher-is ks hk _ (bytesOf-block (x .words-from .result)),
+      block,
+    ) in (
+      omega arith,
+      search needs,
+      λ ks hk e. more (l .inv .2 ks hk e) (decrypt-long ks) (omega arith) _ _ block
+          (p ∙ ap (λ (q : List ℕ). paste (l .target) (l .at) q 16) (plain ks hk e)),
+    )
 
 returns : tie.Need-returns Inv-loop μ-loop
 unfolding cbcDecrypt

@@ -1,5 +1,5 @@
 -- SPDX-License-Identifier: MPL-2.0
--- The code is the definition; each part is a byte.
+-- Each part is a byte of its word; the highest needs no remainder.
 use Rattle.laws.proofs.Kit.{ℕ, _/_, _%_, _<_, lit<, mod-lt, arith}
 use mir.Val.{Fits}
 use mir.Syntax.{w8}

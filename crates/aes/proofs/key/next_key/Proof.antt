@@ -1,6 +1,5 @@
 -- SPDX-License-Identifier: MPL-2.0
 -- Four sums.
-use Rattle.laws.proofs.Kit.{needs}
 use Rattle.field.specs.Xor.{xor}
 use Rattle.field.specs.Sbox.{sbox}
 use Rattle.aes.proofs.TableRounds.{by-bytes}

@@ -20,7 +20,7 @@ loop-holds c = search needs
 loop-again : tie.Need-loop-again Inv-loop μ-loop
 unfolding lookedUp xor
 loop-again c =
-    let at-loop = c .before .before .before .before .before in
+    let at-loop : tie.At-loop Inv-loop μ-loop = search in
     (search needs, rw (c .turned .ensures, c .before .unmixing .ensures, c .before .before .byte .ensures, at-loop .loop .inv .1, add-one))
 
 returns : tie.Need-returns Inv-loop μ-loop

@@ -12,7 +12,8 @@ returns c =
     let y = z .before .before in
     let x = y .before .before in
     let w = x .before .before in
-    unshifted-round _ _ _ _ _ _ _ (w .before .pre) (w .look-bytes .ensures) (x .look-bytes2 .ensures) (y .look-bytes3 .ensures) (z .look-bytes4 .ensures)
+    unshifted-round _ _ _ _ _ _ _ (w .before .pre)
+    (w .look-bytes .ensures) (x .look-bytes2 .ensures) (y .look-bytes3 .ensures) (z .look-bytes4 .ensures)
 
 pub inv-last-round-spec : {M : Type 1} → statement M
 inv-last-round-spec = tie.close (tie.spec _ _ _ _ returns)

@@ -1,5 +1,5 @@
 -- SPDX-License-Identifier: MPL-2.0
--- The code is the definition.
+-- By the contracts of what it calls.
 use Rattle.laws.proofs.Kit.{needs}
 use Rattle.aes.specs.Words.{lookedUpBytes}
 use Rattle.aes.proofs.rounds.look_bytes.Statement.{statement}

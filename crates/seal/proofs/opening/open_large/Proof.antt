@@ -2,16 +2,16 @@
 -- What is judged is what is written.
 use Rattle.laws.proofs.Kit.{refl, sym, _∙_, le-leb, needs}
 use Rattle.aes.proofs.Chain.{cbcDecrypt-length}
-use Rattle.seal.specs.Padding.{unlessBad}
+use Rattle.seal.specs.Opening.{intoUnless, unlessBad}
 use Rattle.seal.proofs.opening.open_large.Statement.{statement}
 use Rattle.seal.proofs.opening.open_large.Tie as tie
 
 returns : tie.Need-returns
-unfolding unlessBad
+unfolding unlessBad intoUnless
 returns c = rw (sym (c .before .bad-part .ensures) ∙ c .if1 .taken) (refl, refl)
 
 returns-2 : tie.Need-returns-2
-unfolding unlessBad
+unfolding unlessBad intoUnless
 returns-2 c =
     let start : tie.Start = search in
     let at-if : tie.Else1 = search in

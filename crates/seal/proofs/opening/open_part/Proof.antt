@@ -3,7 +3,7 @@
 use Rattle.laws.proofs.Kit.{_≡_, refl, lt-ltb, needs}
 use Rattle.aes.specs.Cbc.{cbcDecrypt}
 use Rattle.seal.specs.Opening.{plainOf, partRefusal, partInto, intoUnless}
-use Rattle.seal.proofs.Opened.{part-refused, part-opened}
+use Rattle.seal.proofs.Opened.{part-opened}
 use Rattle.seal.proofs.opening.open_part.Statement.{statement}
 use Rattle.seal.proofs.opening.open_part.Tie as tie
 
@@ -30,13 +30,13 @@ returns-2 : tie.Need-returns-2
 returns-2 c =
     let b : tie.After-open-blocks = search in
     let o = b .open-blocks .ensures in
-    part-refused _ _ _ _ _ _ _ (roomy b .if1 .left) (plain b) (o .0) (o .1) (c .if2 .taken)
+    rw (c .if2 .taken) at (part-opened _ _ _ _ _ _ _ (roomy b .if1 .left) (plain b) (o .0) (o .1))
 
 returns-3 : tie.Need-returns-3
 returns-3 c =
     let b : tie.After-open-blocks = search in
     let o = b .open-blocks .ensures in
-    part-opened _ _ _ _ _ _ _ (roomy b .if1 .left) (plain b) (o .0) (o .1) (c .if2 .left)
+    rw (c .if2 .left) at (part-opened _ _ _ _ _ _ _ (roomy b .if1 .left) (plain b) (o .0) (o .1))
 
 pub open-part-spec : {M : Type 1} → statement M
 open-part-spec =

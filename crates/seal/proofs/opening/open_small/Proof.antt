@@ -2,28 +2,30 @@
 -- What is judged in the local is what is copied from it.
 use Rattle.laws.proofs.Kit.{_≡_, refl, sym, _∙_, replicate, needs}
 use Rattle.aes.specs.Cbc.{cbcDecrypt}
-use Rattle.seal.specs.Padding.{badPlain, unlessBad}
+use Rattle.seal.specs.Padding.{badPlain}
+use Rattle.seal.specs.Opening.{intoUnless, unlessBad}
 use Rattle.seal.proofs.Opened.{local-judged, local-copied}
 use Rattle.seal.proofs.opening.open_small.Statement.{statement}
 use Rattle.seal.proofs.opening.open_small.Tie as tie
 
-judged : (c : tie.After-bad-blocks) → let a = c .before .before .before .before .before .before .before .before .before .before .args in
-    c .bad-blocks .result ≡ badPlain (cbcDecrypt (a .keys) (a .vector) (a .sealed .now))
+abbrev entry : tie.After-bad-blocks → tie.Start
+entry c = c .before .before .before .before .before .before .before .before .before .before
+
+judged : (c : tie.After-bad-blocks) → let a = entry c .args in c .bad-blocks .result ≡ badPlain (cbcDecrypt (a .keys) (a .vector) (a .sealed .now))
 judged c =
-    let start : tie.Start = search in
     let first : tie.After-block-at = search in
     let last : tie.After-block-at2 = search in
     let decrypted : tie.After-cbc-decrypt = search in
-    let p = start .pre in
-    local-judged _ _ _ (p .0 .0) (p .0 .1) (replicate 128 0) _ (p .1 .0) (decrypted .cbc-decrypt .ensures .1) (first .block-at .ensures) (last .block-at2 .ensures)
-    (c .bad-blocks .ensures)
+    let p = entry c .pre in
+    local-judged _ _ _ (p .0 .0) (p .0 .1) (replicate 128 0) _ (p .1 .0) (decrypted .cbc-decrypt .ensures .1)
+    (first .block-at .ensures) (last .block-at2 .ensures) (c .bad-blocks .ensures)
 
 returns : tie.Need-returns
-unfolding unlessBad
+unfolding unlessBad intoUnless
 returns c = rw (sym (judged (c .before)) ∙ c .if1 .taken) (refl, refl)
 
 returns-2 : tie.Need-returns-2
-unfolding unlessBad
+unfolding unlessBad intoUnless
 returns-2 c =
     let start : tie.Start = search in
     let decrypted : tie.After-cbc-decrypt = search in
