@@ -70,10 +70,10 @@ pub fn all<I: Implementation>() -> Vec<Sweep<I>> {
         Sweep::new("13: size 0xFFFFFFFC and others, the tag right", 192, sealed::size),
         Sweep::new("13: a whole block of padding, the tag right", 32, sealed::whole_block),
         Sweep::new("sealed by hand as the rule gives", 16, sealed::by_the_rule),
-        Sweep::new("sealed parts of 1 to 12 blocks, right and 13", 908, sealed::blocks),
         Sweep::new("10: keys of 63 and 65 bytes", 2, sealed::keys),
         Sweep::new("12: working buffer one byte short", 10, sealed::working_short),
         Sweep::new("22: output one byte short", 30, written::output_short),
+        Sweep::new("sealed parts of 1 to 12 blocks, right and 13", 908, sealed::blocks),
         Sweep::new(
             "enrolment, each step again after every later one",
             30,
