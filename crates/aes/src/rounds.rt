@@ -6,8 +6,8 @@
 // The way back is the same with the other table, once InvMixColumns was applied to the round keys (FIPS 197, 5.3.5): it is linear.
 //
 // Each table of words is looked at from one place, in two loops of four turns, which the compiler writes out: so it stands beside the code
-// (field::tables). The round key comes first and the word that is ready last comes last, so that little is left to wait for. The cipher has its
-// columns in the order d c b a, and so turns its rows as its inverse does; in the order a b c d its words do not all fit into registers.
+// (field::tables). The cipher has its columns in the order d c b a, and so turns its rows as its inverse does; in the order a b c d its words do not
+// all fit into registers.
 use super::columns::State;
 use super::columns::byte;
 use super::columns::join;
