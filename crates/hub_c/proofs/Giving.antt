@@ -4,7 +4,7 @@ use Rattle.laws.proofs.Kit.{ℕ, _≤_, _≡_, refl, sym, _∙_, Bool, true, fa
 use Rattle.laws.proofs.Bools.{or-false}
 use Rattle.payloads.specs.declared.reading.Request.{Request}
 use Rattle.writer.specs.Payload.{responseValues}
-use Rattle.hub_c.specs.Payload.{nonceSize, coordinateSize, wrongWords, wrongExchange}
+use Rattle.hub_c.specs.Payload.{nonceSize, coordinateSize, wrongWords, wrongExchange, wrongPresence}
 
 -- Words that have room in their fields, and a buffer for the length.
 pub words-right : (size mode code : ℕ) → wrongWords size mode code ≡ false → (size ≡ 1) × (mode ≤ 65535) × (code ≤ 255)
@@ -36,3 +36,10 @@ pub response-values : (pending : Bool) (mode result : ℕ) (r s : Request) → (
     → responseValues pending mode result r ≡ responseValues pending mode result s
 response-values true mode result r s e = rw (e refl)
 response-values false mode result r s e = refl
+
+-- A device type that has room in its field, past a test that ends with it.
+pub presence-tested : (a b : Bool) (device salt hash : ℕ) → b ≡ wrongPresence device salt hash → (a || b) ≡ false → device ≤ 65535
+unfolding wrongPresence
+presence-tested a b device salt hash e h =
+    let all = or-false (ltb 65535 device || not (eqb salt 4)) (not (eqb hash 4)) (sym e ∙ or-false a b h .1) in
+    ltb-false _ _ (or-false (ltb 65535 device) (not (eqb salt 4)) (all .0) .0)

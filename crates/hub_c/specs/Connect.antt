@@ -9,9 +9,9 @@ use Rattle.payloads.specs.declared.connect.FoundConnect.{FoundConnect}
 abbrev pub spanWords : Span → List ℕ
 spanWords s = s .from ∷ s .size ∷ []
 
--- The words of nonce, X and Y.
-abbrev pub exchangeWords : (nonce x y : Span) → List ℕ
-exchangeWords nonce x y = spanWords nonce ++ spanWords x ++ spanWords y
+-- The words of three parts.
+abbrev pub partsWords : (a b c : Span) → List ℕ
+partsWords a b c = spanWords a ++ spanWords b ++ spanWords c
 
 -- The words of certificate and thumbprint.
 abbrev pub shownWords : (certificate thumbprint : Span) → List ℕ
@@ -20,4 +20,4 @@ shownWords certificate thumbprint = spanWords certificate ++ spanWords thumbprin
 -- Type, mode, Result or Status; then the parts: nonce, X, Y, certificate, thumbprint.
 abbrev pub connectWords : FoundConnect → List ℕ
 connectWords f =
-    (f .connect ∷ f .mode ∷ f .code ∷ []) ++ exchangeWords (f .nonce) (f .x) (f .y) ++ shownWords (f .certificate) (f .thumbprint)
+    (f .connect ∷ f .mode ∷ f .code ∷ []) ++ partsWords (f .nonce) (f .x) (f .y) ++ shownWords (f .certificate) (f .thumbprint)

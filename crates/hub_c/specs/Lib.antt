@@ -8,4 +8,5 @@ pub mod Line
 pub mod Answered
 pub mod Stream
 pub mod Connect
+pub mod Discovery
 pub mod Payload

@@ -40,6 +40,22 @@ wrongResponse mode result nonce x y size =
 abbrev pub exchangeOf : (nonce x y : List ℕ) → Request
 exchangeOf nonce x y = record { nonce = nonce; x = x; y = y }
 
+-- The bytes of a salt.
+abbrev pub saltSize : ℕ
+saltSize = 4
+
+-- The bytes of a hash.
+abbrev pub hashSize : ℕ
+hashSize = 4
+
+-- A device type has more than 16 bits, or salt or hash another size.
+unfoldable pub wrongPresence : (device salt hash : ℕ) → Bool
+wrongPresence device salt hash = ltb 65535 device || not (eqb salt saltSize) || not (eqb hash hashSize)
+
+-- A buffer or a word of a Presence Response is wrong.
+abbrev pub wrongPresenceResponse : (mode device : ℕ) → (salt hash size : List ℕ) → Bool
+wrongPresenceResponse mode device salt hash size = wrongWords (length size) mode 0 || wrongPresence device (length salt) (length hash)
+
 -- The number that a call answers.
 abbrev pub numberGiven : (wrong : Bool) (f : Format) → Values f → (out : List ℕ) → ℕ
 numberGiven wrong f v out = cond wrong wrongBuffer (wrote (payloadWritten f v out) .refusal)

@@ -38,6 +38,10 @@ pieceSize = 3
 abbrev pub connectSize : ℕ
 connectSize = 13
 
+-- The words of what a Discovery payload says.
+abbrev pub discoverySize : ℕ
+discoverySize = 9
+
 -- The bytes of a line.
 abbrev pub lineSize : ℕ
 lineSize = 64

@@ -16,7 +16,7 @@ ghost use lib.ListN.{length};
 ghost use lib.Seq.{sets};
 ghost use Rattle.payloads.specs.Connect.{readConnect};
 ghost use Rattle.hub_c.specs.Sizes.{connectSize, sized, kept};
-ghost use Rattle.hub_c.specs.Connect.{spanWords, exchangeWords, shownWords, connectWords};
+ghost use Rattle.hub_c.specs.Connect.{spanWords, partsWords, shownWords, connectWords};
 
 // The words of what a Connect payload says.
 const CONNECT: usize = 13;
@@ -35,13 +35,13 @@ fn put_numbers(out: &mut [u64], connect: u8, mode: u16, code: u8)
     put_three(out, 0, connect as u64, mode as u64, code as u64);
 }
 
-// Puts the words of nonce, X and Y.
-fn put_exchange(out: &mut [u64], nonce: Span, x: Span, y: Span)
-    ensures { λ _. ⌜ now (out .exit) ≡ sets (now (out .entry)) 3 (exchangeWords nonce x y) ⌝ }
+// Puts the words of three parts, after type, mode and a third number.
+pub(crate) fn put_parts(out: &mut [u64], a: Span, b: Span, c: Span)
+    ensures { λ _. ⌜ now (out .exit) ≡ sets (now (out .entry)) 3 (partsWords a b c) ⌝ }
 {
-    put_span(out, 3, nonce);
-    put_span(out, 5, x);
-    put_span(out, 7, y);
+    put_span(out, 3, a);
+    put_span(out, 5, b);
+    put_span(out, 7, c);
 }
 
 // Puts the words of certificate and thumbprint.
@@ -58,7 +58,7 @@ fn put_connect(found: FoundConnect, out: &mut [u64])
     ensures { λ _. ⌜ now (out .exit) ≡ connectWords found ⌝ }
 {
     put_numbers(out, found.connect, found.mode, found.code);
-    put_exchange(out, found.nonce, found.x, found.y);
+    put_parts(out, found.nonce, found.x, found.y);
     put_shown(out, found.certificate, found.thumbprint);
 }
 

@@ -7,6 +7,7 @@ pub mod connect;
 pub mod connection;
 pub mod cutting;
 pub mod digests;
+pub mod discovery;
 pub mod listing;
 pub mod payload;
 pub mod reading;
@@ -19,7 +20,7 @@ ghost use mathlib.Core.Path.{_≡_};
 // The version of these calls: major · 65536 + minor · 256 + patch.
 #[no_mangle]
 pub extern "C" fn hub_version() -> u32
-    ensures { λ r. ⌜ r ≡ 0x00010000 ⌝ }
+    ensures { λ r. ⌜ r ≡ 0x00010100 ⌝ }
 {
-    0x00010000
+    0x00010100
 }

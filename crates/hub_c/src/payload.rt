@@ -6,7 +6,9 @@ use super::words::MOST_SHORT;
 use super::words::WRONG_BUFFER;
 use super::words::fill;
 use super::words::hand_length;
+use payloads::HASH_SIZE;
 use payloads::PENDING;
+use payloads::SALT_SIZE;
 use payloads::reading::Request;
 use writer::payload::write_connection_request;
 use writer::payload::write_connection_response;
@@ -14,15 +16,16 @@ use writer::payload::write_device_authentication;
 use writer::payload::write_done_request;
 use writer::payload::write_done_response;
 use writer::payload::write_presence_request;
+use writer::payload::write_presence_response;
 ghost use mathlib.Core.Path.{_≡_};
 ghost use mathlib.Core.Bool.{true, false, _&&_};
 ghost use lib.ListN.{length};
 ghost use lib.Dec.{eqb};
 ghost use Rattle.payloads.specs.Format.{_and_};
-ghost use Rattle.payloads.specs.Shapes.{presenceRequest, connectionRequest, deviceAuthentication, doneRequest, doneResponse};
+ghost use Rattle.payloads.specs.Shapes.{presenceRequest, presenceResponse, connectionRequest, deviceAuthentication, doneRequest, doneResponse};
 ghost use Rattle.writer.specs.Payload.{exchangeValues, responseFormat, responseValues};
 ghost use Rattle.hub_c.specs.Payload.{nonceSize, coordinateSize, wrongWords, wrongExchange, wrongRequest, wrongResponse};
-ghost use Rattle.hub_c.specs.Payload.{exchangeOf, numberGiven, bytesGiven, lengthGiven};
+ghost use Rattle.hub_c.specs.Payload.{wrongPresence, wrongPresenceResponse, exchangeOf, numberGiven, bytesGiven, lengthGiven};
 
 // The bytes of a nonce, and of X and of Y.
 const NONCE: usize = 8;
@@ -76,6 +79,41 @@ pub extern "C" fn hub_write_presence_request(out: &mut [u8], size: &mut [u64]) -
         return WRONG_BUFFER;
     }
     hand_length(write_presence_request(out), size)
+}
+
+// Salt or hash has another size, or the device type has no room in its field.
+fn wrong_presence(device: u64, salt: usize, hash: usize) -> bool
+    ensures { λ r. ⌜ r ≡ wrongPresence device salt hash ⌝ }
+{
+    (MOST_SHORT < device) | (salt != SALT_SIZE) | (hash != HASH_SIZE)
+}
+
+// Writes the payload of a Presence Response.
+#[no_mangle]
+pub extern "C" fn hub_write_presence_response(
+    mode: u64,
+    device: u64,
+    name: &[u8],
+    salt: &[u8],
+    hash: &[u8],
+    out: &mut [u8],
+    size: &mut [u64],
+) -> u32
+    ensures { λ r. ⌜ r ≡ numberGiven (wrongPresenceResponse mode device (now (salt .entry)) (now (hash .entry)) (now (size .entry)))
+        presenceResponse (mode and device and now (name .entry) and now (salt .entry) and now (hash .entry) and tt) (now (out .entry)) ⌝ }
+    ensures { λ _. ⌜ now (out .exit) ≡ bytesGiven (wrongPresenceResponse mode device (now (salt .entry)) (now (hash .entry)) (now (size .entry)))
+        presenceResponse (mode and device and now (name .entry) and now (salt .entry) and now (hash .entry) and tt) (now (out .entry)) ⌝ }
+    ensures { λ _. ⌜ now (size .exit) ≡ lengthGiven (wrongPresenceResponse mode device (now (salt .entry)) (now (hash .entry)) (now (size .entry)))
+        presenceResponse (mode and device and now (name .entry) and now (salt .entry) and now (hash .entry) and tt) (now (out .entry))
+        (now (size .entry)) ⌝ }
+{
+    if wrong_words(size.len(), mode, 0) | wrong_presence(device, salt.len(), hash.len()) {
+        return WRONG_BUFFER;
+    }
+    hand_length(
+        write_presence_response(mode as u16, device as u16, name, salt, hash, out),
+        size,
+    )
 }
 
 // Writes the payload of a Connection Request.

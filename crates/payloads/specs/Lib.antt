@@ -5,3 +5,4 @@ pub mod Typed
 pub mod Shapes
 pub mod Reading
 pub mod Connect
+pub mod Discovery

@@ -10,6 +10,10 @@ use Rattle.payloads.specs.Format.{one, two, four, end, fixed, free, arra
 abbrev pub atMost : ℕ → ℕ → Bool
 atMost n x = leb x n
 
+-- Every number.
+abbrev pub anyNumber : ℕ → Bool
+anyNumber x = true
+
 -- One of two numbers.
 abbrev pub either : ℕ → ℕ → ℕ → Bool
 either a b x = eqb x a || eqb x b
@@ -17,6 +21,18 @@ either a b x = eqb x a || eqb x b
 -- "A Presence Request's payload is the single byte 0."
 abbrev pub presenceRequest : Format
 presenceRequest = fixed one 0 then end
+
+-- "A Presence Response's payload is DiscoveryType 1 (1), ConnectionMode 0 to 2 (2), DeviceType (2), name length 0 to 64 (2), name, salt (4), hash
+-- (4), nothing after it"
+abbrev pub presenceResponse : Format
+presenceResponse =
+    fixed one 1
+    then free two (atMost 2)
+    then free two anyNumber
+    then sized two 0 64
+    then array 4
+    then array 4
+    then end
 
 -- "Each starts with ConnectionMode (2 bytes, 0 to 2) and a type byte."
 abbrev pub ofType : ℕ → Format → Format
@@ -81,6 +97,7 @@ shapes =
     ∷ (2, true, deviceAuthentication)
     ∷ (2, true, doneRequest)
     ∷ (2, true, doneResponse)
+    ∷ (1, false, presenceResponse)
     ∷ []
 
 -- Sealed as the shape asks.

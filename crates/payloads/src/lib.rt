@@ -8,10 +8,20 @@
 //
 //     3                 4          6       14              18         20  52         54  86
 //     | curve or Result | HMACSize | Nonce | fragment size | X length | X | Y length | Y |
+//
+// A Presence Response, a Discovery payload, with a name of n bytes is
+//
+//     0               1      3             5   7      7 + n  11 + n 15 + n
+//     | DiscoveryType | mode | device type | n | name | salt | hash |
 pub mod connect;
+pub mod discovery;
 pub mod reading;
 pub mod shapes;
 
+// Presence Request: a type of Discovery.
+pub const PRESENCE_REQUEST: u8 = 0;
+// Presence Response: a type of Discovery.
+pub const PRESENCE_RESPONSE: u8 = 1;
 // Connection Request: a type of Connect.
 pub const CONNECTION_REQUEST: u8 = 0;
 // Connection Response: a type of Connect.
@@ -47,3 +57,13 @@ pub const FRAGMENT_SIZE: u32 = 16384;
 pub const MOST_CERTIFICATE: u16 = 2048;
 // The longest thumbprint.
 pub const MOST_THUMBPRINT: u16 = 512;
+// The longest name.
+pub const MOST_NAME: u16 = 64;
+// The place of the name in a Presence Response.
+pub const NAME_AT: usize = 7;
+// The bytes of a salt.
+pub const SALT_SIZE: usize = 4;
+// The bytes of a hash.
+pub const HASH_SIZE: usize = 4;
+// The bytes of a Presence Response with an empty name.
+pub const PRESENCE_SIZE: usize = 15;

@@ -10,8 +10,12 @@ use crate::EXCHANGE_SIZE;
 use crate::FRAGMENT_SIZE;
 use crate::KEY_SIZE;
 use crate::MOST_CERTIFICATE;
+use crate::MOST_NAME;
 use crate::MOST_THUMBPRINT;
 use crate::PENDING;
+use crate::PRESENCE_REQUEST;
+use crate::PRESENCE_RESPONSE;
+use crate::PRESENCE_SIZE;
 use octets::numbers::byte;
 use octets::numbers::number16;
 use octets::numbers::number32;
@@ -31,6 +35,7 @@ ghost use Rattle.payloads.specs.Shapes.{
   deviceAuthentication,
   doneRequest,
   doneResponse,
+  presenceResponse,
   isShaped,
   badPayload,
 };
@@ -57,7 +62,7 @@ fn exchanges(p: &[u8]) -> bool
 fn is_presence_request(p: &[u8]) -> bool
     ensures { λ r. ⌜ r ≡ accepts presenceRequest (now (p .entry)) ⌝ }
 {
-    (byte(p, 0) == 0) & (p.len() == 1)
+    (byte(p, 0) == PRESENCE_REQUEST) & (p.len() == 1)
 }
 
 // A Connection Request, on curve 0.
@@ -107,6 +112,17 @@ fn is_done_response(p: &[u8]) -> bool
     starts(DONE_RESPONSE, p) & ((byte(p, 3) <= 4) & (p.len() == 4))
 }
 
+// A Presence Response: name, salt and hash, and nothing more.
+fn is_presence_response(p: &[u8]) -> bool
+    ensures { λ r. ⌜ r ≡ accepts presenceResponse (now (p .entry)) ⌝ }
+{
+    let name = number16(p, 5);
+    (byte(p, 0) == PRESENCE_RESPONSE)
+        & (number16(p, 1) <= 2)
+        & (name <= MOST_NAME)
+        & (p.len() == PRESENCE_SIZE + name as usize)
+}
+
 // The list of shapes: message type, plain or sealed, and the bytes.
 fn is_shaped(kind: u8, sealed: bool, p: &[u8]) -> bool
     ensures { λ r. ⌜ r ≡ isShaped kind sealed (now (p .entry)) ⌝ }
@@ -120,6 +136,7 @@ fn is_shaped(kind: u8, sealed: bool, p: &[u8]) -> bool
         | (secret & is_device_authentication(p))
         | (secret & is_done_request(p))
         | (secret & is_done_response(p))
+        | (discovery & is_presence_response(p))
 }
 
 // Refusal 14: a Discovery or Connect payload that has none of the shapes.

@@ -2,7 +2,7 @@
 -- A Connect payload taken apart. What was written is what the readers of fields read (`fields-back`), and it is not refused; the places of nonce,
 -- X and Y are those from which a Connection Request's format reads them. What is accepted as a payload that has them has 86 bytes.
 use Rattle.laws.proofs.Kit.{ℕ, _+_, _≤_, _<_, _≡_, refl, sym, _∙_, ap, Bool, true, false, true≢false, not, _&&_, List, [], _∷_, length}
-use Rattle.laws.proofs.Kit.{List·getD-eq-default, eqb, eqb-true, ne-eqb, leb, ltb, ltb-false, not-false, cond, arith}
+use Rattle.laws.proofs.Kit.{eqb, eqb-true, ne-eqb, leb, ltb, ltb-false, not-false, cond, arith}
 use Rattle.laws.proofs.Kit.{and-false}
 use Prim.Native.Nat.{zero-le}
 use borrow.Author.Tests.{not-true}
@@ -11,9 +11,9 @@ use Rattle.laws.proofs.Cases.{on}
 use Rattle.laws.proofs.Lists.{getD-any}
 use Rattle.laws.proofs.Parts.{bytesAt-part}
 use Rattle.laws.specs.Bytes.{be8, be16}
-use Rattle.payloads.specs.Format.{Format, _and_, endsFrom, holdsFrom, readFrom, acceptsFrom, accepts, read}
+use Rattle.payloads.specs.Format.{Format, _and_, endsFrom, holdsFrom, readFrom, accepts}
 use Rattle.payloads.specs.Shapes.{Shape, shapes, sealedAs, hasShape, isShaped, badPayload, ofType}
-use Rattle.payloads.specs.Shapes.{presenceRequest, connectionRequest, pendingResponse, otherResponse, deviceAuthentication, doneRequest, doneResponse}
+use Rattle.payloads.specs.Shapes.{connectionRequest, pendingResponse, otherResponse, deviceAuthentication, doneRequest, doneResponse}
 use Rattle.payloads.specs.Reading.{connectionMode, connectType, codeOf, readRequest, sizedAt, certificateOf, thumbprintOf}
 use Rattle.payloads.specs.Connect.{spanIf, notConnect, hasExchange, hasCertificate, hasCode, readConnect}
 use Rattle.payloads.specs.declared.reading.Request.{Request}
@@ -21,7 +21,7 @@ use Rattle.payloads.specs.declared.reading.Span.{Span}
 use Rattle.writer.specs.Payload.{exchangeValues, responseFormat, responseValues}
 use Rattle.promises.specs.Fields.{WrotePayload, spanOf}
 use Rattle.promises.specs.Connects.{Names, NamesExchange, NoExchange, NoCertificate, ConnectBack, Lies, ConnectLies}
-use Rattle.promises.proofs.FieldsBack.{ends, fields-back, values-back}
+use Rattle.promises.proofs.FieldsBack.{holds, ends, fields-back, values-back}
 
 -- Nonce, X and Y of a payload of 86 bytes lie where they are read from.
 exchange-named : (p : List ℕ) (r : Request) → notConnect p ≡ false → hasExchange (connectType p) (codeOf p) ≡ true → length p ≡ 86 → readRequest p ≡ r
@@ -34,11 +34,6 @@ exchange-named p r good has l e =
       x = sym (bytesAt-part p 20 32 (omega arith)) ∙ ap (λ (r : Request). r .x) e;
       y = sym (bytesAt-part p 54 32 (omega arith)) ∙ ap (λ (r : Request). r .y) e;
     })
-
--- A payload that is accepted is as its format says.
-holds : (f : Format) (p : List ℕ) → accepts f p ≡ true → holdsFrom f p 0 ≡ true
-unfolding acceptsFrom
-holds f p h = and-true (holdsFrom f p 0) _ h .0
 
 -- A payload that is not refused says its type, its mode and, where the type has one, its Result or Status.
 named : (p : List ℕ) (t m s : ℕ) → notConnect p ≡ false → connectType p ≡ t → connectionMode p ≡ m → cond (hasCode t) (codeOf p) 0 ≡ s
@@ -139,22 +134,23 @@ connect-back =
       done-response = finished;
     }
 
--- What has one of the shapes of a list has a property that each of them gives.
+-- What has one of the Connect shapes of a list has a property that each of those gives.
 abbrev EachRow : List ℕ → Type 0 → List Shape → Type 0
 EachRow p Q [] = Unit
-EachRow p Q (row ∷ rows) = (accepts (row .2) p ≡ true → Q) × EachRow p Q rows
+EachRow p Q (row ∷ rows) = (eqb 2 (row .0) ≡ true → accepts (row .2) p ≡ true → Q) × EachRow p Q rows
 
-by-row : (p : List ℕ) (Q : Type 0) (kind : ℕ) (sealed : Bool) (rows : List Shape) → EachRow p Q rows → hasShape kind sealed p rows ≡ true → Q
-by-row p Q kind sealed [] q e = absurd (true≢false (sym e))
-by-row p Q kind sealed (row ∷ rows) q e =
-    on (hasShape kind sealed p rows) (by-row p Q kind sealed rows (q .1)) λ r.
-    q .0 (and-true (eqb kind (row .0) && sealedAs sealed (row .1)) _ (rw (r, or-none) at e) .1)
+by-row : (p : List ℕ) (Q : Type 0) (sealed : Bool) (rows : List Shape) → EachRow p Q rows → hasShape 2 sealed p rows ≡ true → Q
+by-row p Q sealed [] q e = absurd (true≢false (sym e))
+by-row p Q sealed (row ∷ rows) q e =
+    on (hasShape 2 sealed p rows) (by-row p Q sealed rows (q .1)) λ r.
+    let h = and-true (eqb 2 (row .0) && sealedAs sealed (row .1)) _ (rw (r, or-none) at e) in
+    q .0 (and-true (eqb 2 (row .0)) _ (h .0) .0) (h .1)
 
 -- What is taken apart has one of the shapes.
 some-shape : (p : List ℕ) (Q : Type 0) → EachRow p Q shapes → notConnect p ≡ false → Q
 unfolding badPayload isShaped
 some-shape p Q q e =
-    on (hasShape 2 false p shapes) (by-row p Q 2 false shapes q) (λ n. by-row p Q 2 true shapes q (not-false _ (rw n at e)))
+    on (hasShape 2 false p shapes) (by-row p Q false shapes q) (λ n. by-row p Q true shapes q (not-false _ (rw n at e)))
 
 -- The type of a payload that begins with mode and type.
 typed : (t : ℕ) (rest : Format) (p : List ℕ) → accepts (ofType t rest) p ≡ true → 2 < length p → connectType p ≡ t
@@ -177,13 +173,14 @@ exchange-long : (p : List ℕ) → notConnect p ≡ false → hasExchange (conne
 unfolding endsFrom
 exchange-long p =
     some-shape p (hasExchange (connectType p) (codeOf p) ≡ true → length p ≡ 86)
-    ((λ a. none (rw (List·getD-eq-default p 255 {n = 2} (omega (arith, ends presenceRequest p a)))))
-    and (λ a h. ends connectionRequest p a)
-    and (λ a h. ends pendingResponse p a)
-    and (λ a. none (other-apart p a))
-    and (λ a. none (device-apart (connectType p) (codeOf p) (device-type p a)))
-    and (λ a. none (rw (typed 6 _ p a (omega (arith, ends doneRequest p a)))))
-    and (λ a. none (rw (typed 7 _ p a (omega (arith, ends doneResponse p a)))))
+    ((λ k. absurd (true≢false (sym k)))
+    and (λ k a h. ends connectionRequest p a)
+    and (λ k a h. ends pendingResponse p a)
+    and (λ k a. none (other-apart p a))
+    and (λ k a. none (device-apart (connectType p) (codeOf p) (device-type p a)))
+    and (λ k a. none (rw (typed 6 _ p a (omega (arith, ends doneRequest p a)))))
+    and (λ k a. none (rw (typed 7 _ p a (omega (arith, ends doneResponse p a)))))
+    and (λ k. absurd (true≢false (sym k)))
     and tt)
   where
     none : hasExchange (connectType p) (codeOf p) ≡ false → hasExchange (connectType p) (codeOf p) ≡ true → length p ≡ 86

@@ -84,6 +84,11 @@ response mode result r p false e w =
 sized-part : (p : List ℕ) (at : ℕ) → at + 2 + be16 p at ≤ length p → spanOf p (sizedAt p at) ≡ bytesAt p (at + 2) (be16 p at)
 sized-part p at h = rw (le-ltb (length p) (at + 2 + be16 p at) h) (sym (bytesAt-part p (at + 2) (be16 p at) h))
 
+-- A payload that is accepted is as its format says.
+pub holds : (f : Format) (p : List ℕ) → accepts f p ≡ true → holdsFrom f p 0 ≡ true
+unfolding acceptsFrom
+holds f p h = and-true (holdsFrom f p 0) _ h .0
+
 -- A payload that is accepted ends where its format does.
 pub ends : (f : Format) (p : List ℕ) → accepts f p ≡ true → length p ≡ endsFrom f p 0
 unfolding acceptsFrom
@@ -120,6 +125,7 @@ pub fields-back : FieldsBack
 fields-back =
     record {
       presence-request = presence;
+      presence-response = λ mode device name salt hash p w. shape-good p 7 (lit< tt) (accepted _ _ p w);
       connection-request = request;
       connection-response = λ mode result r p w. response mode result r p (eqb result 1) refl w;
       device-authentication = device;

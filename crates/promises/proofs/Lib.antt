@@ -21,3 +21,5 @@ pub mod Witness
 pub mod Enrols
 pub mod HostSteps
 pub mod ConnectBack
+pub mod PresenceBack
+pub mod DiscoverySteps

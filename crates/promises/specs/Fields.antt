@@ -11,7 +11,7 @@ use Rattle.laws.specs.Parts.{part}
 use Rattle.payloads.specs.Entries.{all}
 use Rattle.payloads.specs.Typed.{hasWidths, Typed}
 use Rattle.payloads.specs.Format.{one, end, fixed, free, sized, counted, Format, _then_, Values, _and_, fits, write, accepts, read}
-use Rattle.payloads.specs.Shapes.{atMost, presenceRequest, connectionRequest, deviceAuthentication, doneRequest, doneResponse}
+use Rattle.payloads.specs.Shapes.{atMost, presenceRequest, presenceResponse, connectionRequest, deviceAuthentication, doneRequest, doneResponse}
 use Rattle.payloads.specs.Shapes.{Shape, shapes, badPayload}
 use Rattle.payloads.specs.Reading.{connectionMode, connectType, codeOf, readRequest, certificateOf, thumbprintOf}
 use Rattle.payloads.specs.declared.reading.Request.{Request}
@@ -33,6 +33,9 @@ spanOf p s = part p (s .from) (s .size)
 pub record FieldsBack : Type 0 where
   -- "A Presence Request's payload"
   pub presence-request : (p : List ℕ) → WrotePayload presenceRequest tt p → badPayload 1 false p ≡ false
+  -- "A Presence Response's payload": its fields are in `PresenceBack`
+  pub presence-response : (mode device : ℕ) (name salt hash p : List ℕ)
+      → WrotePayload presenceResponse (mode and device and name and salt and hash and tt) p → badPayload 1 false p ≡ false
   -- "0 Connection Request": nonce, X and Y
   pub connection-request : (mode : ℕ) (r : Request) (p : List ℕ) → WrotePayload connectionRequest (exchangeValues mode r) p
       → (badPayload 2 false p ≡ false) × (connectionMode p ≡ mode) × (connectType p ≡ 0) × (readRequest p ≡ r)

@@ -4,6 +4,7 @@ pub mod Refusals
 pub mod Written
 pub mod Fields
 pub mod Connects
+pub mod Presence
 pub mod Handed
 pub mod Reports
 pub mod Enrolment

@@ -1,2 +1,3 @@
 // SPDX-License-Identifier: MPL-2.0
-// No code: the three demands (docs/PROMISES.md) and the numbered examples, stated over the definitions that the public calls' contracts cite.
+// No code: the three demands (docs/PROMISES.md), the numbered examples and the requests of document 02, stated over the definitions that the public
+// calls' contracts cite.

@@ -1,10 +1,11 @@
 -- SPDX-License-Identifier: MPL-2.0
 -- What a writer tests says whether the values fit their format; the length of its bytes; and so what it answers and leaves.
 use Rattle.laws.proofs.Kit.{ℕ, _+_, _≤_, _≡_, refl, Bool, true, not, _&&_, _||_, List, length, length-append, sets, eqb, leb}
-use Rattle.laws.proofs.Kit.{eq-eqb, ne-eqb, le-leb, leb-true, arith}
+use Rattle.laws.proofs.Kit.{eq-eqb, eqb-true, ne-eqb, le-leb, leb-true, arith}
 use Rattle.laws.proofs.Bools.{and-one, and-assoc, and-true}
 use Rattle.payloads.specs.Format.{one, fixed, Format, _then_, Values, _and_, fits, write}
 use Rattle.payloads.specs.Shapes.{ofType, exchange, connectionRequest, otherResponse, deviceAuthentication, doneRequest, doneResponse}
+use Rattle.payloads.specs.Shapes.{presenceResponse}
 use Rattle.writer.specs.Written.{putRefusal}
 use Rattle.writer.specs.Payload.{payloadWritten, payloadOutput}
 use Rattle.writer.specs.declared.Written.the-variants.{Refused, Bytes}
@@ -60,3 +61,28 @@ module _ (mode connect : ℕ) (c t : List ℕ) where
       let a = and-true (leb mode 2 && (eqb connect 2 || eqb connect 3) && leb 1 (length c) && leb (length c) 2048) (leb (length t) 512) e in
       let b = and-true (leb mode 2 && (eqb connect 2 || eqb connect 3) && leb 1 (length c)) (leb (length c) 2048) (a .0) in
       (leb-true (length c) 2048 (b .1), leb-true (length t) 512 (a .1))
+
+module _ (mode : ℕ) (name salt hash : List ℕ) where
+  -- What a Presence Response's writer tests: mode, name, salt and hash are well formed.
+  abbrev tested : Bool
+  tested = leb mode 2 && leb (length name) 64 && eqb (length salt) 4 && eqb (length hash) 4
+
+  pub fits-presence : (device : ℕ) → tested ≡ fits presenceResponse (mode and device and name and salt and hash and tt)
+  unfolding fits
+  fits-presence device = rw (le-leb 0 (length name) (omega arith)) (simp (and-assoc, and-one))
+
+  pub right-presence : tested ≡ true → (mode ≤ 2) × (length name ≤ 64) × (length salt ≡ 4) × (length hash ≡ 4)
+  right-presence e =
+      let a = and-true (leb mode 2 && leb (length name) 64 && eqb (length salt) 4) (eqb (length hash) 4) e in
+      let b = and-true (leb mode 2 && leb (length name) 64) (eqb (length salt) 4) (a .0) in
+      let c = and-true (leb mode 2) (leb (length name) 64) (b .0) in
+      (leb-true mode 2 (c .0), leb-true (length name) 64 (c .1), eqb-true (length salt) 4 (b .1), eqb-true (length hash) 4 (a .1))
+
+  -- Name, salt and hash have sizes that a writer can put.
+  pub sized-presence : tested ≡ true → (length name ≤ 64) × (length salt ≡ 4) × (length hash ≡ 4)
+  sized-presence e = let k = right-presence e in (k .1, k .2, k .3)
+
+  pub length-presence : (device : ℕ) → tested ≡ true
+      → length (write presenceResponse (mode and device and name and salt and hash and tt)) ≡ 15 + length name
+  unfolding write
+  length-presence device e = simp length-append (omega (arith, sized-presence e))

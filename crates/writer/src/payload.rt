@@ -14,10 +14,17 @@ use payloads::DONE_REQUEST;
 use payloads::DONE_RESPONSE;
 use payloads::EXCHANGE_SIZE;
 use payloads::FRAGMENT_SIZE;
+use payloads::HASH_SIZE;
 use payloads::KEY_SIZE;
 use payloads::MOST_CERTIFICATE;
+use payloads::MOST_NAME;
 use payloads::MOST_THUMBPRINT;
+use payloads::NAME_AT;
 use payloads::PENDING;
+use payloads::PRESENCE_REQUEST;
+use payloads::PRESENCE_RESPONSE;
+use payloads::PRESENCE_SIZE;
+use payloads::SALT_SIZE;
 use payloads::reading::Request;
 use wire::refusals::NO_ROOM;
 use wire::refusals::WRONG_PAYLOAD;
@@ -28,7 +35,7 @@ ghost use lib.ListN.{length};
 ghost use lib.Seq.{sets};
 ghost use lib.Dec.{eqb};
 ghost use Rattle.laws.specs.Bytes.{bytes16};
-ghost use Rattle.payloads.specs.Format.{one, fixed, _then_, _and_, fits, write};
+ghost use Rattle.payloads.specs.Format.{one, two, end, fixed, array, sized, _then_, _and_, fits, write};
 ghost use Rattle.payloads.specs.Shapes.{
   ofType,
   exchange,
@@ -37,6 +44,7 @@ ghost use Rattle.payloads.specs.Shapes.{
   deviceAuthentication,
   doneRequest,
   doneResponse,
+  presenceResponse,
 };
 ghost use Rattle.writer.specs.Payload.{payloadWritten, payloadOutput, exchangeValues, responseFormat, responseValues};
 ghost use Rattle.writer.specs.Written.{written, output};
@@ -72,7 +80,7 @@ pub fn write_presence_request(out: &mut [u8]) -> Written
     if n != 0 {
         return Written::Refused(n);
     }
-    store8(out, 0, 0);
+    store8(out, 0, PRESENCE_REQUEST);
     Written::Bytes(1)
 }
 
@@ -224,5 +232,59 @@ pub fn write_device_authentication(
         return Written::Refused(NO_ROOM);
     }
     put_device(out, mode, connect, certificate, thumbprint);
+    Written::Bytes(size)
+}
+
+// Puts the fields from the name's length on.
+fn put_name(out: &mut [u8], name: &[u8], salt: &[u8], hash: &[u8])
+    requires { ⌜ (length (now name) ≤ 64) × (length (now salt) ≡ 4) × (length (now hash) ≡ 4) ⌝ }
+    ensures { λ _. ⌜ now (out .exit) ≡ sets (now (out .entry)) 5 (write (sized two 0 64 then array 4 then array 4 then end)
+        (now (name .entry) and now (salt .entry) and now (hash .entry) and tt)) ⌝ }
+{
+    let n = name.len();
+    store16(out, 5, n as u16);
+    store_bytes(out, NAME_AT, name);
+    store_bytes(out, NAME_AT + n, salt);
+    store_bytes(out, NAME_AT + n + SALT_SIZE, hash);
+}
+
+fn put_presence(out: &mut [u8], mode: u16, device: u16, name: &[u8], salt: &[u8], hash: &[u8])
+    requires { ⌜ (length (now name) ≤ 64) × (length (now salt) ≡ 4) × (length (now hash) ≡ 4) ⌝ }
+    ensures { λ _. ⌜ now (out .exit) ≡ sets (now (out .entry)) 0 (write presenceResponse
+        (mode and device and now (name .entry) and now (salt .entry) and now (hash .entry) and tt)) ⌝ }
+{
+    store8(out, 0, PRESENCE_RESPONSE);
+    store16(out, 1, mode);
+    store16(out, 3, device);
+    put_name(out, name, salt, hash);
+}
+
+// Writes the payload of a Presence Response. A salt or a hash of another size than 4 is refused with 14.
+pub fn write_presence_response(
+    mode: u16,
+    device: u16,
+    name: &[u8],
+    salt: &[u8],
+    hash: &[u8],
+    out: &mut [u8],
+) -> Written
+    ensures answer { λ r. ⌜ r ≡ payloadWritten presenceResponse
+        (mode and device and now (name .entry) and now (salt .entry) and now (hash .entry) and tt) (now (out .entry)) ⌝ }
+    ensures bytes { λ _. ⌜ now (out .exit) ≡ payloadOutput presenceResponse
+        (mode and device and now (name .entry) and now (salt .entry) and now (hash .entry) and tt) (now (out .entry)) ⌝ }
+{
+    let n = name.len();
+    let fits = (mode <= 2)
+        & (n <= (MOST_NAME as usize))
+        & (salt.len() == SALT_SIZE)
+        & (hash.len() == HASH_SIZE);
+    if !fits {
+        return Written::Refused(WRONG_PAYLOAD);
+    }
+    let size = PRESENCE_SIZE + n;
+    if out.len() < size {
+        return Written::Refused(NO_ROOM);
+    }
+    put_presence(out, mode, device, name, salt, hash);
     Written::Bytes(size)
 }

@@ -10,8 +10,8 @@ returns : tie.Need-returns
 returns c =
     let start : tie.Start = search in
     let numbers : tie.After-put-numbers = search in
-    let exchange : tie.After-put-exchange = search in
-    rw (c .before .before .put-shown .ensures, exchange .put-exchange .ensures, numbers .put-numbers .ensures)
+    let parts : tie.After-put-parts = search in
+    rw (c .before .before .put-shown .ensures, parts .put-parts .ensures, numbers .put-numbers .ensures)
     (sets-whole (connectWords (start .args .found)) (start .args .out .now) (start .pre))
 
 pub put-connect-spec : {M : Type 1} → statement M
