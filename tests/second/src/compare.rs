@@ -9,12 +9,14 @@ use crate::connection::{Answer, Connection};
 use crate::crypto::{hmac, sha256};
 use crate::cutter::cut;
 use crate::draft::Damage;
-use crate::generate::{Case, Conversation, CutCase, PayloadCase, WriteCase};
-use crate::generate::{case, connect_bytes, conversation, cut_case, payload_case, write_case};
+use crate::generate::{Case, Conversation, CutCase, PayloadCase, PresenceCase, WriteCase};
+use crate::generate::{case, connect_bytes, conversation, cut_case, discovery_bytes};
+use crate::generate::{payload_case, presence_case, write_case};
 use crate::header::{Framed, Header, read_header};
 use crate::listing::{line, wanted};
 use crate::message::{Message, part, read_message};
-use crate::payload::{Connect, Parts, read_connect, write_connect, write_presence_request};
+use crate::payload::{Connect, DiscoveryParts, Parts, Presence, read_connect, read_discovery};
+use crate::payload::{write_connect, write_presence_request, write_presence_response};
 use crate::prng::Prng;
 use crate::refusal::Refusal;
 use crate::writer::write_message;
@@ -45,6 +47,13 @@ pub trait Implementation {
     /// The writer of a Presence Request's payload.
     fn write_presence_request(&mut self, output: &mut [u8]) -> Result<usize, Refusal>;
 
+    /// The writer of a Presence Response's payload.
+    fn write_presence_response(
+        &mut self,
+        presence: Presence<'_>,
+        output: &mut [u8],
+    ) -> Result<usize, Refusal>;
+
     /// The writers of Connect payloads.
     fn write_connect(
         &mut self,
@@ -55,6 +64,9 @@ pub trait Implementation {
 
     /// The reader of Connect payloads.
     fn read_connect(&mut self, payload: &[u8]) -> Result<Parts, Refusal>;
+
+    /// The reader of Discovery payloads.
+    fn read_discovery(&mut self, payload: &[u8]) -> Result<DiscoveryParts, Refusal>;
 
     /// How many bytes the next message of a stream has.
     fn wanted(&mut self, bytes: &[u8]) -> usize;
@@ -121,6 +133,14 @@ impl Implementation for Second {
         write_presence_request(output)
     }
 
+    fn write_presence_response(
+        &mut self,
+        presence: Presence<'_>,
+        output: &mut [u8],
+    ) -> Result<usize, Refusal> {
+        write_presence_response(presence, output)
+    }
+
     fn write_connect(
         &mut self,
         mode: u16,
@@ -132,6 +152,10 @@ impl Implementation for Second {
 
     fn read_connect(&mut self, payload: &[u8]) -> Result<Parts, Refusal> {
         read_connect(payload)
+    }
+
+    fn read_discovery(&mut self, payload: &[u8]) -> Result<DiscoveryParts, Refusal> {
+        read_discovery(payload)
     }
 
     fn wanted(&mut self, bytes: &[u8]) -> usize {
@@ -219,7 +243,7 @@ impl<I: Implementation> Comparison<I> {
     }
 
     /// Sixty single steps, one conversation, and four each of calls of the writer, of the cutter, of
-    /// the digests, and of the payloads' writers and reader.
+    /// the digests, and of each of the payloads' writers and readers.
     pub fn round(&mut self, prng: &mut Prng) -> Result<(), Difference> {
         for _ in 0..60 {
             let case = case(prng);
@@ -236,12 +260,14 @@ impl<I: Implementation> Comparison<I> {
         for _ in 0..4 {
             self.write_payload(&payload_case(prng))?;
             self.read_payload(&connect_bytes(prng))?;
+            self.write_presence(&presence_case(prng))?;
+            self.read_payload(&discovery_bytes(prng))?;
         }
         Ok(())
     }
 
     /// The header reader, the listing's line, the message reader and the length in a stream on a
-    /// case's message; and the reader of Connect payloads on its payload.
+    /// case's message; and the readers of payloads on its payload.
     pub fn read(&mut self, case: &Case) -> Result<(), Difference> {
         let message = &case.message;
         same(message, wanted(message), self.other.wanted(message))?;
@@ -326,9 +352,21 @@ impl<I: Implementation> Comparison<I> {
         Ok(())
     }
 
-    /// The reader of Connect payloads on any bytes, and the length of a message that starts so.
+    /// One call of the Presence Response's writer.
+    pub fn write_presence(&mut self, case: &PresenceCase) -> Result<(), Difference> {
+        let (mut ours, mut theirs) = (case.clone(), case.output.clone());
+        let our_answer = ours.write();
+        let their_answer = self.other.write_presence_response(case.presence(), &mut theirs);
+        same(case, (our_answer, ours.output), (their_answer, theirs))?;
+        self.tally.payloads += 1;
+        Ok(())
+    }
+
+    /// The readers of Connect and of Discovery payloads on any bytes, and the length of a message
+    /// that starts so.
     pub fn read_payload(&mut self, bytes: &[u8]) -> Result<(), Difference> {
         same(&bytes, read_connect(bytes), self.other.read_connect(bytes))?;
+        same(&bytes, read_discovery(bytes), self.other.read_discovery(bytes))?;
         same(&bytes, wanted(bytes), self.other.wanted(bytes))?;
         self.tally.payloads += 1;
         Ok(())

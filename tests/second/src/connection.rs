@@ -152,7 +152,7 @@ impl Connection {
         let bound = kind != Kind::Discovery && self.state != State::AwaitingRequest as u8;
         require(!bound || header.session == self.session, Refusal::Session)?;
         match payload {
-            Payload::PresenceRequest => Err(Refusal::State),
+            Payload::PresenceRequest | Payload::PresenceResponse(_) => Err(Refusal::State),
             Payload::Connect(_, connect) => self.enrol(header.session, connect, verdict == 1),
             Payload::Piece(piece) if self.state == State::Ready as u8 => {
                 self.join(&header, piece, report)

@@ -6,7 +6,7 @@ use crate::crypto::sha256;
 use crate::cutter::cut;
 use crate::draft::Draft;
 use crate::header::{Header, Kind, SEALED};
-use crate::payload::{Connect, Credentials, Offer, Payload};
+use crate::payload::{Connect, Credentials, Offer, Payload, Presence};
 use crate::prng::Prng;
 
 /// All that makes a gateway this one.
@@ -41,6 +41,11 @@ pub fn sealed_header(kind: Kind) -> Header {
 /// A Presence Request.
 pub fn presence_request() -> Draft {
     Draft::new(plain_header(Kind::Discovery), Payload::PresenceRequest.to_bytes())
+}
+
+/// A Presence Response, whatever its values are.
+pub fn presence_response(presence: Presence<'_>) -> Draft {
+    Draft::new(plain_header(Kind::Discovery), Payload::PresenceResponse(presence).to_bytes())
 }
 
 impl Gateway {

@@ -3,11 +3,11 @@
 //!
 //! [`mod@step`] makes single steps with faults of every kind, [`mod@conversation`] whole
 //! conversations over a bad link, [`mod@write`] calls of the writer and of the cutter,
-//! [`mod@payload`] calls of the payloads' writers and bytes for their reader.
+//! [`mod@payload`] calls of the payloads' writers and bytes for their readers.
 
 use crate::connection::State;
 use crate::draft::Draft;
-use crate::gateway::Gateway;
+use crate::gateway::{Gateway, presence_request, presence_response};
 use crate::header::{ACKNOWLEDGE, WAKE};
 use crate::payload::FRAGMENT_SIZE;
 use crate::prng::Prng;
@@ -21,6 +21,7 @@ pub mod write;
 pub use conversation::{Conversation, Delivery, Link, conversation};
 pub use fault::Fault;
 pub use payload::{PayloadCase, connect_bytes, payload_case};
+pub use payload::{PresenceCase, discovery_bytes, presence_case};
 pub use step::{Case, case, connection, draft};
 pub use write::{CutCase, WriteCase, cut_case, write_case};
 
@@ -56,6 +57,14 @@ fn entry(prng: &mut Prng, chain: &mut Vec<u8>) {
     let size = if prng.chance(5) { prng.pick(&[254, 255]) } else { prng.below(5) };
     chain.extend([prng.between(1, 3) as u8, size as u8]);
     chain.extend(prng.bytes(size));
+}
+
+/// A Discovery message: a Presence Request, or a Response that may have values out of their bounds.
+pub fn discovery(prng: &mut Prng) -> Draft {
+    if prng.chance(25) {
+        return presence_request();
+    }
+    presence_response(presence_case(prng).presence())
 }
 
 /// Gives a message what no rule looks at: RequestID, acknowledge and wake flags, a chain.

@@ -1,6 +1,7 @@
 // SPDX-License-Identifier: MPL-2.0
-//! What a payload may be: the Presence Request, six Connect payloads, or a piece of a report. Reading
-//! and judging them, where the parts of a Connect payload lie, and writing them: refusals 14 and 22.
+//! What a payload may be: the Presence Request or Response, six Connect payloads, or a piece of a
+//! report. Reading and judging them, where the parts of a Discovery or Connect payload lie, and
+//! writing them: refusals 14 and 22.
 
 use std::ops::Range;
 
@@ -22,6 +23,8 @@ pub const KEY_LENGTH: u16 = 32;
 pub const MOST_CERTIFICATE: u16 = 2_048;
 /// Longest thumbprint.
 pub const MOST_THUMBPRINT: u16 = 512;
+/// Longest name of a device.
+pub const MOST_NAME: u16 = 64;
 
 /// What one side brings to the key agreement.
 #[derive(Clone, Copy, Debug, PartialEq, Eq)]
@@ -62,11 +65,28 @@ pub enum Connect<'a> {
     DoneResponse(u8),
 }
 
+/// What comes after a Presence Response's DiscoveryType.
+#[derive(Clone, Copy, Debug, PartialEq, Eq)]
+pub struct Presence<'a> {
+    /// ConnectionMode, 0 to 2.
+    pub mode: u16,
+    /// DeviceType, any number.
+    pub device: u16,
+    /// 0 to 64 bytes, whatever they are.
+    pub name: &'a [u8],
+    /// DeviceIdSalt.
+    pub salt: [u8; 4],
+    /// DeviceIdHash: 000's text has 4 bytes, its example 32.
+    pub hash: [u8; 4],
+}
+
 /// A payload as it should be.
 #[derive(Clone, Copy, Debug, PartialEq, Eq)]
 pub enum Payload<'a> {
-    /// Discovery's one payload.
+    /// Discovery's payload of DiscoveryType 0.
     PresenceRequest,
+    /// Discovery's payload of DiscoveryType 1.
+    PresenceResponse(Presence<'a>),
     /// A Connect payload with its ConnectionMode.
     Connect(u16, Connect<'a>),
     /// A Session payload: any bytes.
@@ -76,11 +96,29 @@ pub enum Payload<'a> {
 /// What `bytes` say as the payload of a message of this kind; refuses with 14.
 pub fn read_payload(kind: Kind, sealed: bool, bytes: &[u8]) -> Result<Payload<'_>, Refusal> {
     let payload = match kind {
-        Kind::Discovery => (bytes == [0]).then_some(Payload::PresenceRequest),
+        Kind::Discovery => discovery(bytes),
         Kind::Connect => connect(sealed, bytes).map(|(mode, read)| Payload::Connect(mode, read)),
         Kind::Session => Some(Payload::Piece(bytes)),
     };
     payload.ok_or(Refusal::Payload)
+}
+
+fn discovery(bytes: &[u8]) -> Option<Payload<'_>> {
+    let mut rest = Cursor::new(bytes);
+    let payload = match rest.u8()? {
+        0 => Payload::PresenceRequest,
+        1 => Payload::PresenceResponse(presence(&mut rest)?),
+        _ => return None,
+    };
+    (rest.left() == 0).then_some(payload)
+}
+
+fn presence<'a>(rest: &mut Cursor<'a>) -> Option<Presence<'a>> {
+    let mode = rest.u16().filter(|mode| *mode <= MOST_MODE)?;
+    let device = rest.u16()?;
+    let length = rest.u16().filter(|n| *n <= MOST_NAME)?;
+    let name = rest.take(length.into())?;
+    Some(Presence { mode, device, name, salt: rest.array()?, hash: rest.array()? })
 }
 
 fn connect(sealed: bool, bytes: &[u8]) -> Option<(u16, Connect<'_>)> {
@@ -173,10 +211,46 @@ fn offered(kind: u8, code: u8) -> Parts {
     Parts { kind, code, nonce: 6..14, x: 20..52, y: 54..86, ..Parts::default() }
 }
 
+/// What stands in a Discovery payload, and where: of a Presence Request all is 0, each part empty at
+/// the payload's start.
+#[derive(Clone, Debug, Default, PartialEq, Eq)]
+pub struct DiscoveryParts {
+    /// DiscoveryType.
+    pub kind: u8,
+    /// ConnectionMode.
+    pub mode: u16,
+    /// DeviceType.
+    pub device: u16,
+    /// Name.
+    pub name: Range<usize>,
+    /// DeviceIdSalt.
+    pub salt: Range<usize>,
+    /// DeviceIdHash.
+    pub hash: Range<usize>,
+}
+
+/// The parts of a Discovery payload; refuses with 14.
+pub fn read_discovery(bytes: &[u8]) -> Result<DiscoveryParts, Refusal> {
+    match discovery(bytes).ok_or(Refusal::Payload)? {
+        Payload::PresenceResponse(presence) => Ok(presence.parts()),
+        _ => Ok(DiscoveryParts::default()),
+    }
+}
+
 /// Writes a Presence Request's payload at the front of `output` and answers its length; refuses with
 /// 22. A refusal leaves the output as it was, a success what is beyond the payload.
 pub fn write_presence_request(output: &mut [u8]) -> Result<usize, Refusal> {
     put(&Payload::PresenceRequest.to_bytes(), output)
+}
+
+/// The same for a Presence Response's payload; refuses with 14 what [`read_payload`] would, then
+/// with 22.
+pub fn write_presence_response(
+    presence: Presence<'_>,
+    output: &mut [u8],
+) -> Result<usize, Refusal> {
+    require(presence.is_allowed(), Refusal::Payload)?;
+    put(&Payload::PresenceResponse(presence).to_bytes(), output)
 }
 
 /// The same for a Connect payload; refuses with 14 what [`read_payload`] would, then with 22.
@@ -195,11 +269,34 @@ impl Payload<'_> {
     pub fn to_bytes(&self) -> Vec<u8> {
         match self {
             Payload::PresenceRequest => vec![0],
+            Payload::PresenceResponse(presence) => [&[1][..], &presence.to_bytes()].concat(),
             Payload::Connect(mode, connect) => {
                 [&mode.to_be_bytes()[..], &connect.to_bytes()].concat()
             }
             Payload::Piece(bytes) => bytes.to_vec(),
         }
+    }
+}
+
+impl Presence<'_> {
+    /// Whether its values are within their bounds.
+    fn is_allowed(&self) -> bool {
+        self.mode <= MOST_MODE && self.name.len() <= MOST_NAME.into()
+    }
+
+    /// Where they lie: 7 bytes, the last 2 of them the name's length, then one after the other.
+    fn parts(&self) -> DiscoveryParts {
+        let (mode, device) = (self.mode, self.device);
+        let name = 7..7 + self.name.len();
+        let salt = name.end..name.end + 4;
+        let hash = salt.end..salt.end + 4;
+        DiscoveryParts { kind: 1, mode, device, name, salt, hash }
+    }
+
+    fn to_bytes(self) -> Vec<u8> {
+        let length = (self.name.len() as u16).to_be_bytes();
+        let (mode, device) = (self.mode.to_be_bytes(), self.device.to_be_bytes());
+        [&mode[..], &device, &length, self.name, &self.salt, &self.hash].concat()
     }
 }
 

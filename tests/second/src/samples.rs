@@ -8,10 +8,11 @@
 use std::collections::BTreeSet;
 
 use crate::draft::{Damage, Draft};
-use crate::gateway::{Gateway, presence_request};
+use crate::gateway::{Gateway, presence_request, presence_response};
 use crate::generate::dress;
 use crate::header::{ACKNOWLEDGE, Header, SHORTEST, WAKE};
 use crate::listing::Messages;
+use crate::payload::Presence;
 use crate::prng::Prng;
 use crate::replay::Player;
 
@@ -39,10 +40,11 @@ pub fn make(seed: u64) -> Vec<File> {
         files.push((format!("report-{number}"), report.clone()));
     }
     let messages = messages(&mut prng, &gateway);
-    for (name, draft) in &messages {
+    let responses = responses(&mut prng);
+    for (name, draft) in messages.iter().chain(&responses) {
         files.push((format!("messages/{name}.bin"), draft.bytes(&gateway.keys)));
     }
-    listings(&messages, &gateway, &mut files);
+    listings(&messages, &responses, &gateway, &mut files);
     files
 }
 
@@ -72,6 +74,17 @@ impl Script {
     fn put(&mut self, message: &[u8], line: impl Into<String>) {
         self.bytes.extend(message);
         self.lines.push(line.into());
+    }
+
+    /// Puts good messages, each with its line of the listing.
+    fn list(&mut self, messages: &[(String, Draft)], gateway: &Gateway) {
+        for (_, draft) in messages {
+            let bytes = draft.bytes(&gateway.keys);
+            let header = &draft.header;
+            let (kind, sequence) = (header.message_type, header.sequence);
+            let (index, count) = (header.index, header.count);
+            self.put(&bytes, format!("{kind} {sequence} {index} {count} {}", bytes.len()));
+        }
     }
 
     fn lines(&self) -> String {
@@ -318,17 +331,33 @@ fn messages(prng: &mut Prng, gateway: &Gateway) -> Vec<(String, Draft)> {
     messages
 }
 
-/// Two streams for the listing: one of good messages, one that a refusal ends early.
-fn listings(messages: &[(String, Draft)], gateway: &Gateway, files: &mut Vec<File>) {
+/// Presence Responses: with a name, without one, with the longest.
+fn responses(prng: &mut Prng) -> Vec<(String, Draft)> {
+    let longest: &[u8; 64] = b"Hlidunsk, upper valley, pumps 1 to 9, north of the old mill road";
+    let named: [(&str, u16, u16, &[u8]); 3] = [
+        ("presence-response", 1, 12, b"Hlidunsk, upper valley"),
+        ("presence-response-without-name", 0, 0, b""),
+        ("presence-response-with-name-of-64", 2, u16::MAX, longest),
+    ];
+    let mut messages = Vec::new();
+    for (file, mode, device, name) in named {
+        let presence = Presence { mode, device, name, salt: prng.array(), hash: prng.array() };
+        messages.push((file.to_string(), presence_response(presence)));
+    }
+    messages
+}
+
+/// Two streams for the listing: one of good messages, one that a refusal ends early. The Presence
+/// Responses end the first alone, so that the second stays what it was before there were any.
+fn listings(
+    messages: &[(String, Draft)],
+    responses: &[(String, Draft)],
+    gateway: &Gateway,
+    files: &mut Vec<File>,
+) {
     let mut whole = Script::default();
     let mut refused = Script::default();
-    for (_, draft) in messages {
-        let bytes = draft.bytes(&gateway.keys);
-        let header = &draft.header;
-        let (kind, sequence) = (header.message_type, header.sequence);
-        let (index, count) = (header.index, header.count);
-        whole.put(&bytes, format!("{kind} {sequence} {index} {count} {}", bytes.len()));
-    }
+    whole.list(messages, gateway);
     let good = whole.lines.len() / 2;
     for ((_, draft), line) in messages.iter().zip(&whole.lines).take(good) {
         refused.put(&draft.bytes(&gateway.keys), line.clone());
@@ -337,6 +366,7 @@ fn listings(messages: &[(String, Draft)], gateway: &Gateway, files: &mut Vec<Fil
     small.length = Some(7);
     refused.put(&small.bytes(&gateway.keys)[..SHORTEST], "refused 3");
     refused.bytes.extend(&whole.bytes);
+    whole.list(responses, gateway);
     for (name, script) in [("listing", whole), ("listing-refused", refused)] {
         files.push((format!("{name}.txt"), script.lines().into_bytes()));
         files.push((format!("{name}.bin"), script.bytes));

@@ -5,10 +5,11 @@ mod common;
 
 use second::compare::{Comparison, Difference, Implementation, Piece, Second, Tally};
 use second::connection::{Answer, Connection, State};
+use second::gateway::presence_response;
 use second::generate::{Case, WriteCase, case, payload_case, write_case};
 use second::header::{Framed, Header};
-use second::message::Message;
-use second::payload::{Connect, Parts};
+use second::message::{Message, part, read_message};
+use second::payload::{Connect, DiscoveryParts, Parts, Presence};
 use second::prng::Prng;
 use second::refusal::Refusal;
 
@@ -30,12 +31,14 @@ fn a_fault_at_every_place() {
     let gateway = common::gateway();
     let [request, authentication, done] = gateway.enrolment().map(|(draft, _)| draft);
     let piece = gateway.piece(0, 1, 3, b"a piece!");
+    let response = presence_response(common::presence());
     let mut comparison = Comparison::new(Second);
     for (draft, state) in [
         (request, State::AwaitingRequest),
         (authentication, State::AwaitingAuthentication),
         (done, State::Passed),
         (piece, State::Ready),
+        (response, State::AwaitingRequest),
     ] {
         let case = Case {
             connection: gateway.connection(8, state),
@@ -66,7 +69,14 @@ enum Error {
     PayloadRoomFirst,
     PayloadTouchedByRefusal,
     PresenceLength,
+    ResponseRoomFirst,
+    ResponseTouchedByRefusal,
+    ResponseTouchedBeyond,
+    ResponseNotRead,
+    ResponseNotWritten,
+    ResponseOutOfStep,
     PartOffByOne,
+    HashOffByOne,
     NothingWanted,
     OpenForgetsF,
     RepeatCounted,
@@ -78,6 +88,13 @@ enum Error {
     LineWithoutBlanks,
     DigestOfAllButOne,
     TagBit,
+}
+
+/// Whether a message is a well formed Presence Response: of all plain payloads only its own starts
+/// with 1.
+fn responds(message: &[u8]) -> bool {
+    read_message(message, &[], &mut [])
+        .is_ok_and(|read| part(Some(&read.payload), message, &[]).first() == Some(&1))
 }
 
 impl Implementation for Spoilt {
@@ -101,6 +118,9 @@ impl Implementation for Spoilt {
         if (Error::WorkingTouchedByRefusal, Err(Refusal::Padding)) == (self.0, read.clone()) {
             working[0] = working[0].wrapping_add(1);
         }
+        if self.0 == Error::ResponseNotRead && responds(message) {
+            return Err(Refusal::Payload);
+        }
         read
     }
 
@@ -112,6 +132,10 @@ impl Implementation for Spoilt {
         keys: &[u8],
         output: &mut [u8],
     ) -> Result<usize, Refusal> {
+        let response = header.message_type == 1 && payload.len() > 1;
+        if self.0 == Error::ResponseNotWritten && response {
+            return Second.write_message(header, chain, &[9], keys, output);
+        }
         let length = Second.write_message(header, chain, payload, keys, output)?;
         if let (Error::OutputTouchedBeyond, Some(beyond)) = (self.0, output.get_mut(length)) {
             *beyond = beyond.wrapping_add(1);
@@ -122,6 +146,28 @@ impl Implementation for Spoilt {
     fn write_presence_request(&mut self, output: &mut [u8]) -> Result<usize, Refusal> {
         let length = Second.write_presence_request(output)?;
         Ok(length + usize::from(self.0 == Error::PresenceLength))
+    }
+
+    fn write_presence_response(
+        &mut self,
+        presence: Presence<'_>,
+        output: &mut [u8],
+    ) -> Result<usize, Refusal> {
+        let written = Second.write_presence_response(presence, output);
+        match (self.0, written) {
+            (Error::ResponseRoomFirst, Err(_)) if output.len() < 15 + presence.name.len() => {
+                Err(Refusal::Room)
+            }
+            (Error::ResponseTouchedByRefusal, Err(_)) => {
+                output.first_mut().into_iter().for_each(|byte| *byte = byte.wrapping_add(1));
+                written
+            }
+            (Error::ResponseTouchedBeyond, Ok(length)) => {
+                output[length..].iter_mut().for_each(|byte| *byte = byte.wrapping_add(1));
+                written
+            }
+            _ => written,
+        }
     }
 
     fn write_connect(
@@ -146,6 +192,12 @@ impl Implementation for Spoilt {
     fn read_connect(&mut self, payload: &[u8]) -> Result<Parts, Refusal> {
         let mut parts = Second.read_connect(payload)?;
         parts.thumbprint.start += usize::from(self.0 == Error::PartOffByOne);
+        Ok(parts)
+    }
+
+    fn read_discovery(&mut self, payload: &[u8]) -> Result<DiscoveryParts, Refusal> {
+        let mut parts = Second.read_discovery(payload)?;
+        parts.hash.end += usize::from(self.0 == Error::HashOffByOne);
         Ok(parts)
     }
 
@@ -183,6 +235,9 @@ impl Implementation for Spoilt {
             }
             (Error::LastLengthKept, Answer::Complete(..)) => next.last_length += 1,
             (Error::NothingStored, _) => report.copy_from_slice(&before),
+            (Error::ResponseOutOfStep, Answer::Refused(Refusal::State)) if responds(message) => {
+                answer = Answer::Refused(Refusal::Payload);
+            }
             _ => {}
         }
         (next, answer)
@@ -221,7 +276,14 @@ fn it_notices_every_kind_of_error() {
         Error::PayloadRoomFirst,
         Error::PayloadTouchedByRefusal,
         Error::PresenceLength,
+        Error::ResponseRoomFirst,
+        Error::ResponseTouchedByRefusal,
+        Error::ResponseTouchedBeyond,
+        Error::ResponseNotRead,
+        Error::ResponseNotWritten,
+        Error::ResponseOutOfStep,
         Error::PartOffByOne,
+        Error::HashOffByOne,
         Error::NothingWanted,
         Error::OpenForgetsF,
         Error::RepeatCounted,
@@ -236,7 +298,7 @@ fn it_notices_every_kind_of_error() {
     ] {
         let mut prng = Prng::new(2);
         let mut comparison = Comparison::new(Spoilt(error));
-        let found = (0..40).find_map(|_| comparison.round(&mut prng).err());
+        let found = (0..400).find_map(|_| comparison.round(&mut prng).err());
         let Some(Difference(text)) = found else { panic!("{error:?} was not noticed") };
         assert!(text.contains("this one:") && text.contains("the other:"));
     }

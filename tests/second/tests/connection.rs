@@ -3,13 +3,14 @@
 
 mod common;
 
-use common::{Hub, Setup, gateway, refused};
+use common::{Hub, Setup, gateway, presence, refused};
 use second::connection::{Answer, Connection, State};
 use second::crypto::sha256;
 use second::draft::{Damage, Draft};
-use second::gateway::{Gateway, presence_request};
+use second::gateway::{Gateway, presence_request, presence_response};
 use second::payload::{Connect, Credentials, Offer};
 use second::prng::Prng;
+use second::refusal::Refusal;
 
 use State::{AwaitingAuthentication, AwaitingRequest, Failed, Passed, Ready};
 
@@ -96,6 +97,17 @@ fn the_order_of_refusals_of_a_plain_connect_message() {
     }
 }
 
+/// It is never taken: where nothing else is wrong it is 15, even with another SessionID.
+#[test]
+fn the_order_of_refusals_of_a_presence_response() {
+    for state in State::ALL {
+        let base = Setup::new(presence_response(presence()), gateway().connection(8, state));
+        let after: [Edit; 1] = [(14, |s| s.draft.payload[2] = 3)];
+        let edits = [&BEFORE[..10], &after].concat();
+        check_pairs(&base, Answer::Refused(Refusal::State), &edits);
+    }
+}
+
 #[test]
 fn the_order_of_refusals_of_a_session_message() {
     let gateway = gateway();
@@ -178,12 +190,13 @@ fn verdict_0_fails_the_connection_for_good() {
     }
 }
 
-/// Every kind of message: requests, replies, a Presence Request, a piece.
+/// Every kind of message: requests, replies, a Presence Request, a piece, a Presence Response.
 fn every_message(gateway: &Gateway) -> Vec<Draft> {
     let mut messages: Vec<Draft> = gateway.enrolment().map(|(draft, _)| draft).to_vec();
     messages.extend(gateway.replies());
     messages.push(presence_request());
     messages.push(gateway.piece(0, 0, 1, b"piece"));
+    messages.push(presence_response(presence()));
     messages
 }
 
@@ -199,7 +212,7 @@ fn every_kind_of_message_in_every_state() {
                 (Passed, 2) => Answer::Reply(7),
                 (Ready, 2) => Answer::Again(7),
                 (Ready, 14) => Answer::Complete(5, 1),
-                _ => Answer::Refused(second::refusal::Refusal::State),
+                _ => Answer::Refused(Refusal::State),
             };
             let mut hub = Hub::new(8, state);
             assert_eq!(hub.take(message), expected, "{state:?} {kind}");

@@ -3,17 +3,18 @@
 
 mod common;
 
-use std::collections::BTreeMap;
+use std::collections::{BTreeMap, BTreeSet};
 
 use common::{gateway, number};
 use second::connection::{Answer, Connection, State};
 use second::generate::{
-    Case, Conversation, Fault, Link, case, connect_bytes, conversation, cut_case, dress,
-    payload_case, stream, write_case,
+    Case, Conversation, Fault, Link, case, connect_bytes, conversation, cut_case, discovery_bytes,
+    dress, payload_case, presence_case, stream, write_case,
 };
+use second::header::{Kind, read_header};
 use second::listing::list;
 use second::message::read_message;
-use second::payload::read_connect;
+use second::payload::{read_connect, read_discovery};
 use second::prng::Prng;
 
 /// An answer's name: refusals by number.
@@ -67,6 +68,8 @@ fn the_same_seed_gives_the_same_inputs() {
         assert_eq!(cut_case(&mut a), cut_case(&mut b));
         assert_eq!(payload_case(&mut a), payload_case(&mut b));
         assert_eq!(connect_bytes(&mut a), connect_bytes(&mut b));
+        assert_eq!(presence_case(&mut a), presence_case(&mut b));
+        assert_eq!(discovery_bytes(&mut a), discovery_bytes(&mut b));
         assert_eq!(conversation(&mut a).deliveries, conversation(&mut b).deliveries);
         assert_eq!(a.word(), b.word());
     }
@@ -185,6 +188,64 @@ fn every_payload_is_written_and_read_and_refused() {
             assert!(written[&(kind, refusal)] > 20, "{kind} {refusal}: {written:?}");
         }
         assert!(read[&(Some(kind), 0)] > 20 && read[&(Some(kind), 14)] > 20, "{kind}: {read:?}");
+    }
+}
+
+#[test]
+fn every_presence_response_is_written_and_read_and_refused() {
+    let mut prng = Prng::new(11);
+    let (mut written, mut read) = (BTreeMap::new(), BTreeMap::new());
+    let (mut modes, mut names) = (BTreeSet::new(), BTreeSet::new());
+    for _ in 0..20_000 {
+        let mut case = presence_case(&mut prng);
+        let before = case.output.clone();
+        let result = case.write();
+        let kept = *result.as_ref().unwrap_or(&0);
+        assert_eq!(case.output[kept..], before[kept..]);
+        *written.entry(number(result)).or_insert(0) += 1;
+        modes.insert(case.mode);
+        names.insert(case.name.len());
+        let bytes = discovery_bytes(&mut prng);
+        let parts = read_discovery(&bytes);
+        let kind = parts.as_ref().map_or(bytes.first().copied(), |parts| Some(parts.kind));
+        *read.entry((kind, number(parts))).or_insert(0) += 1;
+    }
+    for refusal in [0, 14, 22] {
+        assert!(written[&refusal] > 100, "{refusal}: {written:?}");
+    }
+    for kind in [0, 1] {
+        for refusal in [0, 14] {
+            assert!(read[&(Some(kind), refusal)] > 100, "{kind} {refusal}: {read:?}");
+        }
+    }
+    assert!(modes.into_iter().eq([0, 1, 2, 3, 255, 256, u16::MAX]));
+    assert!(names.into_iter().eq((0..=65).chain([80, 255, 256, 257]).chain(65_535..=65_600)));
+}
+
+/// What the reader says of a message that is a Presence Response, or would be one.
+fn response(message: &[u8]) -> Option<u8> {
+    let framed = read_header(message).ok().filter(|framed| framed.kind == Kind::Discovery)?;
+    let starts = message[framed.body].first() == Some(&1);
+    starts.then(|| number(read_message(message, &[], &mut [])))
+}
+
+#[test]
+fn steps_conversations_and_the_writer_meet_presence_responses() {
+    let mut prng = Prng::new(12);
+    let mut times: BTreeMap<(&str, u8), u32> = BTreeMap::new();
+    let mut count = |by, refusal| *times.entry((by, refusal)).or_default() += 1;
+    for _ in 0..4_000 {
+        response(&case(&mut prng).message).into_iter().for_each(|found| count("step", found));
+        let mut case = write_case(&mut prng);
+        if case.header.message_type == 1 && case.payload.first() == Some(&1) {
+            count("writer", number(case.write()));
+        }
+    }
+    for delivery in (0..200).flat_map(|_| conversation(&mut prng).deliveries) {
+        response(&delivery.message).into_iter().for_each(|found| count("conversation", found));
+    }
+    for by in ["step", "writer", "conversation"] {
+        assert!(times[&(by, 0)] > 20 && times[&(by, 14)] > 20, "{by}: {times:?}");
     }
 }
 

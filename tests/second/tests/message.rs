@@ -3,9 +3,9 @@
 
 mod common;
 
-use common::{gateway, number};
+use common::{gateway, number, presence};
 use second::draft::{Damage, Draft};
-use second::gateway::{Gateway, plain_header, presence_request, sealed_header};
+use second::gateway::{Gateway, plain_header, presence_request, presence_response, sealed_header};
 use second::header::{Header, Kind};
 use second::message::{Place, part, read_message};
 use second::payload::{Connect, Credentials, Offer, Payload, read_payload};
@@ -63,6 +63,7 @@ fn round_trip_of_every_kind_and_size_class() {
         let with_chain =
             |draft: &Draft| round_trip(&Draft { chain: chain.clone(), ..draft.clone() });
         with_chain(&presence_request());
+        with_chain(&presence_response(presence()));
         enrolment.iter().chain(&gateway.replies()).for_each(with_chain);
         for length in PAYLOADS {
             with_chain(&gateway.piece(u32::MAX, 63, 64, &vec![5; length]));
@@ -268,7 +269,7 @@ fn judge(kind: Kind, sealed: bool, payload: &[u8]) -> u8 {
 }
 
 #[test]
-fn discovery_holds_one_zero() {
+fn a_presence_request_is_one_zero() {
     assert_eq!(judge(Kind::Discovery, false, &[0]), 0);
     for other in [&[][..], &[1], &[0, 0], &[255]] {
         assert_eq!(judge(Kind::Discovery, false, other), 14);
@@ -418,12 +419,14 @@ fn each_refusal_of_the_writer_alone_and_every_pair_at_once() {
     check_pairs(&gateway.piece(0, 0, 1, b"x"), &[&COMMON[..], &[long, short]].concat());
     let plain = &COMMON[..4];
     check_pairs(&gateway.enrolment()[0].0, &[plain, &[payload, short]].concat());
+    check_pairs(&presence_response(presence()), &[plain, &[payload, short]].concat());
 }
 
 #[test]
 fn the_writers_output_at_every_size() {
     let gateway = gateway();
-    for draft in [gateway.enrolment()[0].0.clone(), gateway.piece(0, 0, 1, &[7; 13])] {
+    let response = presence_response(presence());
+    for draft in [gateway.enrolment()[0].0.clone(), gateway.piece(0, 0, 1, &[7; 13]), response] {
         let message = draft.bytes(&gateway.keys);
         for room in 0..message.len() + 3 {
             let mut call = Call::new(draft.clone());

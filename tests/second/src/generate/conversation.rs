@@ -1,7 +1,7 @@
 // SPDX-License-Identifier: MPL-2.0
 //! Whole conversations over a link that drops, repeats, reorders, flips bits and cuts short.
 
-use super::{Fault, draft, dress, fragment_size, gateway};
+use super::{Fault, discovery, draft, dress, fragment_size, gateway};
 use crate::connection::{Answer, Connection, State};
 use crate::draft::Damage;
 use crate::gateway::Gateway;
@@ -202,10 +202,10 @@ impl Talk<'_> {
     }
 
     /// Something else on the link: an enrolment request again, another gateway's message, a faulty
-    /// or an old one.
+    /// one, a Discovery message, or an old one.
     fn disturb(&mut self) {
         let keys = self.gateway.keys;
-        let message = match self.prng.below(4) {
+        let message = match self.prng.below(5) {
             0 => {
                 let (request, _) = &self.gateway.enrolment()[self.prng.below(3)];
                 request.bytes(&keys)
@@ -218,6 +218,10 @@ impl Talk<'_> {
                 let mut faulty = draft(self.prng, &self.gateway, &self.hub, &self.report);
                 self.prng.pick(&Fault::ALL).inflict(self.prng, &mut faulty);
                 faulty.bytes(&keys)
+            }
+            3 => {
+                let draft = discovery(self.prng);
+                dress(self.prng, draft).bytes(&keys)
             }
             _ => {
                 let old = self.prng.below(self.deliveries.len());

@@ -161,7 +161,8 @@ fn other_padding(prng: &mut Prng, payload: usize) -> Vec<u8> {
 }
 
 pub(super) fn change_byte(prng: &mut Prng, bytes: &mut [u8]) {
-    let edge = prng.below(6);
+    // Most rules are about the first bytes, up to the length of a Presence Response's name.
+    let edge = prng.below(7);
     let place = if prng.chance(50) { edge } else { prng.below(bytes.len()) };
     if let Some(byte) = bytes.get_mut(place) {
         *byte = byte.wrapping_add(prng.pick(&[1, 2, 0x80, 255]));

@@ -1,10 +1,11 @@
 // SPDX-License-Identifier: MPL-2.0
-//! Calls of the payloads' writers, and bytes for the reader of Connect payloads.
+//! Calls of the payloads' writers, and bytes for their readers.
 
 use super::fault::{change_byte, change_length};
-use super::gateway;
+use super::{discovery, gateway};
 use crate::gateway::Gateway;
-use crate::payload::{Connect, Credentials, Offer, Payload, write_connect};
+use crate::payload::{Connect, Credentials, Offer, Payload, Presence};
+use crate::payload::{write_connect, write_presence_response};
 use crate::prng::Prng;
 use crate::refusal::Refusal;
 
@@ -65,15 +66,19 @@ pub fn payload_case(prng: &mut Prng) -> PayloadCase {
     for _ in 0..prng.pick(&[0, 0, 0, 1, 2]) {
         spoil(prng, &mut case);
     }
-    let length = case.bytes().len();
+    case.output = some_output(prng, case.bytes().len());
+    case
+}
+
+/// Room for a payload of this length, or about.
+fn some_output(prng: &mut Prng, length: usize) -> Vec<u8> {
     let room = match prng.below(10) {
         0 => length - 1,
         1 => length,
         2 => prng.below(length),
         _ => length + prng.below(40),
     };
-    case.output = prng.bytes(room);
-    case
+    prng.bytes(room)
 }
 
 /// A value at its bound or beyond.
@@ -86,13 +91,80 @@ fn spoil(prng: &mut Prng, case: &mut PayloadCase) {
     }
 }
 
+/// All that the writer of a Presence Response's payload takes.
+#[derive(Clone, Debug, PartialEq, Eq)]
+pub struct PresenceCase {
+    /// ConnectionMode.
+    pub mode: u16,
+    /// DeviceType.
+    pub device: u16,
+    /// The name.
+    pub name: Vec<u8>,
+    /// DeviceIdSalt.
+    pub salt: [u8; 4],
+    /// DeviceIdHash.
+    pub hash: [u8; 4],
+    /// The output.
+    pub output: Vec<u8>,
+}
+
+impl PresenceCase {
+    /// What comes after DiscoveryType.
+    pub fn presence(&self) -> Presence<'_> {
+        let PresenceCase { mode, device, ref name, salt, hash, .. } = *self;
+        Presence { mode, device, name, salt, hash }
+    }
+
+    /// The bytes of the payload, whatever its values are.
+    pub fn bytes(&self) -> Vec<u8> {
+        Payload::PresenceResponse(self.presence()).to_bytes()
+    }
+
+    /// The call, whose change to the output stays in the case.
+    pub fn write(&mut self) -> Result<usize, Refusal> {
+        let mut output = std::mem::take(&mut self.output);
+        let written = write_presence_response(self.presence(), &mut output);
+        self.output = output;
+        written
+    }
+}
+
+/// A call of the writer of a Presence Response's payload. Its mode and its name may be at their
+/// bounds or beyond.
+pub fn presence_case(prng: &mut Prng) -> PresenceCase {
+    let (mode, device) = (prng.below(3) as u16, prng.word() as u16);
+    let (salt, hash) = (prng.array(), prng.array());
+    let length = prng.between(0, 64);
+    let (name, output) = (prng.bytes(length), Vec::new());
+    let mut case = PresenceCase { mode, device, name, salt, hash, output };
+    if prng.chance(30) {
+        case.mode = prng.pick(&[0, 1, 2, 3, 255, 256, u16::MAX]);
+    }
+    if prng.chance(50) {
+        // From 65,536 on a length of 2 bytes is one that a name may have.
+        let wrapping = prng.between(65_535, 65_600);
+        case.name.resize(prng.pick(&[0, 1, 63, 64, 64, 65, 80, 255, 256, 257, wrapping]), 0x4E);
+    }
+    case.output = some_output(prng, case.bytes().len());
+    case
+}
+
 /// Bytes for the reader of Connect payloads: those of a payload, mostly changed, or any.
 pub fn connect_bytes(prng: &mut Prng) -> Vec<u8> {
+    changed(prng, |prng| payload_case(prng).bytes())
+}
+
+/// The same for the reader of Discovery payloads.
+pub fn discovery_bytes(prng: &mut Prng) -> Vec<u8> {
+    changed(prng, |prng| discovery(prng).payload)
+}
+
+fn changed(prng: &mut Prng, payload: fn(&mut Prng) -> Vec<u8>) -> Vec<u8> {
     if prng.chance(5) {
         let length = prng.below(120);
         return prng.bytes(length);
     }
-    let mut bytes = payload_case(prng).bytes();
+    let mut bytes = payload(prng);
     for _ in 0..prng.pick(&[0, 0, 1, 1, 2]) {
         if prng.chance(70) {
             change_byte(prng, &mut bytes);

@@ -2,10 +2,10 @@
 //! Single steps: a connection, a message with 0 to 3 faults, keys, buffers and a verdict.
 
 use super::fault::{change_byte, other_number, other_sequence};
-use super::{Fault, dress, fragment_size, gateway};
+use super::{Fault, discovery, dress, fragment_size, gateway};
 use crate::connection::{Answer, Connection, State};
 use crate::draft::Draft;
-use crate::gateway::{Gateway, presence_request};
+use crate::gateway::Gateway;
 use crate::message::{Message, read_message};
 use crate::payload::FRAGMENT_SIZE;
 use crate::prng::Prng;
@@ -114,18 +114,18 @@ fn scramble(prng: &mut Prng, connection: &mut Connection) {
     }
 }
 
-/// A message without fault that this gateway could send, mostly one that the connection is waiting
-/// for.
+/// A message that this gateway could send, mostly one that the connection is waiting for. It has no
+/// fault, but a Presence Response may.
 pub fn draft(prng: &mut Prng, gateway: &Gateway, connection: &Connection, report: &[u8]) -> Draft {
     let enrolment = gateway.enrolment().map(|(draft, _)| draft);
     let ready = connection.state == State::Ready as u8;
     let draft = match prng.below(100) {
-        0..4 => presence_request(),
-        4..10 => {
+        0..6 => discovery(prng),
+        6..12 => {
             let replies = gateway.replies();
             replies[prng.below(replies.len())].clone()
         }
-        10..30 => enrolment[prng.below(3)].clone(),
+        12..30 => enrolment[prng.below(3)].clone(),
         30..90 if !ready => {
             let awaited = [0, 1, 2].get(usize::from(connection.state)).copied().unwrap_or(2);
             enrolment[awaited].clone()

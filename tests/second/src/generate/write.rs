@@ -2,9 +2,8 @@
 //! Calls of the writer and of the cutter, with and without faults.
 
 use super::fault::{break_chain, change_byte, change_length, refragment};
-use super::{chain, fragment_size, gateway};
+use super::{chain, discovery, fragment_size, gateway};
 use crate::cutter::{Cut, cut};
-use crate::gateway::presence_request;
 use crate::header::{Header, SEALED};
 use crate::payload::FRAGMENT_SIZE;
 use crate::prng::Prng;
@@ -52,13 +51,13 @@ pub fn write_case(prng: &mut Prng) -> WriteCase {
     case
 }
 
-/// Header and payload of a message that the writer takes.
+/// Header and payload of a message that the writer takes, but for a Presence Response with a fault.
 fn content(prng: &mut Prng) -> (Header, Vec<u8>) {
     let gateway = gateway(prng);
     let replies = gateway.replies();
     let draft = match prng.below(10) {
-        0 => presence_request(),
-        1..4 => gateway.enrolment()[prng.below(3)].0.clone(),
+        0..2 => discovery(prng),
+        2..4 => gateway.enrolment()[prng.below(3)].0.clone(),
         4..6 => replies[prng.below(replies.len())].clone(),
         _ => {
             let count = prng.pick(&[1, 2, 63, 64]);

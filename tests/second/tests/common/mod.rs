@@ -7,6 +7,7 @@ use second::connection::{Answer, Connection, State};
 use second::draft::Draft;
 use second::gateway::Gateway;
 use second::generate::Case;
+use second::payload::Presence;
 use second::prng::Prng;
 use second::refusal::Refusal;
 
@@ -17,6 +18,13 @@ pub fn p1() -> Vec<u8> {
     message.extend([0, 0, 0, 1]);
     message.extend([0; 19]);
     message
+}
+
+/// What a device says of itself, always the same: the values of 000's example, its hash cut to 4
+/// bytes.
+pub fn presence() -> Presence<'static> {
+    let (salt, hash) = ([0xD6, 0xE7, 0x60, 0x2D], [0x11, 0x16, 0x6D, 0x8B]);
+    Presence { mode: 1, device: 9, name: b"devicers1-1", salt, hash }
 }
 
 /// A gateway, always the same.
