@@ -2,12 +2,12 @@
 /*
  * hub.h: the hub of Hlidunsk for C and C++.
  *
- * The library enrols gateways and joins their reports, over the Connected Devices Platform protocol (MS-CDP) as docs/01-scope.md, here called
- * document 01, describes it. Every call below (hub_text, a table in this header, is none) is proved to do exactly what its contract in crates/hub_c
- * says, on every input; the sentences of this header are those contracts in words. What "proved" rests on is in docs/TRUST.md. This header itself
- * is not proved: that it fits the library is tested (tests/boundary), over a million steps against an independent second implementation. The files
- * named docs/ and host/ here are installed under share/doc/hlidunsk; crates/ and tests/ are in the project. The library is for x86-64
- * Linux, the header for C99, C++98 and later.
+ * The library enrols gateways, joins their reports and answers presence calls, over the Connected Devices Platform protocol (MS-CDP) as
+ * docs/01-scope.md, here called document 01, describes it. Every call below (hub_text, a table in this header, is none) is proved to do exactly what
+ * its contract in crates/hub_c says, on every input; the sentences of this header are those contracts in words. What "proved" rests on is in
+ * docs/TRUST.md. This header itself is not proved: that it fits the library is tested (tests/boundary), over a million steps against an independent
+ * second implementation. The files named docs/ and host/ here are installed under share/doc/hlidunsk; crates/ and tests/ are in the project. The
+ * library is for x86-64 Linux, the header for C99, C++98 and later.
  *
  *
  * MESSAGES, PIECES, REPORTS
@@ -34,8 +34,16 @@
  *                   open a reply and take it apart
  *     hub_cut       cuts a report, and hub_write makes the message of each piece
  *
- * host/c has both, hub.c and gateway.c, as two programs that talk over a bad link; enrol.c is both in one page. The library opens no socket, keeps
- * no time, agrees on no key and judges no certificate: the caller says by the verdict whether it accepts the certificate that a message shows.
+ * Whoever looks for hubs, and a hub that says its name:
+ *
+ *     hub_write_presence_request, hub_write_presence_response
+ *                   make the payload of a presence call and of its answer, and hub_write its message
+ *     hub_read, hub_payload, hub_read_discovery
+ *                   open a call or an answer and take it apart
+ *
+ * host/c has both sides, hub.c and gateway.c, as two programs that talk over a bad link; enrol.c is both in one page, and presence.c a presence call
+ * and its answers. The library opens no socket, keeps no time, agrees on no key and judges no certificate: the caller says by the verdict whether it
+ * accepts the certificate that a message shows.
  *
  *
  * WHAT THE MAKER OF A HUB MUST KNOW
@@ -93,6 +101,16 @@
  * judges the gateway's; 7 with Status HUB_SUCCESS. Every other message is dropped: it is late, damaged or a stranger's. A gateway whose sealed
  * requests get no reply starts over with its Connection Request.
  *
+ * Presence. A presence call asks who is there. It is a plain message: hub_read needs neither keys nor working for it. Its type is HUB_TYPE_DISCOVERY,
+ * hub_payload says where its payload lies, and hub_read_discovery that this is a HUB_PRESENCE_REQUEST. The answer's payload is made by
+ * hub_write_presence_response and its message by hub_write: HUB_TYPE_DISCOVERY, no flags, the RequestID of the call given back, FragmentIndex 0,
+ * FragmentCount 1. Where and when it is sent is the caller's. A step takes no Discovery message (15), so such a message goes to no connection. Call
+ * and answer are plain, so anybody can make them, in another's name too: answer only as often as you wish to, and believe no answer. Name, salt and
+ * hash are told to everybody. A name is bytes: it may be no text, and need not end with a zero byte, so look at it before you print it. The hash is
+ * the device's own to make, over what is private to it: by MS-CDP it is a salted SHA-256 of the device's ID, of which document 01 has 4 bytes.
+ * Whoever can guess the ID can test the guess by them. (In MS-CDP's example the hash has 32 bytes and the name a zero byte after it, and MS-CDP of
+ * 2023 has more after the hash: both are refused with 14.)
+ *
  * Reports. Lend a connection the same report buffer at each step, and leave it alone, until the report is complete; then take the report before the
  * next step. A connection comes from hub_open and goes through hub_step alone. Then the first answer[HUB_ANSWER_LENGTH] bytes of report are, at
  * HUB_KIND_COMPLETE, the report as it was sent (DemandThree), and HUB_WRONG_BUFFER does not come (NeverShort). Whatever is lent, that number is
@@ -105,13 +123,14 @@
  * HUB_STATE_EXPECTED before the step, and hub_read_header of the message says it too.
  *
  * Refusals. Most are harmless, and a hub drops the message and goes on: connection and report buffer are as they were. 17 is what late copies of a
- * report that is complete get, 11 what damaged or foreign bytes do, 15 and 16 what strangers do and a gateway that starts over. 18 is a report that
- * comes too early: it is sent again, or lost; where 18 comes again and again the expected report will never be finished, and nothing later is
- * taken: open anew, with new keys. 11 of every sealed message says that the two sides have different keys, 20 that they have a different F; 13, 14,
- * 21 and 23 of a sealed message say that the gateway is wrong or has used a number twice, or, 23, that the report buffer was touched. In a stream 2
- * and 3 mean that the framing is lost: close it. 19 is for a number that no report has, 2^32 - 1. 10, 12, 22, 24, 25 and 255 are the caller's own:
- * keys, a buffer, F or a verdict are not as they should be. But until there are keys 10 is a sealed message that comes too early; and a gateway can
- * bring about 12 and 22 where working is shorter than HUB_MOST_SEALED, or report than 64 times F. hub_text has a sentence for each.
+ * report that is complete get, 11 what damaged or foreign bytes do, 15 and 16 what strangers do and a gateway that starts over; 15 is also what every
+ * well-formed Discovery message gets (see Presence). 18 is a report that comes too early: it is sent again, or lost; where 18 comes again and again the expected report will
+ * never be finished, and nothing later is taken: open anew, with new keys. 11 of every sealed message says that the two sides have different keys, 20
+ * that they have a different F; 13, 14, 21 and 23 of a sealed message say that the gateway is wrong or has used a number twice, or, 23, that the
+ * report buffer was touched. In a stream 2 and 3 mean that the framing is lost: close it. 19 is for a number that no report has, 2^32 - 1. 10, 12,
+ * 22, 24, 25 and 255 are the caller's own: keys, a buffer, F or a verdict are not as they should be. But until there are keys 10 is a sealed message
+ * that comes too early; and a gateway can bring about 12 and 22 where working is shorter than HUB_MOST_SEALED, or report than 64 times F. hub_text
+ * has a sentence for each.
  *
  *
  * WHO OWNS WHICH MEMORY
@@ -150,7 +169,8 @@
  * there.) All 32 bits are defined. A later version may return further numbers: treat one that you do not know as a refusal.
  *
  * On a refusal, 1 to 25, every byte of every buffer is exactly as it was before, and every word that the call hands out (header, length, answer,
- * piece, connect) is 0. What a call does otherwise its "On refusal" names. No call that is done hands out zeros alone, but for hub_payload.
+ * piece, connect, discovery) is 0. What a call does otherwise its "On refusal" names. No call that is done hands out zeros alone, but for
+ * hub_payload, and hub_read_discovery of a Presence Request: look at what a call returns before you look at its words.
  *
  * On HUB_WRONG_BUFFER every buffer is exactly as it was before, each byte and each word of it. It is answered where a buffer of fixed size has
  * another size, where a word is too wide for its field, and where hub_step is lent a report buffer that is shorter than the report.
@@ -181,6 +201,8 @@
  *     hub_write_connection_response     384
  *     hub_write_connection_request      320
  *     hub_read_connect                  192
+ *     hub_read_discovery                128
+ *     hub_write_presence_response       128
  *     hub_version                        64
  *     hub_tags_differ                    64
  *     hub_wanted                         64
@@ -216,7 +238,7 @@ extern "C" {
 #endif
 
 /* This header's version: major * 65536 + minor * 256 + patch. */
-#define HUB_VERSION 0x00010000u
+#define HUB_VERSION 0x00010100u
 
 /* Sizes of the buffers of fixed size, in bytes or in words of 64 bits. */
 #define HUB_STATE_BYTES 151     /* a connection */
@@ -224,6 +246,7 @@ extern "C" {
 #define HUB_FIELDS_WORDS 8      /* the fields of a header to be written */
 #define HUB_PLACE_WORDS 3       /* where a payload lies */
 #define HUB_CONNECT_WORDS 13    /* what a Connect payload says */
+#define HUB_DISCOVERY_WORDS 9   /* what a Discovery payload says */
 #define HUB_ANSWER_WORDS 3      /* what a step answers */
 #define HUB_PIECE_WORDS 3       /* a piece of a report */
 #define HUB_LENGTH_WORDS 1      /* how many bytes were written */
@@ -231,6 +254,8 @@ extern "C" {
 #define HUB_KEYS_BYTES 64       /* keys */
 #define HUB_NONCE_BYTES 8       /* a nonce */
 #define HUB_COORDINATE_BYTES 32 /* X, and Y, of a public key */
+#define HUB_SALT_BYTES 4        /* the salt of a Presence Response: DeviceIdSalt */
+#define HUB_HASH_BYTES 4        /* its hash: DeviceIdHash */
 #define HUB_LINE_BYTES 64       /* a line of the listing */
 
 /* Bounds of document 01. */
@@ -242,8 +267,9 @@ extern "C" {
 #define HUB_MOST_FRAGMENT_SIZE 16384 /* the largest F, and the longest Session payload that hub_write takes */
 #define HUB_MOST_CERTIFICATE 2048    /* the longest certificate; the shortest has one byte */
 #define HUB_MOST_THUMBPRINT 512      /* the longest thumbprint; it may be empty */
+#define HUB_MOST_NAME 64             /* the longest name of a Presence Response; it may be empty */
 #define HUB_MOST_PAYLOAD 2567        /* the longest payload of Discovery and Connect */
-#define HUB_MOST_REPLY 2650          /* the longest Connect message without entries in its chain */
+#define HUB_MOST_REPLY 2650          /* the longest Connect or Discovery message without entries in its chain */
 
 /* The chain that has no entries: the two bytes of its end. */
 #ifdef __cplusplus
@@ -393,8 +419,26 @@ enum hub_connect {
     HUB_AUTHENTICATION_FAILURE = 8          /* Authentication Failure: see Failure above; no call here reads or writes it */
 };
 
-/* ConnectionMode of a Connect payload, by MS-CDP's names. Document 01 takes 0 to 2 and makes nothing of it. */
+/* The types of Discovery payloads: DiscoveryType, their first byte. */
+enum hub_discovery { HUB_PRESENCE_REQUEST = 0, HUB_PRESENCE_RESPONSE = 1 };
+
+/* ConnectionMode of a Connect payload and of a Presence Response, by MS-CDP's names. Document 01 takes 0 to 2 and makes nothing of it. */
 enum hub_mode { HUB_MODE_NONE = 0, HUB_MODE_PROXIMAL = 1, HUB_MODE_LEGACY = 2 };
+
+/* DeviceType of a Presence Response, by MS-CDP's names (2.2.2.2.2). Document 01 takes every number from 0 to 65,535 and makes nothing of it. */
+enum hub_device {
+    HUB_DEVICE_XBOX_ONE = 1,
+    HUB_DEVICE_IPHONE = 6,
+    HUB_DEVICE_IPAD = 7,
+    HUB_DEVICE_ANDROID = 8,
+    HUB_DEVICE_WINDOWS_DESKTOP = 9,
+    HUB_DEVICE_WINDOWS_PHONE = 11,
+    HUB_DEVICE_LINUX = 12,
+    HUB_DEVICE_WINDOWS_IOT = 13,
+    HUB_DEVICE_SURFACE_HUB = 14,
+    HUB_DEVICE_WINDOWS_LAPTOP = 15,
+    HUB_DEVICE_WINDOWS_TABLET = 16
+};
 
 /* The Result of a Connection Response (0 to 3) and the Status of an Authentication Done Response (0 to 4), by MS-CDP's names. */
 enum hub_code {
@@ -420,6 +464,19 @@ enum hub_connect_word {
     HUB_CONNECT_CERTIFICATE_SIZE = 10,
     HUB_CONNECT_THUMBPRINT_FROM = 11,
     HUB_CONNECT_THUMBPRINT_SIZE = 12
+};
+
+/* Places of the words that hub_read_discovery writes. A part of the payload is two words, as above. Of a Presence Request all are 0. */
+enum hub_discovery_word {
+    HUB_DISCOVERY_TYPE = 0,   /* a hub_discovery */
+    HUB_DISCOVERY_MODE = 1,   /* ConnectionMode, a hub_mode */
+    HUB_DISCOVERY_DEVICE = 2, /* DeviceType: a hub_device, or any other number */
+    HUB_DISCOVERY_NAME_FROM = 3,
+    HUB_DISCOVERY_NAME_SIZE = 4,
+    HUB_DISCOVERY_SALT_FROM = 5,
+    HUB_DISCOVERY_SALT_SIZE = 6,
+    HUB_DISCOVERY_HASH_FROM = 7,
+    HUB_DISCOVERY_HASH_SIZE = 8
 };
 
 /* Places of the words that hub_payload writes. */
@@ -490,7 +547,7 @@ enum hub_state {
 /*
  * The library's version, as HUB_VERSION is this header's.
  *
- * Returns   0x00010000 for 1.0.0.
+ * Returns   0x00010100 for 1.1.0.
  */
 uint32_t hub_version(void);
 
@@ -635,7 +692,8 @@ uint32_t hub_write(const uint64_t *fields, size_t fields_n, const uint8_t *chain
                    const uint8_t *keys, size_t keys_n, uint8_t *out, size_t out_n, uint64_t *length, size_t length_n);
 
 /*
- * The payloads of Discovery and Connect: six writers, and a reader of Connect payloads. A writer puts its payload at the start of out, for hub_write.
+ * The payloads of Discovery and Connect: seven writers, a reader of Connect payloads and a reader of Discovery payloads. A writer puts its payload at
+ * the start of out, for hub_write.
  *
  * mode      ConnectionMode, 0 to 2: see hub_mode.
  * nonce     HUB_NONCE_BYTES, random and new for each request, and for each response that is not sent again.
@@ -643,16 +701,32 @@ uint32_t hub_write(const uint64_t *fields, size_t fields_n, const uint8_t *chain
  * out       at least as long as the payload: HUB_MOST_PAYLOAD bytes are enough for all. It may overlap no other buffer.
  * length    HUB_LENGTH_WORDS.
  *
- * Returns   HUB_DONE, HUB_WRONG_BUFFER (length; nonce, x or y; a word too wide for its field: a mode over 65,535, another over 255), then 14 where
- *           a value is not as document 01 says, then 22 where out is too short.
+ * Returns   HUB_DONE, HUB_WRONG_BUFFER (length; nonce, x, y, salt or hash; a word too wide for its field: a mode or a device over 65,535, another
+ *           over 255), then 14 where a value is not as document 01 says, then 22 where out is too short.
  * On done   the first length[0] bytes of out are the payload; the rest of out is unchanged.
  * On refusal length is 0, and out is as it was.
- * Proved    FieldsBack: 14 refuses nothing that was written, and what was written reads back. ConnectBack: by hub_read_connect.
+ * Proved    FieldsBack: 14 refuses nothing that was written, and what was written reads back. ConnectBack: by hub_read_connect. PresenceBack: by
+ *           hub_read_discovery.
  */
 
 /* The payload of a Presence Request, which is plain: one byte. */
 HUB_ANSWER_MATTERS
 uint32_t hub_write_presence_request(uint8_t *out, size_t out_n, uint64_t *length, size_t length_n);
+
+/*
+ * The payload of a Presence Response, which is plain: 15 bytes more than the name has.
+ *
+ * device    DeviceType, 0 to 65,535: see hub_device.
+ * name      at most HUB_MOST_NAME bytes, or none. It may be any bytes: they are carried as they stand, and no zero byte is added.
+ * salt      HUB_SALT_BYTES, random.
+ * hash      HUB_HASH_BYTES, which the device makes: see Presence above. Any bytes are carried as they stand.
+ *
+ * Proved    PresenceWritten: where nothing is HUB_WRONG_BUFFER it gives 14 exactly where mode is over 2 or the name has over HUB_MOST_NAME bytes,
+ *           then 22 exactly where out has no room. CanBeCarried: a message can carry what it writes.
+ */
+HUB_ANSWER_MATTERS
+uint32_t hub_write_presence_response(uint64_t mode, uint64_t device, const uint8_t *name, size_t name_n, const uint8_t *salt, size_t salt_n,
+                                     const uint8_t *hash, size_t hash_n, uint8_t *out, size_t out_n, uint64_t *length, size_t length_n);
 
 /* The payload of a Connection Request, which is plain: 86 bytes. */
 HUB_ANSWER_MATTERS
@@ -705,6 +779,24 @@ HUB_ANSWER_MATTERS
 uint32_t hub_read_connect(const uint8_t *payload, size_t payload_n, uint64_t *connect, size_t connect_n);
 
 /*
+ * Reads a Discovery payload: its type, and what stands in it.
+ *
+ * payload   the payload, as hub_payload says where it lies; any bytes. The payload alone does not tell a Discovery message from a Session message:
+ *           ask header[HUB_HEADER_TYPE] first.
+ * discovery HUB_DISCOVERY_WORDS.
+ *
+ * Returns   HUB_DONE, HUB_WRONG_BUFFER (discovery), then 14 where the payload is neither of the two of document 01, a Presence Request and a Presence
+ *           Response.
+ * On done   discovery holds the words of hub_discovery_word: of a Presence Request all are 0, the type HUB_PRESENCE_REQUEST too. Each part of a
+ *           Presence Response that they name lies in the payload. (A name that is empty has its place, after its length, and no bytes.)
+ * On refusal discovery is all zero, as of a Presence Request: what this returns tells the two apart.
+ * Proved    PresenceBack: of a Presence Response that was written, the words are what was given, and the bytes at the places. DiscoveryLies: the
+ *           parts lie in the payload, on every payload. AdmitsPresence: 14 is given to all but the two.
+ */
+HUB_ANSWER_MATTERS
+uint32_t hub_read_discovery(const uint8_t *payload, size_t payload_n, uint64_t *discovery, size_t discovery_n);
+
+/*
  * Opens a connection: state 0, expecting the report of SequenceNumber 0.
  *
  * fragment_size   F, 1 to 16,384: the bytes of each piece but the last.
@@ -735,7 +827,8 @@ uint32_t hub_open(uint64_t fragment_size, uint8_t *state, size_t state_n);
  * answer    HUB_ANSWER_WORDS.
  *
  * Returns   HUB_DONE, HUB_WRONG_BUFFER (state, answer, or a report that is too short), then the first that applies of 25; 24; 1 to 9; 10 to 13
- *           (sealed messages); 14; 16; 15; 19, 17, 18, 21, 20, 22, 23.
+ *           (sealed messages); 14; 16; 15; 19, 17, 18, 21, 20, 22, 23. A Discovery message skips 16: where 14 and what is before it do not
+ *           refuse it, it is 15, in every state (see Presence above).
  * On done   answer holds what to do (see hub_kind; words that a kind does not use are 0), state the next connection. HUB_KIND_TAKEN,
  *           HUB_KIND_REPEAT and HUB_KIND_COMPLETE tell how many of the indexes below the message's FragmentCount are heard, its own with them.
  *           HUB_KIND_TAKEN and HUB_KIND_COMPLETE: the piece is in report from F times its index on, no other byte of it changed. HUB_KIND_COMPLETE:
@@ -746,7 +839,7 @@ uint32_t hub_open(uint64_t fragment_size, uint8_t *state, size_t state_n);
  * On refusal answer is 0, 0, 0 (HUB_KIND_REFUSED); state and report are as they were. So is working for 1 to 13, 24 and 25; for the others its first
  *           bytes hold the opened sealed part of a sealed message.
  * Proved    StepExact, LeavesAlone, WorkingBuffer, ByHostStates, StepsByState, RepeatedStep, RepeatedBytes, OnlyByZero, HeardCount, DemandThree,
- *           WithinReport, NeverShort.
+ *           WithinReport, NeverShort, DiscoveryAnswered.
  */
 HUB_ANSWER_MATTERS
 uint32_t hub_step(uint8_t *state, size_t state_n, const uint8_t *message, size_t message_n, const uint8_t *keys, size_t keys_n, uint8_t *working,

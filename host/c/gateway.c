@@ -4,7 +4,8 @@
  *
  *     gateway DESCRIPTOR [CERTIFICATE]
  *
- * It enrols, sends its reports, and prints each as the hub does. Messages on the stream may be lost, repeated, damaged, or out of order.
+ * It asks for the hub's name, enrols, sends its reports, and prints each as the hub does. Messages on the stream may be lost, repeated, damaged, or
+ * out of order.
  */
 #define _POSIX_C_SOURCE 200112L
 #include <stdio.h>
@@ -14,7 +15,7 @@
 #include "link.h"
 
 #define WAIT 50      /* the milliseconds in which a reply should come */
-#define TRIES 4      /* how often a request is sent before enrolment starts over */
+#define TRIES 4      /* how often a presence call is sent, and a request before enrolment starts over */
 #define STARTS 64    /* how often it starts */
 #define ROUNDS 16    /* how often each piece is sent: document 01 has nothing by which a hub says that it came */
 #define LINGER 10000 /* the milliseconds in which the hub should close the stream */
@@ -23,6 +24,43 @@ static struct link hub;
 static uint64_t session;
 static struct half ours;
 static struct keys keys;
+
+/* Says a name, which may be any bytes: what is not a printable ASCII character is shown by its number. */
+static void say_name(const uint8_t *name, uint64_t n)
+{
+    uint64_t i;
+
+    fprintf(stderr, "gateway: the hub is called \"");
+    for (i = 0; i < n; i++)
+        if (name[i] >= ' ' && name[i] <= '~' && name[i] != '\\')
+            fprintf(stderr, "%c", name[i]);
+        else
+            fprintf(stderr, "\\x%02x", name[i]);
+    fprintf(stderr, "\"\n");
+}
+
+/* Asks for the hub's name, and says it where an answer comes. It is for people to read: call and answer are plain, so anybody can make them. */
+static void ask_name(void)
+{
+    uint8_t payload[HUB_MOST_PAYLOAD];
+    uint64_t length, request;
+    struct discovery answer;
+    int64_t deadline;
+    size_t n;
+    int i;
+
+    draw_bytes(&request, sizeof request);
+    must(hub_write_presence_request(payload, sizeof payload, &length, HUB_LENGTH_WORDS), "hub_write_presence_request");
+    for (i = 0; i < TRIES && send_discovery(&hub, request, payload, length); i++) {
+        deadline = now() + WAIT;
+        while ((n = receive(&hub, deadline)) > 0)
+            if (read_discovery(&hub, n, &answer) && answer.words[HUB_DISCOVERY_TYPE] == HUB_PRESENCE_RESPONSE &&
+                answer.header[HUB_HEADER_REQUEST] == request) {
+                say_name(answer.payload + answer.words[HUB_DISCOVERY_NAME_FROM], answer.words[HUB_DISCOVERY_NAME_SIZE]);
+                return;
+            }
+    }
+}
 
 /* Whether the message of n bytes is the reply of this type, and says what we hope for. Any other is dropped: it is late, damaged or a stranger's. */
 static int is_reply(size_t n, uint64_t type)
@@ -141,6 +179,7 @@ int main(int argc, char **argv)
     open_link(&hub, argv[1]);
     draw_bytes(&session, sizeof session);
     draw_half(&ours, 'g');
+    ask_name();
     /* A Connection Request or Response that was damaged, or a stranger's, gives keys that do not fit: nothing sealed is replied to. */
     while (!enrol(argc == 3 ? argv[2] : CERTIFICATE_OF_GATEWAY))
         if (++i == STARTS) {

@@ -4,8 +4,8 @@
  *
  *     hub DESCRIPTOR
  *
- * It enrols the gateway and prints each report when it is complete. Messages on the stream may be lost, repeated, damaged, late or a stranger's, and
- * the gateway may start anew at any time. A hub of many gateways has for each of them what is static here.
+ * It enrols the gateway, prints each report when it is complete, and answers presence calls. Messages on the stream may be lost, repeated, damaged,
+ * late or a stranger's, and the gateway may start anew at any time. A hub of many gateways has for each of them what is static here.
  */
 #include <stdio.h>
 #include <stdlib.h>
@@ -27,7 +27,7 @@ static struct connection connections[3];
 static struct connection *current = &connections[0], *candidate = &connections[1], *blank = &connections[2];
 
 static struct link gateway;
-static unsigned reports, replied, again, dropped;
+static unsigned reports, replied, again, dropped, calls;
 
 /* A connection from its beginning, where one stood or not. It will have new keys, so that its numbers may be those of another. */
 static void open_connection(struct connection *c)
@@ -167,6 +167,10 @@ static void take(size_t n)
 
 int main(int argc, char **argv)
 {
+    static const uint8_t name[] = NAME_OF_HUB, salt[HUB_SALT_BYTES], hash[HUB_HASH_BYTES]; /* EXAMPLE BYTES: see presence.c */
+    uint8_t presence[HUB_MOST_PAYLOAD];
+    uint64_t length;
+    struct discovery heard;
     size_t n;
 
     if (argc != 2) {
@@ -177,8 +181,16 @@ int main(int argc, char **argv)
     open_connection(current);
     open_connection(candidate);
     open_connection(blank);
+    must(hub_write_presence_response(HUB_MODE_PROXIMAL, HUB_DEVICE_LINUX, name, sizeof name - 1, salt, sizeof salt, hash, sizeof hash, presence,
+                                     sizeof presence, &length, HUB_LENGTH_WORDS),
+         "hub_write_presence_response");
     while ((n = receive(&gateway, NEVER)) > 0)
-        take(n);
-    fprintf(stderr, "hub: %u reports, %u replies, %u sent again, %u messages dropped\n", reports, replied, again, dropped);
+        if (!read_discovery(&gateway, n, &heard))
+            take(n);
+        else if (heard.words[HUB_DISCOVERY_TYPE] == HUB_PRESENCE_REQUEST) /* it is anybody's, and no connection's */
+            calls += (unsigned)send_discovery(&gateway, heard.header[HUB_HEADER_REQUEST], presence, length);
+        else
+            dropped++; /* what another hub answers */
+    fprintf(stderr, "hub: %u reports, %u replies, %u sent again, %u messages dropped, %u presence calls\n", reports, replied, again, dropped, calls);
     return 0;
 }

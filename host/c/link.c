@@ -142,6 +142,31 @@ int read_connect(struct link *link, size_t n, const struct keys *keys, struct co
     return 1;
 }
 
+/* A Discovery message is plain: it needs no keys, and nothing is opened for it. */
+int read_discovery(const struct link *link, size_t n, struct discovery *discovery)
+{
+    uint64_t place[HUB_PLACE_WORDS];
+
+    if (hub_read(link->message, n, NULL, 0, NULL, 0, discovery->header, HUB_HEADER_WORDS) != HUB_DONE ||
+        discovery->header[HUB_HEADER_TYPE] != HUB_TYPE_DISCOVERY)
+        return 0;
+    must(hub_payload(link->message, n, NULL, 0, discovery->header, HUB_HEADER_WORDS, place, HUB_PLACE_WORDS), "hub_payload");
+    discovery->payload = link->message + place[HUB_PLACE_FROM];
+    must(hub_read_discovery(discovery->payload, (size_t)place[HUB_PLACE_SIZE], discovery->words, HUB_DISCOVERY_WORDS), "hub_read_discovery");
+    return 1;
+}
+
+int send_discovery(struct link *link, uint64_t request, const uint8_t *payload, uint64_t payload_n)
+{
+    static const struct keys none;
+    static struct message message;
+    const uint64_t fields[HUB_FIELDS_WORDS] = {
+        [HUB_HEADER_TYPE] = HUB_TYPE_DISCOVERY, [HUB_HEADER_REQUEST] = request, [HUB_HEADER_COUNT] = 1};
+
+    write_message(fields, payload, payload_n, &none, &message);
+    return send_bytes(link, message.bytes, message.n);
+}
+
 void read_half(const struct connect *connect, struct half *half)
 {
     memcpy(half->nonce, connect->payload + connect->words[HUB_CONNECT_NONCE_FROM], sizeof half->nonce);

@@ -10,6 +10,9 @@
 #define CERTIFICATE_OF_HUB "hub of the growers of Blaye"
 #define CERTIFICATE_OF_GATEWAY "gateway 7, block 12, Merlot"
 
+/* The name by which the hub answers a presence call. */
+#define NAME_OF_HUB "the hub of Blaye"
+
 /* Reports are numbered from 0 on, and the Connect messages of each side from here on: see Vectors in hub.h. */
 #define NUMBERS_OF_GATEWAY 0x80000000
 #define NUMBERS_OF_HUB 0xC0000000
@@ -75,6 +78,18 @@ struct connect {
 
 /* Takes apart the message of n bytes that came last; answers whether it is a Connect message, and not refused. */
 int read_connect(struct link *link, size_t n, const struct keys *keys, struct connect *connect);
+
+/* A Discovery message that was taken apart. */
+struct discovery {
+    uint64_t header[HUB_HEADER_WORDS], words[HUB_DISCOVERY_WORDS];
+    const uint8_t *payload;
+};
+
+/* Takes apart the message of n bytes that came last; answers whether it is a Discovery message, and not refused. */
+int read_discovery(const struct link *link, size_t n, struct discovery *discovery);
+
+/* Sends a Discovery message with this RequestID; answers whether it has gone. */
+int send_discovery(struct link *link, uint64_t request, const uint8_t *payload, uint64_t payload_n);
 
 /* The half that a Connection Request or Response brings. */
 void read_half(const struct connect *connect, struct half *half);

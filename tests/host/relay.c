@@ -5,10 +5,10 @@
  *     relay FIRST LAST HUB GATEWAY
  *
  * HUB and GATEWAY are commands, which are given the number of a descriptor. For each seed from FIRST to LAST both run, and what they send to each
- * other is lost, sent twice, held back or damaged, message by message; a stranger's Connection Requests come between, also when the hub is ready. The
- * hub must print each report once, in order, as the gateway sent it. Then both run with a gateway before that is cut off: in its enrolment, in the
- * midst of a report, or when the hub has not accepted its certificate. The hub must hear the other one, and print its reports from 0 on. A line at
- * the end says what was counted.
+ * other is lost, sent twice, held back or damaged, message by message; a stranger's Connection Requests and presence calls come between, also when
+ * the hub is ready. The hub must print each report once, in order, as the gateway sent it, and answer each of these calls by its name. Then both run
+ * with a gateway before that is cut off: in its enrolment, in the midst of a report, or when the hub has not accepted its certificate. The hub must
+ * hear the other one, and print its reports from 0 on. A line at the end says what was counted.
  */
 #define _POSIX_C_SOURCE 200809L
 #include <fcntl.h>
@@ -28,6 +28,8 @@
 #define HELD 8          /* how many messages of a side are held back at a time */
 #define PRINTED 1048576 /* more than a program prints */
 #define REFUSAL "the certificate is not accepted"
+#define NAMED "gateway: the hub is called \"" NAME_OF_HUB "\"\n"
+#define CALLS 0xCA11000000000000 /* the RequestIDs of a stranger's presence calls, from here on; a gateway draws its own */
 
 /* One of the two programs: our end of its stream, what it prints, and those of its messages that are held back. */
 struct side {
@@ -45,12 +47,16 @@ static struct side gateway;
 static struct side hub = {.other = &gateway};
 static struct side gateway = {.other = &hub};
 
-/* Of the gateway that runs: its SessionID, how many messages it has sent, and how many of those are Session messages; then the hub is ready. */
+/* Of the gateway that runs: its SessionID, how many messages it has sent, presence calls apart, and how many of those are Session messages; then the
+   hub is ready. */
 static uint64_t session;
 static unsigned sent_messages, sent_pieces;
 
 static unsigned seed, runs, messages, lost, twice, late, damaged, forgeries, while_ready, replayed, cut_off, in_report, unknown;
-static unsigned reports, replied, again, dropped;
+static unsigned reports, replied, again, dropped, named;
+
+/* The stranger's presence calls of this run, those of them that the hub has answered, its answers to all presence calls; and these of all runs. */
+static unsigned called, answered, answers, all_answers;
 
 static void say_log(FILE *log)
 {
@@ -149,6 +155,35 @@ static void forge(uint64_t of_session, int sealed)
     while_ready += sent_pieces > 0;
 }
 
+/* Sends the hub a stranger's presence call. */
+static void call_hub(void)
+{
+    uint8_t payload[HUB_MOST_PAYLOAD];
+    uint64_t length;
+
+    must(hub_write_presence_request(payload, sizeof payload, &length, HUB_LENGTH_WORDS), "hub_write_presence_request");
+    called += (unsigned)send_discovery(&hub.link, CALLS + called, payload, length);
+}
+
+/* A gateway sends presence calls, and the hub answers by its name, those of a stranger in their order. */
+static void watch_presence(struct side *from, size_t n)
+{
+    static const char name[] = NAME_OF_HUB;
+    struct discovery said;
+
+    if (from == &gateway) {
+        if (!read_discovery(&from->link, n, &said) || said.words[HUB_DISCOVERY_TYPE] != HUB_PRESENCE_REQUEST)
+            fail("a gateway's Discovery message is no presence call");
+        return;
+    }
+    if (!read_discovery(&from->link, n, &said) || said.words[HUB_DISCOVERY_TYPE] != HUB_PRESENCE_RESPONSE ||
+        said.words[HUB_DISCOVERY_NAME_SIZE] != sizeof name - 1 ||
+        memcmp(said.payload + said.words[HUB_DISCOVERY_NAME_FROM], name, sizeof name - 1) != 0)
+        fail("the hub answers a presence call by another name");
+    answered += said.header[HUB_HEADER_REQUEST] == CALLS + answered;
+    answers++;
+}
+
 /* The halves that gateways and hub have shown in this run, and the keys that each two of them give: all that both sides can have agreed on. */
 static struct shown {
     struct half halves[1024];
@@ -209,6 +244,10 @@ static void watch(struct side *from, size_t n)
     if (hub_read_header(from->link.message, n, header, HUB_HEADER_WORDS) != HUB_DONE ||
         hub_digest(from->link.message, n, digest, HUB_DIGEST_BYTES) != HUB_DONE)
         fail("what a program sends is no message");
+    if (header[HUB_HEADER_TYPE] == HUB_TYPE_DISCOVERY) {
+        watch_presence(from, n);
+        return;
+    }
     if (from == &gateway) {
         session = header[HUB_HEADER_SESSION];
         sent_messages++;
@@ -273,12 +312,15 @@ static int keeping;
 static void pass(struct side *from, size_t n)
 {
     enum { LOST, TWICE, LATE, DAMAGED, FATES = 8 };
-    int first = messages++ == 0; /* a Connection Request: it goes twice, after what is forged, so that these come in every test */
+    static int begun;
     uint8_t *message = from->link.message, bit;
     size_t at;
-    int copies = 1;
+    int copies = 1, first;
 
+    messages++;
     watch(from, n);
+    first = !begun && sent_messages > 0; /* a Connection Request: it goes twice, after what is forged, so that these come in every test */
+    begun = begun || first;
     if (from == &gateway && keeping && sent_pieces == 0 && old_n < sizeof old / sizeof old[0]) {
         memcpy(old[old_n].bytes, message, n);
         old[old_n++].n = n;
@@ -287,6 +329,8 @@ static void pass(struct side *from, size_t n)
         forge(session, 1);
     if (first || (from == &gateway && draw(8) == 0))
         forge(draw(2) == 0 ? session : ~session, 0);
+    if (first || (from == &gateway && draw(8) == 0))
+        call_hub();
     switch (first ? TWICE : draw(FATES)) {
     case LOST:
         lost++;
@@ -402,6 +446,7 @@ static size_t run(char **commands, const struct cut *cut)
 
     drawn = seed + (cut == NULL ? 0 : 1000 * (1 + cut->messages + cut->pieces)); /* no two runs of a seed are alike */
     seen_n = agreed_n = by_gateways.n = by_hub.n = old_n = 0;
+    called = answered = answers = 0;
     keeping = cut != NULL;
     runs++;
     alarm(LIMIT);
@@ -473,15 +518,16 @@ static unsigned hold_reports(size_t before)
     return first;
 }
 
-/* Adds up what the hub counted. */
+/* Adds up what the hub counted, and holds it to what it answered: each of the stranger's presence calls. Counts the gateways that heard its name. */
 static void hold_counts(void)
 {
-    unsigned came, replies, repeats, refused, found = 0;
+    unsigned came, replies, repeats, refused, calls = 0, found = 0;
     char line[512];
 
     rewind(hub.log);
     while (fgets(line, sizeof line, hub.log) != NULL)
-        if (sscanf(line, "hub: %u reports, %u replies, %u sent again, %u messages dropped", &came, &replies, &repeats, &refused) == 4) {
+        if (sscanf(line, "hub: %u reports, %u replies, %u sent again, %u messages dropped, %u presence calls", &came, &replies, &repeats, &refused,
+                   &calls) == 5) {
             found++;
             replied += replies;
             again += repeats;
@@ -489,6 +535,12 @@ static void hold_counts(void)
         }
     if (found != 1)
         fail("the hub does not say what it counted");
+    if (calls != answers || answered != called)
+        fail("the hub does not answer a presence call");
+    all_answers += answers;
+    rewind(gateway.log);
+    while (fgets(line, sizeof line, gateway.log) != NULL)
+        named += strcmp(line, NAMED) == 0;
 }
 
 /* A gateway is cut off, and another one comes. Answers how many reports came of the first. */
@@ -556,10 +608,12 @@ int main(int argc, char **argv)
     hold_deadline();
     if (lost == 0 || twice == 0 || late == 0 || damaged == 0 || while_ready == 0 || again == 0 || dropped == 0 || replied <= 3 * (runs + cut_off))
         fail("the link was too good");
+    if (named == 0)
+        fail("no gateway hears the hub's name");
     printf("%u runs, %u messages: %u lost, %u twice, %u late, %u damaged, %u forged between, %u of them to a hub that is ready; ", runs, messages,
            lost, twice, late, damaged, forgeries, while_ready);
     printf("%u gateways cut off, %u in a report, and another one heard, whatever %u old requests say; ", cut_off, in_report, replayed);
     printf("%u reports came once, in order, as sent; %u replies, %u sent again, %u messages dropped; ", reports, replied, again, dropped);
-    printf("%u unknown certificates not accepted\n", unknown);
+    printf("%u unknown certificates not accepted; %u presence calls answered, %u gateways hear the hub's name\n", unknown, all_answers, named);
     return 0;
 }

@@ -20,10 +20,11 @@ static ucontext_t here, there;
 
 static const uint8_t nonce[HUB_NONCE_BYTES], x[HUB_COORDINATE_BYTES], y[HUB_COORDINATE_BYTES];
 static const uint8_t certificate[HUB_MOST_CERTIFICATE], thumbprint[HUB_MOST_THUMBPRINT];
+static const uint8_t name[HUB_MOST_NAME], salt[HUB_SALT_BYTES], hash[HUB_HASH_BYTES];
 static uint8_t keys[HUB_KEYS_BYTES], state[HUB_STATE_BYTES], before[HUB_STATE_BYTES], working[HUB_MOST_SEALED], report[3 * F];
 static uint8_t message[HUB_MOST_READ], out[HUB_MOST_WRITTEN], digest[HUB_DIGEST_BYTES], line[HUB_LINE_BYTES], payload[F], chain[8 * (2 + ENTRY) + 2];
 static uint64_t header[HUB_HEADER_WORDS], fields[HUB_FIELDS_WORDS], place[HUB_PLACE_WORDS], answer[HUB_ANSWER_WORDS];
-static uint64_t length[HUB_LENGTH_WORDS], connect[HUB_CONNECT_WORDS];
+static uint64_t length[HUB_LENGTH_WORDS], connect[HUB_CONNECT_WORDS], discovery[HUB_DISCOVERY_WORDS];
 static size_t message_n, payload_n;
 static uint64_t verdict;
 static uint32_t number;
@@ -44,6 +45,11 @@ static void do_write(void)
                        HUB_LENGTH_WORDS);
 }
 static void do_presence_request(void) { number = hub_write_presence_request(payload, sizeof payload, length, HUB_LENGTH_WORDS); }
+static void do_presence_response(void)
+{
+    number = hub_write_presence_response(HUB_MODE_LEGACY, HUB_DEVICE_LINUX, name, sizeof name, salt, sizeof salt, hash, sizeof hash, payload,
+                                         sizeof payload, length, HUB_LENGTH_WORDS);
+}
 static void do_connection_request(void)
 {
     number = hub_write_connection_request(HUB_MODE_LEGACY, nonce, sizeof nonce, x, sizeof x, y, sizeof y, payload, sizeof payload, length,
@@ -65,6 +71,7 @@ static void do_done_response(void)
     number = hub_write_done_response(HUB_MODE_LEGACY, HUB_FAILURE_UNKNOWN, payload, sizeof payload, length, HUB_LENGTH_WORDS);
 }
 static void do_read_connect(void) { number = hub_read_connect(payload, payload_n, connect, HUB_CONNECT_WORDS); }
+static void do_read_discovery(void) { number = hub_read_discovery(payload, payload_n, discovery, HUB_DISCOVERY_WORDS); }
 static void do_open(void) { number = hub_open(F, state, HUB_STATE_BYTES); }
 static void do_step(void)
 {
@@ -183,6 +190,8 @@ static size_t steps(void)
     prepare_by(do_done_request, HUB_TYPE_CONNECT, HUB_FLAGS_SEALED);
     bytes = most(bytes, measure(do_step, HUB_DONE));
     bytes = most(bytes, measure(do_step, HUB_DONE)); /* Again */
+    prepare_by(do_presence_response, HUB_TYPE_DISCOVERY, 0);
+    bytes = most(bytes, measure(do_step, HUB_NOT_ALLOWED));
     prepare(HUB_TYPE_SESSION, HUB_FLAGS_SEALED, 1, 2, F);
     bytes = most(bytes, measure(do_step, HUB_DONE));
     bytes = most(bytes, measure(do_step, HUB_DONE)); /* Repeat */
@@ -197,7 +206,7 @@ static size_t steps(void)
     return bytes;
 }
 
-/* The writers of payloads, and the reader of what each has written. */
+/* The writers of payloads, and both readers of what each has written. */
 static void payloads(void)
 {
     static const struct {
@@ -205,19 +214,22 @@ static void payloads(void)
         void (*writer)(void);
         int connect;
     } calls[] = {{"hub_write_presence_request", do_presence_request, 0},
+                 {"hub_write_presence_response", do_presence_response, 0},
                  {"hub_write_connection_request", do_connection_request, 1},
                  {"hub_write_connection_response", do_connection_response, 1},
                  {"hub_write_device_authentication", do_device_authentication, 1},
                  {"hub_write_done_request", do_done_request, 1},
                  {"hub_write_done_response", do_done_response, 1}};
-    size_t bytes = 0, i;
+    size_t by_connect = 0, by_discovery = 0, i;
 
     for (i = 0; i < sizeof calls / sizeof calls[0]; i++) {
         row(calls[i].name, measure(calls[i].writer, HUB_DONE));
         payload_n = (size_t)length[0];
-        bytes = most(bytes, measure(do_read_connect, calls[i].connect ? HUB_DONE : HUB_WRONG_PAYLOAD));
+        by_connect = most(by_connect, measure(do_read_connect, calls[i].connect ? HUB_DONE : HUB_WRONG_PAYLOAD));
+        by_discovery = most(by_discovery, measure(do_read_discovery, calls[i].connect ? HUB_WRONG_PAYLOAD : HUB_DONE));
     }
-    row("hub_read_connect", bytes);
+    row("hub_read_connect", by_connect);
+    row("hub_read_discovery", by_discovery);
 }
 
 int main(void)
@@ -239,6 +251,8 @@ int main(void)
     sealed = most(sealed, measure(do_read, HUB_DONE));
     prepare_by(do_presence_request, HUB_TYPE_DISCOVERY, 0);
     plain = measure(do_read, HUB_DONE);
+    prepare_by(do_presence_response, HUB_TYPE_DISCOVERY, 0);
+    plain = most(plain, measure(do_read, HUB_DONE));
     row("hub_read", most(sealed, plain));
     plain = measure(do_write, HUB_DONE);
     prepare_by(do_device_authentication, HUB_TYPE_CONNECT, HUB_FLAGS_SEALED);

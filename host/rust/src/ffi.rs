@@ -61,6 +61,20 @@ unsafe extern "C" {
         length: *mut u64,
         length_n: usize,
     ) -> u32;
+    pub fn hub_write_presence_response(
+        mode: u64,
+        device: u64,
+        name: *const u8,
+        name_n: usize,
+        salt: *const u8,
+        salt_n: usize,
+        hash: *const u8,
+        hash_n: usize,
+        out: *mut u8,
+        out_n: usize,
+        length: *mut u64,
+        length_n: usize,
+    ) -> u32;
     pub fn hub_write_connection_request(
         mode: u64,
         nonce: *const u8,
@@ -120,6 +134,12 @@ unsafe extern "C" {
         payload_n: usize,
         connect: *mut u64,
         connect_n: usize,
+    ) -> u32;
+    pub fn hub_read_discovery(
+        payload: *const u8,
+        payload_n: usize,
+        discovery: *mut u64,
+        discovery_n: usize,
     ) -> u32;
     pub fn hub_open(fragment_size: u64, state: *mut u8, state_n: usize) -> u32;
     pub fn hub_step(

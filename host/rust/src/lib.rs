@@ -1,7 +1,7 @@
 // SPDX-License-Identifier: MPL-2.0
-//! A proved hub library for Rust: it enrols gateways and joins their reports over the Connected
-//! Devices Platform protocol (MS-CDP), as the project's document 01 (docs/01-scope.md) describes
-//! it.
+//! A proved hub library for Rust: it enrols gateways, joins their reports and answers presence
+//! calls over the Connected Devices Platform protocol (MS-CDP), as the project's document 01
+//! (docs/01-scope.md) describes it.
 //!
 //! The calls are those of include/hub.h, with types for what C can only ask for: keys are 64 bytes
 //! or none, a connection is a value, fields have their width, payloads are types, a report is a
@@ -38,6 +38,13 @@
 //! | [`Connect::write`], [`write()`] | make the payload of a request, and its message |
 //! | [`read`], [`Message::connect`] | open a reply, and take it apart |
 //! | [`cut`] | cuts a report; [`write()`] makes the message of each piece |
+//!
+//! Whoever looks for hubs, and a hub that says its name:
+//!
+//! | Call | What it does |
+//! |---|---|
+//! | [`Discovery::write`], [`write()`] | make the payload of a presence call or of its answer, and its message |
+//! | [`read`], [`Message::discovery`] | open a call or an answer, and take it apart |
 //!
 //! The library opens no socket, keeps no time, agrees on no key and judges no certificate: the
 //! caller says by the verdict whether it accepts the certificate that a message shows.
@@ -304,6 +311,21 @@
 //! [`Success`](payload::Status::Success). Every other message is dropped: it is late, damaged or a
 //! stranger's. A gateway whose sealed requests get no reply starts over with its Connection Request.
 //!
+//! ## Presence
+//!
+//! A presence call asks who is there: a message of which [`Message::discovery`] gives a
+//! [`PresenceRequest`](payload::Discovery::PresenceRequest). It is plain: [`read`] needs neither
+//! keys nor room for it. [`Discovery`](payload::Discovery) shows how a hub answers by its name,
+//! with the RequestID of the call. Where and when the answer is sent is the caller's. A step takes
+//! no Discovery message (15), so such a message goes to no connection.
+//!
+//! Call and answer are plain, so anybody can make them, in another's name too: answer only as often
+//! as you wish to, and believe no answer. Name, salt and hash are told to everybody. A name is
+//! bytes and may be no text: look at it before you print it.
+//!
+//! In MS-CDP's example the hash has 32 bytes and the name a zero byte after it, and MS-CDP of 2023
+//! has more after the hash: both are refused with 14.
+//!
 //! ## Reports and their buffer
 //!
 //! Lend a connection the same report buffer at each step, of 64 times F bytes or as many as the
@@ -381,6 +403,7 @@
 //!
 //! [`Connect::header`]: payload::Connect::header
 //! [`Connect::write`]: payload::Connect::write
+//! [`Discovery::write`]: payload::Discovery::write
 //! [`MOST_PAYLOAD`]: payload::MOST_PAYLOAD
 
 #![no_std]

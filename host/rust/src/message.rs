@@ -1,7 +1,7 @@
 // SPDX-License-Identifier: MPL-2.0
 //! Messages: reading and writing.
 
-use crate::payload::Connect;
+use crate::payload::{Connect, Discovery};
 use crate::{ffi, Refusal};
 
 /// The 64 key bytes: 16 encryption key, 16 vector key, 32 HMAC key. They are new for each
@@ -26,8 +26,8 @@ pub const NO_ENTRIES: &[u8] = &[0, 0];
 /// The longest message that [`write()`] makes.
 pub const MOST_WRITTEN: usize = 18_530;
 
-/// The longest Connect message without entries in its chain: room of this size holds every reply
-/// that is written with [`NO_ENTRIES`].
+/// The longest Connect or Discovery message without entries in its chain: room of this size holds
+/// every reply that is written with [`NO_ENTRIES`].
 pub const MOST_REPLY: usize = 2_650;
 
 /// The longest sealed part of a message: a working buffer of this size is enough for all.
@@ -68,7 +68,7 @@ impl MessageType {
 
 /// The fields of a header that a sender chooses.
 ///
-/// A payload and a piece make the header that goes with them ([`PresenceRequest::header`],
+/// A payload and a piece make the header that goes with them ([`Discovery::header`],
 /// [`Connect::header`], [`Piece::header`]); what that leaves at 0 is set beside it:
 ///
 /// ```
@@ -81,7 +81,7 @@ impl MessageType {
 /// # Ok::<(), Refusal>(())
 /// ```
 ///
-/// [`PresenceRequest::header`]: crate::payload::PresenceRequest::header
+/// [`Discovery::header`]: crate::payload::Discovery::header
 /// [`Connect::header`]: crate::payload::Connect::header
 /// [`Piece::header`]: crate::Piece::header
 #[derive(Clone, Copy, Debug, PartialEq, Eq, Hash)]
@@ -226,6 +226,15 @@ impl<'a> Message<'a> {
             // A message that was read has a payload of document 01: else it was refused with 14.
             MessageType::Connect => Connect::read(self.payload).ok(),
             MessageType::Discovery | MessageType::Session => None,
+        }
+    }
+
+    /// What a Discovery message says; none where it is another message, whatever its bytes.
+    pub fn discovery(&self) -> Option<Discovery<'a>> {
+        match self.header.message_type {
+            // As above: else it was refused with 14.
+            MessageType::Discovery => Discovery::read(self.payload).ok(),
+            MessageType::Connect | MessageType::Session => None,
         }
     }
 }

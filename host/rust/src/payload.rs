@@ -29,6 +29,9 @@
 //! assert_eq!(came.connect(), Some(request));
 //! # Ok::<(), Refusal>(())
 //! ```
+//!
+//! Before that somebody may ask who is there, by a presence call, which the hub answers by its
+//! name. These are the two kinds of [`Discovery`], both plain.
 
 use crate::message::part;
 use crate::{ffi, Header, MessageType, Refusal};
@@ -41,6 +44,13 @@ pub const MOST_CERTIFICATE: usize = 2_048;
 
 /// The longest thumbprint; it may be empty.
 pub const MOST_THUMBPRINT: usize = 512;
+
+/// The longest name of a Presence Response; it may be empty.
+pub const MOST_NAME: usize = 64;
+
+// The types of Discovery payloads: DiscoveryType, their first byte.
+const PRESENCE_REQUEST: u64 = 0;
+const PRESENCE_RESPONSE: u64 = 1;
 
 // The types of Connect payloads: the byte after ConnectionMode.
 const CONNECTION_REQUEST: u64 = 0;
@@ -55,7 +65,8 @@ fn fixed<const N: usize>(part: &[u8]) -> Result<[u8; N], Refusal> {
     part.try_into().map_err(|_| Refusal::Unknown)
 }
 
-/// ConnectionMode of a Connect payload, by MS-CDP's names. The hub makes nothing of it.
+/// ConnectionMode of a Connect payload and of a Presence Response, by MS-CDP's names. The hub makes
+/// nothing of it.
 #[derive(Clone, Copy, Debug, Default, PartialEq, Eq, Hash)]
 #[repr(u16)]
 pub enum Mode {
@@ -78,6 +89,40 @@ impl Mode {
     pub fn from_number(number: u16) -> Option<Mode> {
         [Mode::None, Mode::Proximal, Mode::Legacy].get(usize::from(number)).copied()
     }
+
+    fn from_word(word: u64) -> Result<Mode, Refusal> {
+        u16::try_from(word).ok().and_then(Mode::from_number).ok_or(Refusal::Unknown)
+    }
+}
+
+/// DeviceType of a Presence Response: its number on the wire, which may be any. The constants have
+/// MS-CDP's names. The hub makes nothing of it.
+#[derive(Clone, Copy, Debug, PartialEq, Eq, Hash)]
+pub struct DeviceType(pub u16);
+
+impl DeviceType {
+    /// Xbox One.
+    pub const XBOX_ONE: DeviceType = DeviceType(1);
+    /// Apple iPhone.
+    pub const IPHONE: DeviceType = DeviceType(6);
+    /// Apple iPad.
+    pub const IPAD: DeviceType = DeviceType(7);
+    /// Android device.
+    pub const ANDROID: DeviceType = DeviceType(8);
+    /// Windows 10 Desktop.
+    pub const WINDOWS_DESKTOP: DeviceType = DeviceType(9);
+    /// Windows 10 Phone.
+    pub const WINDOWS_PHONE: DeviceType = DeviceType(11);
+    /// Linux device.
+    pub const LINUX: DeviceType = DeviceType(12);
+    /// Windows IoT.
+    pub const WINDOWS_IOT: DeviceType = DeviceType(13);
+    /// Surface Hub.
+    pub const SURFACE_HUB: DeviceType = DeviceType(14);
+    /// Windows laptop.
+    pub const WINDOWS_LAPTOP: DeviceType = DeviceType(15);
+    /// Windows tablet.
+    pub const WINDOWS_TABLET: DeviceType = DeviceType(16);
 }
 
 /// One side's half of the key agreement: what a Connection Request carries, and a Connection
@@ -154,7 +199,8 @@ impl Status {
     }
 }
 
-/// The payload of a Presence Request, a Discovery message: it asks who is there.
+/// The payload of a Presence Request, a Discovery message: it asks who is there. It is what
+/// [`Discovery::PresenceRequest`] is, for those who write nothing else.
 #[derive(Clone, Copy, Debug, Default, PartialEq, Eq, Hash)]
 pub struct PresenceRequest;
 
@@ -181,6 +227,160 @@ impl PresenceRequest {
             )
         })?;
         Ok(length[0] as usize)
+    }
+}
+
+/// What a Presence Response says: who is there. Everybody hears it, and anybody can make one.
+#[derive(Clone, Copy, Debug, PartialEq, Eq, Hash)]
+pub struct Presence<'a> {
+    /// ConnectionMode.
+    pub mode: Mode,
+    /// DeviceType.
+    pub device: DeviceType,
+    /// The device's name, at most [`MOST_NAME`] bytes. They may be any: `name.escape_ascii()` shows
+    /// them as they can be printed, `core::str::from_utf8` says whether they are text.
+    pub name: &'a [u8],
+    /// DeviceIdSalt: random.
+    pub salt: [u8; 4],
+    /// DeviceIdHash, which the device makes over what is private to it. By MS-CDP it is a salted
+    /// SHA-256 of its ID, of which document 01 has 4 bytes. Whoever can guess the ID can test the
+    /// guess by them.
+    pub hash: [u8; 4],
+}
+
+/// The payload of a Discovery message, which is plain. Later versions may have more kinds of them.
+///
+/// A hub answers a presence call by its name:
+///
+/// ```
+/// use hlidunsk::payload::{DeviceType, Discovery, Mode, Presence, MOST_PAYLOAD};
+/// use hlidunsk::{digest, read, write, Refusal, MOST_REPLY, NO_ENTRIES};
+///
+/// /// Writes the answer to a message, where it is a presence call; answers its length.
+/// fn answer(came: &[u8], us: Presence, out: &mut [u8]) -> Result<Option<usize>, Refusal> {
+///     let came = read(came, None, &mut [])?; // it is plain: no keys, and no room to open it in
+///     if came.discovery() != Some(Discovery::PresenceRequest) {
+///         return Ok(None);
+///     }
+///     let response = Discovery::PresenceResponse(us);
+///     let mut payload = [0; MOST_PAYLOAD];
+///     let length = response.write(&mut payload)?;
+///     let header = response.header(came.header.request);
+///     write(&header, NO_ENTRIES, &payload[..length], None, out).map(Some)
+/// }
+///
+/// // The salt is random, and the device's ID private.
+/// let salt = *b"salt";
+/// let [a, b, c, d, ..] = digest(b"salt, and the ID of a device");
+/// let (mode, device, name) = (Mode::Proximal, DeviceType::LINUX, &b"hub of Blaye"[..]);
+/// let us = Presence { mode, device, name, salt, hash: [a, b, c, d] };
+///
+/// // A tablet calls.
+/// let (mut payload, mut call, mut came) = ([0; 1], [0; 43], [0; MOST_REPLY]);
+/// let request = Discovery::PresenceRequest;
+/// request.write(&mut payload)?;
+/// write(&request.header(7), NO_ENTRIES, &payload, None, &mut call)?;
+///
+/// let length = answer(&call, us, &mut came)?.expect("it is a call");
+/// let message = read(&came[..length], None, &mut [])?;
+/// assert_eq!(message.header.request, 7);
+/// match message.discovery() {
+///     Some(Discovery::PresenceResponse(Presence { name, .. })) => {
+///         // A name may be any bytes.
+///         assert_eq!(name.escape_ascii().to_string(), "hub of Blaye");
+///     }
+///     other => panic!("{other:?}"),
+/// }
+///
+/// // An answer is no call.
+/// assert_eq!(answer(&came[..length], us, &mut call), Ok(None));
+/// # Ok::<(), Refusal>(())
+/// ```
+#[derive(Clone, Copy, Debug, PartialEq, Eq, Hash)]
+#[non_exhaustive]
+pub enum Discovery<'a> {
+    /// Presence Request, a presence call: somebody asks who is there.
+    PresenceRequest,
+    /// Presence Response: the answer to it.
+    PresenceResponse(Presence<'a>),
+}
+
+impl<'a> Discovery<'a> {
+    /// The header of its message: plain, with this RequestID, and 0 in every other field that may
+    /// be. An answer has the RequestID of the call.
+    pub fn header(&self, request: u64) -> Header {
+        Header { request, ..Header::whole(MessageType::Discovery, false) }
+    }
+
+    /// Writes the payload at the front of `out`, and answers its length: 1 for a Presence Request,
+    /// 15 and the name's for a Presence Response. What is beyond it is unchanged.
+    ///
+    /// # Errors
+    ///
+    /// Refusal 14 where the name has over [`MOST_NAME`] bytes, then 22 where `out` is too short.
+    /// `out` is as it was.
+    pub fn write(&self, out: &mut [u8]) -> Result<usize, Refusal> {
+        let Discovery::PresenceResponse(Presence { mode, device, name, salt, hash }) = self else {
+            return PresenceRequest.write(out);
+        };
+        let mut length = [0];
+        // SAFETY: pointers and lengths are those of slices; the mutable ones overlap no other.
+        Refusal::of(unsafe {
+            ffi::hub_write_presence_response(
+                mode.number().into(),
+                device.0.into(),
+                name.as_ptr(),
+                name.len(),
+                salt.as_ptr(),
+                salt.len(),
+                hash.as_ptr(),
+                hash.len(),
+                out.as_mut_ptr(),
+                out.len(),
+                length.as_mut_ptr(),
+                length.len(),
+            )
+        })?;
+        Ok(length[0] as usize)
+    }
+
+    /// Reads the payload of a Discovery message. A name is a part of it.
+    ///
+    /// The payload alone does not tell a Discovery message from a Session message, whose payload
+    /// may be any bytes: ask the header's [`message_type`](Header::message_type) first, as
+    /// [`Message::discovery`](crate::Message::discovery) does.
+    ///
+    /// # Errors
+    ///
+    /// Refusal 14 where it is neither of document 01's two.
+    pub fn read(payload: &'a [u8]) -> Result<Discovery<'a>, Refusal> {
+        let mut words = [0; 9];
+        // SAFETY: pointers and lengths are those of slices; the two do not overlap.
+        Refusal::of(unsafe {
+            ffi::hub_read_discovery(
+                payload.as_ptr(),
+                payload.len(),
+                words.as_mut_ptr(),
+                words.len(),
+            )
+        })?;
+        Discovery::from_words(&words, payload)
+    }
+
+    /// The library's words are numbers of document 01, and name parts of the payload.
+    fn from_words(words: &[u64; 9], payload: &'a [u8]) -> Result<Discovery<'a>, Refusal> {
+        let [discovery, mode, device, name, name_n, salt, salt_n, hash, hash_n] = *words;
+        match discovery {
+            PRESENCE_REQUEST => Ok(Discovery::PresenceRequest),
+            PRESENCE_RESPONSE => Ok(Discovery::PresenceResponse(Presence {
+                mode: Mode::from_word(mode)?,
+                device: DeviceType(u16::try_from(device).map_err(|_| Refusal::Unknown)?),
+                name: part(payload, name, name_n)?,
+                salt: fixed(part(payload, salt, salt_n)?)?,
+                hash: fixed(part(payload, hash, hash_n)?)?,
+            })),
+            _ => Err(Refusal::Unknown),
+        }
     }
 }
 
@@ -372,7 +572,7 @@ impl<'a> Connect<'a> {
         };
         let certificate = part(payload, shown, shown_n)?;
         let thumbprint = part(payload, print, print_n)?;
-        let mode = u16::try_from(mode).ok().and_then(Mode::from_number).ok_or(Refusal::Unknown)?;
+        let mode = Mode::from_word(mode)?;
         Ok(match connect {
             CONNECTION_REQUEST => Connect::ConnectionRequest { mode, exchange: exchange()? },
             CONNECTION_RESPONSE => {

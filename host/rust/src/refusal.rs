@@ -23,7 +23,7 @@ use core::fmt;
 /// |---|---|
 /// | 17 | a late copy of a report that is complete |
 /// | 11 | damaged or foreign bytes. Of every sealed message: the two sides have different keys |
-/// | 15, 16 | a stranger, an old request, or a gateway that starts over: try it on a new connection ([Strangers](crate#strangers)) |
+/// | 15, 16 | a stranger, an old request, or a gateway that starts over: try it on a new connection ([Strangers](crate#strangers)). 15 is also what every well-formed Discovery message gets ([Presence](crate#presence)) |
 /// | 18 | a report that comes too early: it is sent again, or lost. Again and again: the expected report will never be finished, and nothing later is taken; open anew, with new keys |
 /// | 2, 3 | in a stream: framing is lost; close it |
 /// | 20 | of a piece: the two sides have a different F |

@@ -1,7 +1,7 @@
 // SPDX-License-Identifier: MPL-2.0
 //! Each call of the wrapper by itself.
 
-use hlidunsk::payload::{Connect, Mode, PresenceRequest};
+use hlidunsk::payload::{Connect, Discovery, Mode, PresenceRequest};
 use hlidunsk::{cut, digest, hmac, list, read, read_header, same_tag, version, wanted, write};
 use hlidunsk::{Body, Header, MessageType, Refusal, MOST_READ, MOST_WRITTEN, NO_ENTRIES};
 
@@ -50,7 +50,9 @@ fn document_01s_first_examples() {
     assert_eq!(framed.header, PresenceRequest.header());
     assert_eq!(framed.body, Body::Payload(&[0]));
     assert_eq!(list(&message).unwrap(), "1 0 0 1 43");
-    assert_eq!(read(&message, None, &mut []).unwrap().payload, [0]);
+    let came = read(&message, None, &mut []).unwrap();
+    assert_eq!(came.payload, [0]);
+    assert_eq!(came.discovery(), Some(Discovery::PresenceRequest));
     assert_eq!(read_header(&message[..42]), Err(Refusal::WrongLength));
     assert_eq!(read_header(&message[..41]), Err(Refusal::TooShort));
     assert_eq!(list(&[]), Err(Refusal::TooShort));
@@ -139,6 +141,7 @@ fn headers_that_are_made() {
         channel: 0,
     };
     assert_eq!(PresenceRequest.header(), whole);
+    assert_eq!(Discovery::PresenceRequest.header(9), Header { request: 9, ..whole });
     let done = Connect::DoneRequest { mode: Mode::None }.header(5, 7);
     let connect = Header { message_type: MessageType::Connect, session: 5, sequence: 7, ..whole };
     assert_eq!(done, Header { flags: Header::SEALED, ..connect });

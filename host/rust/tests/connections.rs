@@ -1,7 +1,8 @@
 // SPDX-License-Identifier: MPL-2.0
 //! Connections: their states, their answers, the report buffer.
 
-use hlidunsk::payload::{Connect, Exchange, Mode, PresenceRequest, Status, MOST_PAYLOAD};
+use hlidunsk::payload::{Connect, DeviceType, Discovery, Exchange, Mode, Presence};
+use hlidunsk::payload::{PresenceRequest, Status, MOST_PAYLOAD};
 use hlidunsk::{cut, digest, write, Answer, Connection, Header, Keys, Refusal, Reply, State};
 use hlidunsk::{MessageType, MOST_WRITTEN, NO_ENTRIES};
 
@@ -189,6 +190,29 @@ fn states_and_their_numbers() {
         if number > 3 {
             for message in &messages {
                 assert_eq!(step(&mut hub, message, true), Err(Refusal::NotAllowed));
+            }
+        }
+    }
+}
+
+/// A presence call and its answer are refused in every state, and change nothing.
+#[test]
+fn a_presence_call_goes_to_no_connection() {
+    let (device, name) = (DeviceType::LINUX, &b"hub of Blaye"[..]);
+    let presence = Presence { mode: MODE, device, name, salt: [1; 4], hash: [2; 4] };
+    for discovery in [Discovery::PresenceRequest, Discovery::PresenceResponse(presence)] {
+        let mut payload = [0; MOST_PAYLOAD];
+        let length = discovery.write(&mut payload).unwrap();
+        for session in [0, SESSION] {
+            let header = Header { session, ..discovery.header(7) };
+            let came = message(header, &payload[..length]);
+            for number in 0..=255 {
+                let mut bytes = *ready_bytes();
+                bytes[8] = number;
+                let mut hub = Connection::from_bytes(bytes);
+                let answer = hub.step(&came, None, &mut [], &mut [], true);
+                assert_eq!(answer, Err(Refusal::NotAllowed));
+                assert_eq!(hub.as_bytes(), &bytes);
             }
         }
     }

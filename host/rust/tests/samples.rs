@@ -4,7 +4,7 @@
 use std::fs;
 use std::path::{Path, PathBuf};
 
-use hlidunsk::payload::{Connect, PresenceRequest, Status, MOST_PAYLOAD};
+use hlidunsk::payload::{Connect, Discovery, Status, MOST_PAYLOAD};
 use hlidunsk::{list, read, read_header, wanted, write, Answer, Body, Connection, Keys, Refusal};
 use hlidunsk::{MessageType, Reply, MOST_PIECES, MOST_SEALED, MOST_WRITTEN};
 
@@ -109,7 +109,7 @@ fn the_listings() {
 fn written_anew(message_type: MessageType, payload: &[u8]) -> Vec<u8> {
     let mut out = vec![0xEE; MOST_PAYLOAD];
     let length = match message_type {
-        MessageType::Discovery => PresenceRequest.write(&mut out),
+        MessageType::Discovery => Discovery::read(payload).unwrap().write(&mut out),
         MessageType::Connect => Connect::read(payload).unwrap().write(&mut out),
         _ => return payload.to_vec(),
     };
@@ -141,5 +141,5 @@ fn what_is_read_is_written_to_the_same_bytes() {
         assert!(out[length..].iter().all(|byte| *byte == 0xEE));
         count += 1;
     }
-    assert_eq!(count, 25);
+    assert_eq!(count, 28);
 }
