@@ -14,7 +14,7 @@ use second::header::Header;
 
 use crate::hub::BEFORE;
 use crate::hub_h::Hub;
-use crate::payloads::{Call, Writer};
+use crate::payloads::{Call, PresenceCall, Writer};
 
 /// The fuzzer's bytes, read from the front; after their end all is zero.
 struct Tape<'a>(&'a [u8]);
@@ -157,6 +157,19 @@ fn payload(tape: &mut Tape<'_>) -> Call {
     }
 }
 
+/// A call of the Presence Response's writer, by words of any width and buffers of any size.
+fn presence(tape: &mut Tape<'_>) -> PresenceCall {
+    PresenceCall {
+        mode: tape.word(),
+        device: tape.word(),
+        name: tape.bytes(),
+        salt: tape.fixed(4, 1),
+        hash: tape.fixed(4, 2),
+        length: vec![BEFORE; usize::from(1 ^ (tape.byte() % 4))],
+        out: vec![0xEE; tape.number(2) as usize],
+    }
+}
+
 /// One input of the fuzzer: its first byte chooses the call.
 pub fn one(comparison: &mut Comparison<Hub>, data: &[u8]) -> Result<(), Difference> {
     let mut tape = Tape(data);
@@ -170,6 +183,10 @@ pub fn one(comparison: &mut Comparison<Hub>, data: &[u8]) -> Result<(), Differen
             let report = vec![0x55; tape.number(2) as usize];
             let connection = made_up(&mut tape);
             steps(comparison, &mut tape, connection, report)
+        }
+        7 => {
+            presence(&mut tape).judge(&mut comparison.other);
+            Ok(())
         }
         other => of_four(comparison, tape, other % 4),
     }
@@ -218,10 +235,33 @@ fn spell_payload(writer: u8, kind: u8, mode: [u8; 2], code: u8) -> Vec<u8> {
     [&[4, writer][..], &words, &[0, 0, 0, 0, 0x0B, 0xB8, 0, 11, 0, 5]].concat()
 }
 
+/// The tape of a call of the Presence Response's writer, into an output of 3,000 bytes.
+fn spell_presence(mode: [u8; 2], name: &[u8]) -> Vec<u8> {
+    let [mode, bit] = mode;
+    let length = name.len().try_into().expect("a short name");
+    let front = [7, 0, mode, bit, 0, 12, 0, length];
+    [&front, name, &[0, 0, 0, 0x0B, 0xB8]].concat()
+}
+
+/// Tapes of Presence Responses: calls of the writer with names of no byte, some, 64 and 65, one with
+/// a mode that is 3 and one with a mode that is too wide; payloads to be read, the last with a byte
+/// after its end; and a good one and a bad one in a message that comes.
+fn presence_seeds() -> Vec<Vec<u8>> {
+    let good = b"\x01\0\x02\0\x0E\0\x05a hubsalthash";
+    let longer = [&good[..], &[0]].concat();
+    let mut seeds = vec![spell_presence([3, 0], b"a hub"), spell_presence([1, 16], b"a hub")];
+    seeds.extend([0, 5, 64, 65].map(|length| spell_presence([2, 0], &vec![b'n'; length])));
+    let read: [&[u8]; 3] = [&[0], good, &longer];
+    seeds.extend(read.map(|payload| [&[5][..], payload].concat()));
+    let come = [&good[..], &longer].map(|payload| spell(1, 0, 0, 1, payload));
+    seeds.extend(come.map(|message| [&[0, 8, 3, 0, 4][..], &message].concat()));
+    seeds
+}
+
 /// Tapes to start from: an enrolment and a report of two pieces, whole and each message by itself in
 /// the state that waits for it; a call of the writer and one of the cutter; a call of each payload's
 /// writer, one with a mode that is too wide, and each payload to be read; the last missing piece of a
-/// report, with a report buffer of its length and a short one.
+/// report, with a report buffer of its length and a short one; Presence Responses.
 pub fn seeds() -> Vec<Vec<u8>> {
     let mut request = [0; 86];
     request[..20].copy_from_slice(b"\0\0\0\0\0\x20a nonce!\0\0\x40\0\0\x20");
@@ -252,6 +292,7 @@ pub fn seeds() -> Vec<Vec<u8>> {
     let last_heard = [2, 0, 0, 0, 0, 0, 0, 0, 2, 0, 4, 8, 3, 0];
     let (_, first) = &messages[5];
     seeds.extend([12, 11].map(|room| [&[6, 0, room][..], &last_heard, first].concat()));
+    seeds.extend(presence_seeds());
     seeds
 }
 

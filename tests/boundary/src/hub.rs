@@ -8,11 +8,11 @@ use second::compare::{Implementation, Piece, Second};
 use second::connection::{Answer, Connection};
 use second::header::{Framed, Header, Kind};
 use second::message::{Message, Place};
-use second::payload::{Connect, Credentials, Offer, Parts};
+use second::payload::{Connect, Credentials, DiscoveryParts, Offer, Parts, Presence};
 use second::refusal::Refusal;
 
-use crate::hub_h::{Hub, WRONG_BUFFER, answer_words, connect_words, header_words, kinds};
-use crate::hub_h::{piece_words, place_words, sealed};
+use crate::hub_h::{Hub, WRONG_BUFFER, answer_words, connect_words, discovery_words};
+use crate::hub_h::{header_words, kinds, piece_words, place_words, sealed};
 use crate::state::{STATE, decode, encode};
 
 /// What stands in an output before a call.
@@ -104,6 +104,20 @@ pub fn parts_of(words: &[u64; 13]) -> Parts {
     }
 }
 
+/// What the words say of a Discovery payload.
+fn discovery_parts_of(words: &[u64; 9]) -> DiscoveryParts {
+    let [kind, mode, device, parts @ ..] = by_name(words, discovery_words());
+    let part = |at: usize| fits(parts[2 * at])..fits(parts[2 * at] + parts[2 * at + 1]);
+    DiscoveryParts {
+        kind: fits(kind),
+        mode: fits(mode),
+        device: fits(device),
+        name: part(0),
+        salt: part(1),
+        hash: part(2),
+    }
+}
+
 /// A step's answer.
 pub fn answer_of(words: &[u64; 3]) -> Answer {
     let [kind, value, length, status] = by_name(words, answer_words());
@@ -186,6 +200,18 @@ impl Implementation for Hub {
         Ok(fits(unless_refused(number, length)?[0]))
     }
 
+    fn write_presence_response(
+        &mut self,
+        presence: Presence<'_>,
+        output: &mut [u8],
+    ) -> Result<usize, Refusal> {
+        let Presence { mode, device, name, salt, hash } = presence;
+        let (parts, mut length) = ([name, &salt, &hash], [BEFORE]);
+        let (mode, device) = (mode.into(), device.into());
+        let number = Hub::write_presence_response(self, mode, device, parts, output, &mut length);
+        Ok(fits(unless_refused(number, length)?[0]))
+    }
+
     fn write_connect(
         &mut self,
         mode: u16,
@@ -222,6 +248,15 @@ impl Implementation for Hub {
         let mut words = [BEFORE; 13];
         let number = Hub::read_connect(self, payload, &mut words);
         Ok(parts_of(&unless_refused(number, words)?))
+    }
+
+    fn read_discovery(&mut self, payload: &[u8]) -> Result<DiscoveryParts, Refusal> {
+        let mut words = [BEFORE; 9];
+        let answer = refusal(Hub::read_discovery(self, payload, &mut words));
+        // A Presence Request is done, and its words are all 0 too.
+        let zeros = answer.is_err() || payload == [0];
+        assert_eq!(zeros, words == [0; 9], "{answer:?}, and the words {words:?}");
+        answer.map(|()| discovery_parts_of(&words))
     }
 
     fn wanted(&mut self, bytes: &[u8]) -> usize {

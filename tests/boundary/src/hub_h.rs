@@ -63,6 +63,20 @@ mod through {
         ) -> u32;
         pub fn through_write_presence_request(o: *mut u8, on: usize, l: *mut u64, ln: usize)
         -> u32;
+        pub fn through_write_presence_response(
+            m: u64,
+            d: u64,
+            n: *const u8,
+            nn: usize,
+            s: *const u8,
+            sn: usize,
+            h: *const u8,
+            hn: usize,
+            o: *mut u8,
+            on: usize,
+            l: *mut u64,
+            ln: usize,
+        ) -> u32;
         pub fn through_write_connection_request(
             m: u64,
             n: *const u8,
@@ -118,6 +132,7 @@ mod through {
             ln: usize,
         ) -> u32;
         pub fn through_read_connect(p: *const u8, pn: usize, c: *mut u64, cn: usize) -> u32;
+        pub fn through_read_discovery(p: *const u8, pn: usize, d: *mut u64, dn: usize) -> u32;
         pub fn through_wanted(b: *const u8, bn: usize) -> u32;
         pub fn through_open(f: u64, s: *mut u8, sn: usize) -> u32;
         pub fn through_step(
@@ -147,13 +162,14 @@ mod through {
         pub static through_version_here: u32;
         pub static through_refusals: [u32; 27];
         pub static through_no_entries_n: usize;
-        pub static through_sizes: [usize; 13];
-        pub static through_bounds: [usize; 10];
+        pub static through_sizes: [usize; 16];
+        pub static through_bounds: [usize; 11];
         pub static through_header_words: [usize; 11];
         pub static through_place_words: [usize; 3];
         pub static through_answer_words: [usize; 4];
         pub static through_piece_words: [usize; 3];
         pub static through_connect_words: [usize; 13];
+        pub static through_discovery_words: [usize; 9];
         pub static through_state_places: [usize; 13];
         pub static through_kinds: [u64; 7];
         pub static through_sealed: [u64; 3];
@@ -162,6 +178,8 @@ mod through {
         pub static through_connects: [u64; 7];
         pub static through_modes: [u64; 3];
         pub static through_codes: [u64; 5];
+        pub static through_discoveries: [u64; 2];
+        pub static through_devices: [u64; 11];
         pub static through_states: [u64; 5];
     }
 }
@@ -180,13 +198,14 @@ constants! {
     version_here: u32 = through_version_here, "The header's version.";
     refusals: [u32; 27] = through_refusals, "Done, the refusals in document 01's order, wrong buffer.";
     no_entries_n: usize = through_no_entries_n, "Bytes of the chain without entries.";
-    sizes: [usize; 13] = through_sizes, "State, header, fields, place, answer, piece, length, digest, keys, line, connect, nonce, X and Y.";
-    bounds: [usize; 10] = through_bounds, "Least and most message, most read, most sealed, pieces, F, certificate, thumbprint, payload, reply.";
+    sizes: [usize; 16] = through_sizes, "State, header, fields, place, answer, piece, length, digest, keys, line, connect, nonce, X and Y, discovery, salt, hash.";
+    bounds: [usize; 11] = through_bounds, "Least and most message, most read, most sealed, pieces, F, certificate, thumbprint, payload, reply, name.";
     header_words: [usize; 11] = through_header_words, "Type to size.";
     place_words: [usize; 3] = through_place_words, "Buffer, from, size.";
     answer_words: [usize; 4] = through_answer_words, "Kind, value, length, Status.";
     piece_words: [usize; 3] = through_piece_words, "Count, from, size.";
     connect_words: [usize; 13] = through_connect_words, "Type, mode, code; nonce, X, Y, certificate and thumbprint, each from and size.";
+    discovery_words: [usize; 9] = through_discovery_words, "Type, mode, device; name, salt and hash, each from and size.";
     state_places: [usize; 13] = through_state_places, "Fragment size to last length, and the end.";
     kinds: [u64; 7] = through_kinds, "Refused, Reply, Again, Failure, Taken, Repeat, Complete.";
     sealed: [u64; 3] = through_sealed, "Plain, opened, still sealed.";
@@ -195,6 +214,8 @@ constants! {
     connects: [u64; 7] = through_connects, "The Connect types, in order, and Failure.";
     modes: [u64; 3] = through_modes, "ConnectionMode: None, Proximal, Legacy.";
     codes: [u64; 5] = through_codes, "Success, Pending, Failure_Authentication, _NotAllowed, _Unknown.";
+    discoveries: [u64; 2] = through_discoveries, "DiscoveryType: Presence Request, Presence Response.";
+    devices: [u64; 11] = through_devices, "DeviceType, in the order of the documents' table.";
     states: [u64; 5] = through_states, "Waiting for a request, for authentication, Passed, Ready, Failed.";
 }
 
@@ -382,6 +403,31 @@ impl Hub {
         number
     }
 
+    /// `hub_write_presence_response`, with name, salt and hash.
+    pub fn write_presence_response(
+        &mut self,
+        mode: u64,
+        device: u64,
+        [name, salt, hash]: [&[u8]; 3],
+        out: &mut [u8],
+        length: &mut [u64],
+    ) -> u32 {
+        let (n, s, h) = (self.chain.lend(name), self.keys.lend(salt), self.payload.lend(hash));
+        let (o, l) = (self.out.lend(out), self.words.lend_words(length));
+        let (nn, sn, hn, on, ln) = (name.len(), salt.len(), hash.len(), out.len(), length.len());
+        let number = unsafe {
+            through::through_write_presence_response(
+                mode, device, n, nn, s, sn, h, hn, o, on, l, ln,
+            )
+        };
+        self.chain.unchanged(name);
+        self.keys.unchanged(salt);
+        self.payload.unchanged(hash);
+        self.out.give_back(out);
+        self.words.give_back_words(length);
+        number
+    }
+
     /// `hub_write_connection_request`, with nonce, X and Y.
     pub fn write_connection_request(
         &mut self,
@@ -484,6 +530,16 @@ impl Hub {
         let number = unsafe { through::through_read_connect(p, payload.len(), c, connect.len()) };
         self.payload.unchanged(payload);
         self.words.give_back_words(connect);
+        number
+    }
+
+    /// `hub_read_discovery`.
+    pub fn read_discovery(&mut self, payload: &[u8], discovery: &mut [u64]) -> u32 {
+        let (p, d) = (self.payload.lend(payload), self.words.lend_words(discovery));
+        let (pn, dn) = (payload.len(), discovery.len());
+        let number = unsafe { through::through_read_discovery(p, pn, d, dn) };
+        self.payload.unchanged(payload);
+        self.words.give_back_words(discovery);
         number
     }
 

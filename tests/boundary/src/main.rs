@@ -15,7 +15,7 @@ use std::time::{Duration, Instant};
 
 use boundary::guard::Room;
 use boundary::hub_h::{self, Hub};
-use boundary::payloads::any_payload;
+use boundary::payloads::{any_payload, any_presence};
 use boundary::samples::{self, samples};
 use boundary::sizes::{any_place, any_state, any_tag, every_wrong_size, long_message};
 use boundary::sizes::{wide_fields, wide_numbers};
@@ -67,23 +67,24 @@ fn beside(hub: &mut Hub, seed: u64, round: u64) {
             any_tag(hub, &mut prng);
             wide_numbers(hub, &mut prng);
             any_payload(hub, &mut prng);
+            any_presence(hub, &mut prng);
         }
         Ok(())
     });
 }
 
-/// The header's constants are what the library, document 01 and MS-CDP (2.2.2.3) go by.
+/// The header's constants are what the library, document 01 and MS-CDP (2.2.2.2, 2.2.2.3) go by.
 fn constants(hub: &Hub) {
     agree("constants", || {
         assert_eq!(hub.version(), hub_h::version_here());
         let numbers: Vec<u32> = (0..=25).chain([255]).collect();
         assert_eq!(hub_h::refusals()[..], numbers);
-        assert_eq!(hub_h::sizes(), [151, 11, 8, 3, 3, 3, 1, 32, 64, 64, 13, 8, 32]);
-        let bounds = [42, 18_530, 65_535, 65_456, 64, 16_384, 2_048, 512, 2_567, 2_650];
+        assert_eq!(hub_h::sizes(), [151, 11, 8, 3, 3, 3, 1, 32, 64, 64, 13, 8, 32, 9, 4, 4]);
+        let bounds = [42, 18_530, 65_535, 65_456, 64, 16_384, 2_048, 512, 2_567, 2_650, 64];
         assert_eq!(hub_h::bounds(), bounds);
         let (chain, payload) = (8 * 257 + 2, 7 + 2_048 + 512);
         assert_eq!(message_length(true, chain, 16_384), bounds[1]);
-        assert_eq!([payload, message_length(true, 2, payload)], bounds[8..]);
+        assert_eq!([payload, message_length(true, 2, payload)], bounds[8..10]);
         assert_eq!(hub_h::no_entries(), [0, 0]);
         assert_eq!(hub_h::kinds(), [0, 1, 2, 3, 4, 5, 6]);
         assert_eq!(hub_h::sealed(), [0, 1, 2]);
@@ -92,8 +93,11 @@ fn constants(hub: &Hub) {
         assert_eq!(hub_h::connects(), [0, 1, 2, 3, 6, 7, 8]);
         assert_eq!(hub_h::modes(), [0, 1, 2]);
         assert_eq!(hub_h::codes(), [0, 1, 2, 3, 4]);
+        assert_eq!(hub_h::discoveries(), [0, 1]);
+        assert_eq!(hub_h::devices(), [1, 6, 7, 8, 9, 11, 12, 13, 14, 15, 16]);
         assert_eq!(hub_h::states(), State::ALL.map(|state| state as u64));
         assert_eq!(hub_h::connect_words(), std::array::from_fn(|place| place));
+        assert_eq!(hub_h::discovery_words(), std::array::from_fn(|place| place));
         Ok(())
     });
 }
@@ -174,7 +178,8 @@ fn test(rounds: u64) {
     println!("boundary: in these steps {}", all_came(&comparison.other));
     println!(
         "boundary: alike: {} each of steps on states of any bytes, writes with wide words, places by \
-         any words, tags compared, numbers of 64 bits, payloads of any words",
+         any words, tags compared, numbers of 64 bits, payloads of any words, Presence Responses of \
+         any words",
         4 * rounds
     );
     let mut faults = Comparison::new(Hub::default());

@@ -1,16 +1,37 @@
 // SPDX-License-Identifier: MPL-2.0
-//! The payloads' writers with words of any value and buffers of any size. What they must answer is
-//! include/hub.h's rule of wrong buffers, and for all else the second implementation.
+//! The payloads' writers with words of any value and buffers of any size, and the reader of Discovery
+//! payloads with any number of words. What they must answer is include/hub.h's rule of wrong buffers,
+//! and for all else the second implementation.
 
-use second::generate::{PayloadCase, payload_case};
-use second::payload::{Offer, write_presence_request};
+use std::fmt::Debug;
+
+use second::generate::{PayloadCase, PresenceCase, discovery_bytes, payload_case, presence_case};
+use second::payload::{Offer, Presence, write_presence_request, write_presence_response};
 use second::prng::Prng;
 use second::refusal::Refusal;
 
 use crate::hub::{BEFORE, number_of};
 use crate::hub_h::{Hub, WRONG_BUFFER};
 
-/// A writer of payloads.
+/// What a writer returns, and what output and length hold then.
+type Outcome = (u32, Vec<u8>, Vec<u64>);
+
+/// What was found is what was expected. Answers what was returned, and the payload, of no bytes if it
+/// is refused.
+fn compare(call: &dyn Debug, found: Outcome, expected: &Outcome) -> (u32, Vec<u8>) {
+    let (number, mut out, length) = found;
+    assert!(
+        (number, &out, &length) == (expected.0, &expected.1, &expected.2),
+        "{call:?}: {number} {length:?}, not {} {:?}; output alike: {}",
+        expected.0,
+        expected.2,
+        out == expected.1
+    );
+    out.truncate(if number == 0 { length[0] as usize } else { 0 });
+    (number, out)
+}
+
+/// A writer of payloads but the Presence Response's.
 #[derive(Clone, Copy, Debug, PartialEq, Eq)]
 pub enum Writer {
     /// `hub_write_presence_request`.
@@ -139,7 +160,7 @@ impl Call {
     }
 
     /// What must be returned, and what output and length must hold then.
-    fn expected(&self) -> (u32, Vec<u8>, Vec<u64>) {
+    fn expected(&self) -> Outcome {
         if self.is_wrong() {
             return (WRONG_BUFFER, self.out.clone(), self.length.clone());
         }
@@ -148,7 +169,7 @@ impl Call {
     }
 
     /// What is returned, and what output and length hold then.
-    fn made(&self, hub: &mut Hub) -> (u32, Vec<u8>, Vec<u64>) {
+    fn made(&self, hub: &mut Hub) -> Outcome {
         let Call { kind, mode, code, certificate, thumbprint, .. } = self;
         let offer = [&self.nonce[..], &self.x, &self.y];
         let (mut out, mut length) = (self.out.clone(), self.length.clone());
@@ -169,17 +190,7 @@ impl Call {
     /// Makes the call and compares all that it may change. Answers what was returned, and the payload,
     /// of no bytes if it is refused.
     pub fn judge(&self, hub: &mut Hub) -> (u32, Vec<u8>) {
-        let (number, mut out, length) = self.made(hub);
-        let expected = self.expected();
-        assert!(
-            (number, &out, &length) == (expected.0, &expected.1, &expected.2),
-            "{self:?}: {number} {length:?}, not {} {:?}; output alike: {}",
-            expected.0,
-            expected.2,
-            out == expected.1
-        );
-        out.truncate(if number == 0 { length[0] as usize } else { 0 });
-        (number, out)
+        compare(self, self.made(hub), &self.expected())
     }
 }
 
@@ -222,4 +233,108 @@ pub fn any_call(prng: &mut Prng) -> Call {
 /// A call of any payload's writer.
 pub fn any_payload(hub: &mut Hub, prng: &mut Prng) {
     any_call(prng).judge(hub);
+}
+
+/// A call of `hub_write_presence_response`.
+#[derive(Clone, Debug, PartialEq, Eq)]
+pub struct PresenceCall {
+    /// ConnectionMode.
+    pub mode: u64,
+    /// DeviceType.
+    pub device: u64,
+    /// The name.
+    pub name: Vec<u8>,
+    /// DeviceIdSalt.
+    pub salt: Vec<u8>,
+    /// DeviceIdHash.
+    pub hash: Vec<u8>,
+    /// The output.
+    pub out: Vec<u8>,
+    /// The words of the length.
+    pub length: Vec<u64>,
+}
+
+impl PresenceCall {
+    /// The call that a case describes.
+    pub fn new(case: PresenceCase) -> PresenceCall {
+        let PresenceCase { mode, device, name, salt, hash, output } = case;
+        PresenceCall {
+            mode: mode.into(),
+            device: device.into(),
+            name,
+            salt: salt.to_vec(),
+            hash: hash.to_vec(),
+            out: output,
+            length: vec![BEFORE],
+        }
+    }
+
+    /// What must be returned, and what output and length must hold then. A wrong buffer is a salt, a
+    /// hash or a length of another size, or a word too wide for its field.
+    fn expected(&self) -> Outcome {
+        let (mut out, mut length) = (self.out.clone(), self.length.clone());
+        let words = (u16::try_from(self.mode), u16::try_from(self.device));
+        let parts = (self.salt[..].try_into(), self.hash[..].try_into());
+        let ((Ok(mode), Ok(device)), (Ok(salt), Ok(hash)), [written]) =
+            (words, parts, &mut length[..])
+        else {
+            return (WRONG_BUFFER, out, length);
+        };
+        let presence = Presence { mode, device, name: &self.name, salt, hash };
+        let answer = write_presence_response(presence, &mut out);
+        *written = answer.unwrap_or(0) as u64;
+        (number_of(&answer), out, length)
+    }
+
+    /// What is returned, and what output and length hold then.
+    fn made(&self, hub: &mut Hub) -> Outcome {
+        let (mut out, mut length) = (self.out.clone(), self.length.clone());
+        let parts = [&self.name[..], &self.salt, &self.hash];
+        let (mode, device) = (self.mode, self.device);
+        let number = hub.write_presence_response(mode, device, parts, &mut out, &mut length);
+        (number, out, length)
+    }
+
+    /// Makes the call and compares all that it may change. Answers what was returned, and the payload,
+    /// of no bytes if it is refused.
+    pub fn judge(&self, hub: &mut Hub) -> (u32, Vec<u8>) {
+        compare(self, self.made(hub), &self.expected())
+    }
+}
+
+/// A call with words that may be wider than their fields and buffers that may have another size.
+fn any_presence_call(prng: &mut Prng) -> PresenceCall {
+    let mut call = PresenceCall::new(presence_case(prng));
+    if prng.chance(20) {
+        let wide = 1 << prng.pick(&[16, 17, 31, 32, 33, 63]);
+        let word = if prng.chance(50) { &mut call.mode } else { &mut call.device };
+        *word += wide;
+    }
+    if prng.chance(20) {
+        let size = prng.between(0, 8);
+        match prng.below(3) {
+            0 => call.salt.resize(size, 1),
+            1 => call.hash.resize(size, 2),
+            _ => call.length.resize(size % 4, BEFORE),
+        }
+    }
+    call
+}
+
+/// The reader of Discovery payloads with so many words, which are not nine: nothing changes. Answers
+/// what was returned.
+pub fn read_into(hub: &mut Hub, payload: &[u8], size: usize) -> u32 {
+    let mut words = vec![BEFORE; size];
+    let number = hub.read_discovery(payload, &mut words);
+    assert!(words == vec![BEFORE; size], "{payload:?}: {number}, and {size} words are {words:?}");
+    number
+}
+
+/// A call of the Presence Response's writer, and one of the reader of Discovery payloads whose words
+/// are too few or too many.
+pub fn any_presence(hub: &mut Hub, prng: &mut Prng) {
+    any_presence_call(prng).judge(hub);
+    let (payload, size) = (discovery_bytes(prng), prng.between(0, 20));
+    let size = if size == 9 { 0 } else { size };
+    assert_eq!(read_into(hub, &payload, size), WRONG_BUFFER, "{payload:?} {size}");
 }

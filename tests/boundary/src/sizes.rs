@@ -5,13 +5,14 @@
 use second::compare::{Comparison, Difference, Implementation, Second};
 use second::connection::{Answer, State};
 use second::crypto::hmac;
-use second::generate::{Case, WriteCase, case, cut_case, dress, gateway, payload_case, write_case};
+use second::generate::{Case, WriteCase, case, cut_case, discovery_bytes, dress, gateway};
+use second::generate::{payload_case, presence_case, write_case};
 use second::header::Header;
 use second::prng::Prng;
 
 use crate::hub::{BEFORE, answer_of, by_name, fields_of, number_of};
 use crate::hub_h::{Hub, WRONG_BUFFER, header_words, is_short};
-use crate::payloads::{Call, Writer};
+use crate::payloads::{Call, PresenceCall, Writer, read_into};
 use crate::state::{STATE, decode, encode, encode_next};
 
 /// Every size from 0 to a little more than the right one, but for that.
@@ -92,6 +93,21 @@ pub fn every_wrong_size(hub: &mut Hub, prng: &mut Prng, case: &Case, write: &Wri
         let mut words = vec![fill; size];
         let number = hub.read_connect(payload, &mut words);
         call("read_connect", number, words == vec![fill; size]);
+    }
+    for size in wrong(9) {
+        call("read_discovery", read_into(hub, &discovery_bytes(prng), size), true);
+    }
+    let mut judge = |prng: &mut Prng, change: &dyn Fn(&mut PresenceCall)| {
+        let mut changed = PresenceCall::new(presence_case(prng));
+        change(&mut changed);
+        call("the Presence Response's writer", changed.judge(hub).0, true);
+    };
+    for size in wrong(4) {
+        judge(prng, &|call| call.salt = vec![7; size]);
+        judge(prng, &|call| call.hash = vec![7; size]);
+    }
+    for size in wrong(1) {
+        judge(prng, &|call| call.length = vec![fill; size]);
     }
     let mut judge = |prng: &mut Prng, writer: Writer, change: &dyn Fn(&mut Call)| {
         let mut changed = Call::new(writer, payload_case(prng));

@@ -9,6 +9,7 @@ pub mod header;
 pub mod made_up;
 pub mod parts;
 pub mod payload;
+pub mod presence;
 pub mod sealed;
 pub mod short;
 pub mod streams;
@@ -89,15 +90,15 @@ pub fn all<I: Implementation>() -> Vec<Sweep<I>> {
 }
 
 /// The sweeps of what include/hub.h alone says: what its calls leave in their words, payloads,
-/// streams, short report buffers, texts.
+/// streams, short report buffers, texts, Presence Responses.
 pub fn of_header() -> Vec<Sweep<Hub>> {
     vec![
         Sweep::new(
             "a read that is refused after one that was done",
-            375,
+            420,
             words::refused_after_read,
         ),
-        Sweep::new("the words of a header as a place", 25, words::header_as_place),
+        Sweep::new("the words of a header as a place", 28, words::header_as_place),
         Sweep::new("each field of the writer at its edge", 69, words::fields_at_edges),
         Sweep::new("a step that is refused after one that was done", 26, words::refused_after_step),
         Sweep::new("values of payloads at their bounds and beyond", 2_384, values::bounds),
@@ -109,11 +110,11 @@ pub fn of_header() -> Vec<Sweep<Hub>> {
         Sweep::new("Connect payloads with a byte changed", 84_405, parts::changed),
         Sweep::new("payloads of 0 to 90 bytes read", 19_656, parts::short),
         Sweep::new("certificates and thumbprints read", 180, parts::credentials),
-        Sweep::new("the sample messages' payloads read", 25, parts::of_samples),
+        Sweep::new("the sample messages' payloads read", 28, parts::of_samples),
         Sweep::new("payloads written, sent, opened and read", 264, parts::there_and_back),
         Sweep::new("the next message, 0 to 50 bytes of it", 848, streams::cuts),
         Sweep::new("the next message, every length", 65_536, streams::lengths),
-        Sweep::new("the sample messages as a stream", 4_846, streams::of_samples),
+        Sweep::new("the sample messages as a stream", 5_256, streams::of_samples),
         Sweep::new("report buffers about a known length", 9_670, short::bounds),
         Sweep::new(
             "a short report buffer, every kind of message",
@@ -123,6 +124,23 @@ pub fn of_header() -> Vec<Sweep<Hub>> {
         Sweep::new("a report buffer of every size at the last piece", 41, short::complete),
         Sweep::new("verdicts of 64 bits, every kind of message", 3_360, short::verdicts),
         Sweep::new("the text of each number", 1_770, texts::texts),
+        Sweep::new("Presence Responses written, each length and mode", 1_620, presence::written),
+        Sweep::new("Presence Responses' words and sizes, 255 first", 624, presence::wrong_buffers),
+        Sweep::new("Discovery payloads read into 0 to 20 words", 126, presence::words),
+        Sweep::new("Presence Responses read, each length said", 243, presence::lengths),
+        Sweep::new("every DiscoveryType", 512, presence::types),
+        Sweep::new("Presence Responses' fields at their edges", 5_040, presence::fields_at_edges),
+        Sweep::new("Presence Responses cut at every length, and longer", 212, presence::cuts),
+        Sweep::new(
+            "messages of Presence Responses cut at every length",
+            728,
+            presence::message_cuts,
+        ),
+        Sweep::new("Presence Responses there and back", 243, presence::messages),
+        Sweep::new("names, salts and hashes that are no text", 19_456, presence::any_bytes),
+        Sweep::new("a step on a Presence Response, every state", 3_900, presence::steps),
+        Sweep::new("a sealed Presence Response", 390, presence::sealed),
+        Sweep::new("Discovery as Connect, Connect as Discovery", 477, presence::exchanged),
     ]
 }
 

@@ -14,6 +14,8 @@ uint32_t through_payload(const uint8_t *, size_t, const uint8_t *, size_t, const
 uint32_t through_write(const uint64_t *, size_t, const uint8_t *, size_t, const uint8_t *, size_t, const uint8_t *, size_t, uint8_t *, size_t,
                        uint64_t *, size_t);
 uint32_t through_write_presence_request(uint8_t *, size_t, uint64_t *, size_t);
+uint32_t through_write_presence_response(uint64_t, uint64_t, const uint8_t *, size_t, const uint8_t *, size_t, const uint8_t *, size_t, uint8_t *,
+                                         size_t, uint64_t *, size_t);
 uint32_t through_write_connection_request(uint64_t, const uint8_t *, size_t, const uint8_t *, size_t, const uint8_t *, size_t, uint8_t *, size_t,
                                           uint64_t *, size_t);
 uint32_t through_write_connection_response(uint64_t, uint64_t, const uint8_t *, size_t, const uint8_t *, size_t, const uint8_t *, size_t, uint8_t *,
@@ -23,6 +25,7 @@ uint32_t through_write_device_authentication(uint64_t, uint64_t, const uint8_t *
 uint32_t through_write_done_request(uint64_t, uint8_t *, size_t, uint64_t *, size_t);
 uint32_t through_write_done_response(uint64_t, uint64_t, uint8_t *, size_t, uint64_t *, size_t);
 uint32_t through_read_connect(const uint8_t *, size_t, uint64_t *, size_t);
+uint32_t through_read_discovery(const uint8_t *, size_t, uint64_t *, size_t);
 uint32_t through_wanted(const uint8_t *, size_t);
 uint32_t through_open(uint64_t, uint8_t *, size_t);
 uint32_t through_step(uint8_t *, size_t, const uint8_t *, size_t, const uint8_t *, size_t, uint8_t *, size_t, uint8_t *, size_t, uint64_t,
@@ -88,6 +91,12 @@ uint32_t through_write_presence_request(uint8_t *out, size_t out_n, uint64_t *le
     return hub_write_presence_request(out, out_n, length, length_n);
 }
 
+uint32_t through_write_presence_response(uint64_t mode, uint64_t device, const uint8_t *name, size_t name_n, const uint8_t *salt, size_t salt_n,
+                                         const uint8_t *hash, size_t hash_n, uint8_t *out, size_t out_n, uint64_t *length, size_t length_n)
+{
+    return hub_write_presence_response(mode, device, name, name_n, salt, salt_n, hash, hash_n, out, out_n, length, length_n);
+}
+
 uint32_t through_write_connection_request(uint64_t mode, const uint8_t *nonce, size_t nonce_n, const uint8_t *x, size_t x_n, const uint8_t *y,
                                           size_t y_n, uint8_t *out, size_t out_n, uint64_t *length, size_t length_n)
 {
@@ -122,6 +131,11 @@ uint32_t through_read_connect(const uint8_t *payload, size_t payload_n, uint64_t
     return hub_read_connect(payload, payload_n, connect, connect_n);
 }
 
+uint32_t through_read_discovery(const uint8_t *payload, size_t payload_n, uint64_t *discovery, size_t discovery_n)
+{
+    return hub_read_discovery(payload, payload_n, discovery, discovery_n);
+}
+
 uint32_t through_wanted(const uint8_t *bytes, size_t bytes_n)
 {
     return hub_wanted(bytes, bytes_n);
@@ -150,10 +164,10 @@ uint32_t through_list(const uint8_t *message, size_t message_n, uint8_t *line, s
 
 /* The constants of hub.h, in the order in which src/hub_h.rs names them. */
 extern const uint32_t through_version_here, through_refusals[27];
-extern const size_t through_no_entries_n, through_sizes[13], through_bounds[10], through_header_words[11], through_place_words[3],
-    through_answer_words[4], through_piece_words[3], through_connect_words[13], through_state_places[13];
+extern const size_t through_no_entries_n, through_sizes[16], through_bounds[11], through_header_words[11], through_place_words[3],
+    through_answer_words[4], through_piece_words[3], through_connect_words[13], through_discovery_words[9], through_state_places[13];
 extern const uint64_t through_kinds[7], through_sealed[3], through_types[3], through_flags[5], through_connects[7], through_modes[3],
-    through_codes[5], through_states[5];
+    through_codes[5], through_discoveries[2], through_devices[11], through_states[5];
 
 const uint32_t through_version_here = HUB_VERSION;
 const uint32_t through_refusals[27] = {
@@ -164,11 +178,12 @@ const uint32_t through_refusals[27] = {
     HUB_WRONG_PIECE_SIZE, HUB_UNLIKE_FIRST_PIECE, HUB_NO_ROOM,         HUB_UNLIKE_REPEAT,   HUB_WRONG_FRAGMENT_SIZE,
     HUB_WRONG_VERDICT,    HUB_WRONG_BUFFER};
 const size_t through_no_entries_n = HUB_NO_ENTRIES_N;
-const size_t through_sizes[13] = {
-    HUB_STATE_BYTES, HUB_HEADER_WORDS, HUB_FIELDS_WORDS, HUB_PLACE_WORDS, HUB_ANSWER_WORDS, HUB_PIECE_WORDS, HUB_LENGTH_WORDS,
-    HUB_DIGEST_BYTES, HUB_KEYS_BYTES, HUB_LINE_BYTES, HUB_CONNECT_WORDS, HUB_NONCE_BYTES, HUB_COORDINATE_BYTES};
-const size_t through_bounds[10] = {HUB_LEAST_MESSAGE,      HUB_MOST_WRITTEN,     HUB_MOST_READ,       HUB_MOST_SEALED,  HUB_MOST_PIECES,
-                                   HUB_MOST_FRAGMENT_SIZE, HUB_MOST_CERTIFICATE, HUB_MOST_THUMBPRINT, HUB_MOST_PAYLOAD, HUB_MOST_REPLY};
+const size_t through_sizes[16] = {
+    HUB_STATE_BYTES, HUB_HEADER_WORDS, HUB_FIELDS_WORDS, HUB_PLACE_WORDS, HUB_ANSWER_WORDS, HUB_PIECE_WORDS, HUB_LENGTH_WORDS, HUB_DIGEST_BYTES,
+    HUB_KEYS_BYTES, HUB_LINE_BYTES, HUB_CONNECT_WORDS, HUB_NONCE_BYTES, HUB_COORDINATE_BYTES, HUB_DISCOVERY_WORDS, HUB_SALT_BYTES, HUB_HASH_BYTES};
+const size_t through_bounds[11] = {HUB_LEAST_MESSAGE,      HUB_MOST_WRITTEN,     HUB_MOST_READ,       HUB_MOST_SEALED,  HUB_MOST_PIECES,
+                                   HUB_MOST_FRAGMENT_SIZE, HUB_MOST_CERTIFICATE, HUB_MOST_THUMBPRINT, HUB_MOST_PAYLOAD, HUB_MOST_REPLY,
+                                   HUB_MOST_NAME};
 const size_t through_header_words[11] = {
     HUB_HEADER_TYPE, HUB_HEADER_FLAGS, HUB_HEADER_SEQUENCE, HUB_HEADER_REQUEST, HUB_HEADER_INDEX, HUB_HEADER_COUNT, HUB_HEADER_SESSION,
     HUB_HEADER_CHANNEL, HUB_HEADER_SEALED, HUB_HEADER_FROM, HUB_HEADER_SIZE};
@@ -179,6 +194,9 @@ const size_t through_connect_words[13] = {
     HUB_CONNECT_TYPE, HUB_CONNECT_MODE, HUB_CONNECT_CODE, HUB_CONNECT_NONCE_FROM, HUB_CONNECT_NONCE_SIZE, HUB_CONNECT_X_FROM,
     HUB_CONNECT_X_SIZE, HUB_CONNECT_Y_FROM, HUB_CONNECT_Y_SIZE, HUB_CONNECT_CERTIFICATE_FROM, HUB_CONNECT_CERTIFICATE_SIZE,
     HUB_CONNECT_THUMBPRINT_FROM, HUB_CONNECT_THUMBPRINT_SIZE};
+const size_t through_discovery_words[9] = {
+    HUB_DISCOVERY_TYPE, HUB_DISCOVERY_MODE, HUB_DISCOVERY_DEVICE, HUB_DISCOVERY_NAME_FROM, HUB_DISCOVERY_NAME_SIZE, HUB_DISCOVERY_SALT_FROM,
+    HUB_DISCOVERY_SALT_SIZE, HUB_DISCOVERY_HASH_FROM, HUB_DISCOVERY_HASH_SIZE};
 const size_t through_state_places[13] = {HUB_STATE_FRAGMENT_SIZE, HUB_STATE_STATE,       HUB_STATE_SESSION,  HUB_STATE_NONCE, HUB_STATE_X,
                                          HUB_STATE_Y,             HUB_STATE_CERTIFICATE, HUB_STATE_EXPECTED, HUB_STATE_HEARD, HUB_STATE_COUNT,
                                          HUB_STATE_CHANNEL,       HUB_STATE_LAST,        HUB_STATE_BYTES};
@@ -191,4 +209,8 @@ const uint64_t through_connects[7] = {HUB_CONNECTION_REQUEST, HUB_CONNECTION_RES
                                       HUB_DONE_REQUEST,       HUB_DONE_RESPONSE,       HUB_AUTHENTICATION_FAILURE};
 const uint64_t through_modes[3] = {HUB_MODE_NONE, HUB_MODE_PROXIMAL, HUB_MODE_LEGACY};
 const uint64_t through_codes[5] = {HUB_SUCCESS, HUB_PENDING, HUB_FAILURE_AUTHENTICATION, HUB_FAILURE_NOT_ALLOWED, HUB_FAILURE_UNKNOWN};
+const uint64_t through_discoveries[2] = {HUB_PRESENCE_REQUEST, HUB_PRESENCE_RESPONSE};
+const uint64_t through_devices[11] = {
+    HUB_DEVICE_XBOX_ONE, HUB_DEVICE_IPHONE, HUB_DEVICE_IPAD, HUB_DEVICE_ANDROID, HUB_DEVICE_WINDOWS_DESKTOP, HUB_DEVICE_WINDOWS_PHONE,
+    HUB_DEVICE_LINUX, HUB_DEVICE_WINDOWS_IOT, HUB_DEVICE_SURFACE_HUB, HUB_DEVICE_WINDOWS_LAPTOP, HUB_DEVICE_WINDOWS_TABLET};
 const uint64_t through_states[5] = {HUB_WAITING_FOR_REQUEST, HUB_WAITING_FOR_AUTHENTICATION, HUB_PASSED, HUB_READY, HUB_FAILED};

@@ -9,7 +9,7 @@ use second::compare::{Implementation, Piece, Second};
 use second::connection::{Answer, Connection};
 use second::header::{Framed, Header, Kind};
 use second::message::{Message, Place};
-use second::payload::{Connect, Credentials, Offer, Parts};
+use second::payload::{Connect, Credentials, DiscoveryParts, Offer, Parts, Presence};
 use second::refusal::Refusal;
 
 use crate::hub::refusal;
@@ -127,6 +127,23 @@ fn parts_of(read: p::Connect<'_>, payload: &[u8]) -> Parts {
     }
 }
 
+/// The same for a Presence Response, of which the wrapper copies salt and hash.
+fn presence_parts_of(read: p::Presence<'_>, payload: &[u8]) -> DiscoveryParts {
+    let p::Presence { mode, device, name, salt, hash } = read;
+    let name = place(name, payload).expect("a part of the payload");
+    let parts = DiscoveryParts {
+        kind: 1,
+        mode: mode.number(),
+        device: device.0,
+        salt: name.end..name.end + 4,
+        hash: name.end + 4..name.end + 8,
+        name,
+    };
+    assert_eq!(payload[parts.salt.clone()], salt);
+    assert_eq!(payload[parts.hash.clone()], hash);
+    parts
+}
+
 impl Implementation for Wrapper {
     fn read_header(&mut self, message: &[u8]) -> Result<Framed, Refusal> {
         let framed = h::read_header(message).map_err(refused)?;
@@ -188,6 +205,20 @@ impl Implementation for Wrapper {
         p::PresenceRequest.write(output).map_err(refused)
     }
 
+    fn write_presence_response(
+        &mut self,
+        presence: Presence<'_>,
+        output: &mut [u8],
+    ) -> Result<usize, Refusal> {
+        let Presence { mode, device, name, salt, hash } = presence;
+        let Some(mode) = p::Mode::from_number(mode) else {
+            return Second.write_presence_response(presence, output);
+        };
+        let device = p::DeviceType(device);
+        let typed = p::Discovery::PresenceResponse(p::Presence { mode, device, name, salt, hash });
+        typed.write(output).map_err(refused)
+    }
+
     fn write_connect(
         &mut self,
         mode: u16,
@@ -203,6 +234,14 @@ impl Implementation for Wrapper {
     fn read_connect(&mut self, payload: &[u8]) -> Result<Parts, Refusal> {
         let read = p::Connect::read(payload).map_err(refused)?;
         Ok(parts_of(read, payload))
+    }
+
+    fn read_discovery(&mut self, payload: &[u8]) -> Result<DiscoveryParts, Refusal> {
+        Ok(match p::Discovery::read(payload).map_err(refused)? {
+            p::Discovery::PresenceRequest => DiscoveryParts::default(),
+            p::Discovery::PresenceResponse(read) => presence_parts_of(read, payload),
+            other => panic!("{other:?}"),
+        })
     }
 
     fn wanted(&mut self, bytes: &[u8]) -> usize {

@@ -165,7 +165,7 @@ pub fn credentials(comparison: &mut Comparison<Hub>) -> Tried {
 }
 
 /// Reads a message and finds its payload.
-fn payload_of(hub: &mut Hub, message: &[u8], keys: &[u8]) -> Result<Vec<u8>, Difference> {
+pub fn payload_of(hub: &mut Hub, message: &[u8], keys: &[u8]) -> Result<Vec<u8>, Difference> {
     let (mut working, mut header, mut place) =
         (vec![0xAA; message.len()], [BEFORE; 11], [BEFORE; 3]);
     as_expected(&message, &0, &hub.read(message, keys, &mut working, &mut header))?;

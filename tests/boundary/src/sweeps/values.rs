@@ -15,7 +15,7 @@ use crate::payloads::Writer::{DoneRequest, DoneResponse, PresenceRequest};
 use crate::payloads::{Call, Writer};
 
 /// Words for ConnectionMode: its bounds, what its lower bits are in bounds of, and the widest.
-const MODES: [u64; 15] = [
+pub const MODES: [u64; 15] = [
     0,
     1,
     2,
