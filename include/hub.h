@@ -123,14 +123,14 @@
  * HUB_STATE_EXPECTED before the step, and hub_read_header of the message says it too.
  *
  * Refusals. Most are harmless, and a hub drops the message and goes on: connection and report buffer are as they were. 17 is what late copies of a
- * report that is complete get, 11 what damaged or foreign bytes do, 15 and 16 what strangers do and a gateway that starts over; 15 is also what every
- * well-formed Discovery message gets (see Presence). 18 is a report that comes too early: it is sent again, or lost; where 18 comes again and again the expected report will
- * never be finished, and nothing later is taken: open anew, with new keys. 11 of every sealed message says that the two sides have different keys, 20
- * that they have a different F; 13, 14, 21 and 23 of a sealed message say that the gateway is wrong or has used a number twice, or, 23, that the
- * report buffer was touched. In a stream 2 and 3 mean that the framing is lost: close it. 19 is for a number that no report has, 2^32 - 1. 10, 12,
- * 22, 24, 25 and 255 are the caller's own: keys, a buffer, F or a verdict are not as they should be. But until there are keys 10 is a sealed message
- * that comes too early; and a gateway can bring about 12 and 22 where working is shorter than HUB_MOST_SEALED, or report than 64 times F. hub_text
- * has a sentence for each.
+ * report that is complete get, 11 what damaged or foreign bytes do, 15 and 16 what strangers do and a gateway that starts over; 15 is also what
+ * every well-formed Discovery message gets (see Presence). 18 is a report that comes too early: it is sent again, or lost; where 18 comes again and
+ * again the expected report will never be finished, and nothing later is taken: open anew, with new keys. 11 of every sealed message says that the
+ * two sides have different keys, 20 that they have a different F; 13, 14, 21 and 23 of a sealed message say that the gateway is wrong or has used a
+ * number twice, or, 23, that the report buffer was touched. In a stream 2 and 3 mean that the framing is lost: close it. 19 is for a number that no
+ * report has, 2^32 - 1. 10, 12, 22, 24, 25 and 255 are the caller's own: keys, a buffer, F or a verdict are not as they should be. But until there
+ * are keys 10 is a sealed message that comes too early; and a gateway can bring about 12 and 22 where working is shorter than HUB_MOST_SEALED, or
+ * report than 64 times F. hub_text has a sentence for each.
  *
  *
  * WHO OWNS WHICH MEMORY
