@@ -1,7 +1,7 @@
 -- SPDX-License-Identifier: MPL-2.0
 -- A Discovery payload is accepted by one of two formats, which begin with different bytes. What was written of a Presence Response says the values
 -- that were given (`values-back`), and lies where its format reads it from; what is accepted is what its writer writes (`write-back`).
-use Rattle.laws.proofs.Kit.{ℕ, _+_, _≤_, _<_, _≡_, refl, sym, _∙_, true, false, true≢false, not, _||_, List, [], _∷_, length, eqb, ltb, eqb-true}
+use Rattle.laws.proofs.Kit.{ℕ, _+_, _≤_, _<_, _≡_, refl, sym, _∙_, true, false, true≢false, not, _||_, List, length, eqb, ltb, eqb-true}
 use Rattle.laws.proofs.Kit.{eqb-false, eq-eqb, le-leb, lt-ltb, le-ltb, ltb-true, ltb-false, not-false, lit<, arith}
 use Prim.Native.Nat.{zero-le}
 use Rattle.laws.specs.Bytes.{AreBytes, be8, be16}
