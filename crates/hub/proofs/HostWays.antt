@@ -1,30 +1,15 @@
 -- SPDX-License-Identifier: MPL-2.0
 -- What a Connect message does, by the row that applies: the table of "Host states" is gone through here, and nowhere else.
-use Rattle.laws.proofs.Kit.{ℕ, _≡_, Bool, true, _&&_, List, [], _∷_, eqb, eqb-true}
+use Rattle.laws.proofs.Kit.{ℕ, _≡_, Bool, true, _&&_, List, eqb, eqb-true}
 use Rattle.laws.proofs.Bools.{and-true}
-use Rattle.laws.proofs.Cases.{on}
+use Rattle.laws.proofs.Firsts.{_also_, first-row}
 use Rattle.payloads.specs.Reading.{connectType, readRequest}
 use Rattle.sha256.specs.Digests.{digest}
 use Rattle.hub.specs.declared.Connection.{Connection}
 use Rattle.hub.specs.declared.Stepped.{Stepped}
 use Rattle.hub.specs.declared.Answer.the-variants.{Reply, Again, Failure}
-use Rattle.hub.specs.Host.{stepped, refuse, requested, withDigestAndState, hostRows, firstRow, host}
+use Rattle.hub.specs.Host.{stepped, refuse, requested, withDigestAndState, hostRows, host}
 use Rattle.hub.specs.Hear.{certificate, connect}
-
--- Cases one after the other, a line each as the rows.
-infixr 5 _also_
-_also_ : {A B : Type 0} → A → B → A × B
-p also q = (p, q)
-
--- A property of what rows do is one of each row, where its test holds.
-module _ (G : Stepped → Type 0) where
-  abbrev Rows : List (Bool × Stepped) → Type 0
-  Rows [] = Unit {0}
-  Rows (row ∷ rows) = (row .0 ≡ true → G (row .1)) × Rows rows
-
-  first-row : (rows : List (Bool × Stepped)) (other : Stepped) → Rows rows → G other → G (firstRow rows other)
-  first-row [] other p q = q
-  first-row (row ∷ rows) other p q = on (row .0) (λ e. rw e (p .0 e)) (λ e. rw e (first-row rows other (p .1) q))
 
 -- A row of one Connect type applies to that type.
 typed : (type own : ℕ) (t : Bool) → (eqb type own && t) ≡ true → (type ≡ own) × (t ≡ true)

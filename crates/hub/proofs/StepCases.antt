@@ -1,13 +1,13 @@
 -- SPDX-License-Identifier: MPL-2.0
 -- A property of what a step answers and leaves, by the way that it went: a law of all steps is one of these cases.
-use Rattle.laws.proofs.Kit.{ℕ, _≡_, refl, true, false, List, length, eqb, ltb, eqb-true}
+use Rattle.laws.proofs.Kit.{ℕ, _≡_, true, false, List, length, eqb, ltb, eqb-true}
 use Rattle.laws.proofs.Cases.{on}
 use Rattle.wire.specs.declared.header.Header.{Header}
 use Rattle.message.specs.Reading.{readMessage, workingAfter}
 use Rattle.message.specs.Handed.{payload}
 use Rattle.message.specs.declared.reading.FoundMessage.{FoundMessage}
 use Rattle.message.specs.declared.reading.MessageRead.{MessageRead}
-use Rattle.message.specs.declared.reading.MessageRead.the-variants.{Refused, Read}
+use Rattle.message.specs.declared.reading.MessageRead.the-variants.{Read}
 use Rattle.joining.specs.declared.Joined.{Joined}
 use Rattle.joining.specs.Cut.{badSize}
 use Rattle.joining.specs.Join.{join, reportAfter}
@@ -15,7 +15,9 @@ use Rattle.hub.specs.declared.Connection.{Connection}
 use Rattle.hub.specs.declared.Stepped.{Stepped}
 use Rattle.hub.specs.Host.{refuse}
 use Rattle.hub.specs.Hear.{connect, pieceIn, joined, isForeign, joins, hear, reportHeard}
-use Rattle.hub.specs.Step.{afterRead, reportRead, step, reportStepped}
+use Rattle.hub.specs.Step.{step, reportStepped}
+use Rattle.admission.specs.Admission.{onRead}
+use Rattle.admission.proofs.Ways.{admit-tests, admit-cases}
 
 -- A Connect message is not joined.
 pub connect-apart : (c : Connection) (h : Header) → eqb (h .kind) 2 ≡ true → joins c h ≡ false
@@ -36,27 +38,26 @@ module _ (c : Connection) (h : Header) (p b : List ℕ) (v : ℕ) (G : Stepped �
       on (eqb (h .kind) 2) (λ k. rw (f, k, connect-apart c h k) (connects f k))
       (λ k. on (joins c h) (λ j. rw (f, k, j) (session f j)) (λ j. rw (f, k, j) (other f k j))))
 
--- A step: 25 applies; 24 applies; what was read.
+-- A step.
 module _ (c : Connection) (m k w b : List ℕ) (v : ℕ) (G : Stepped → List ℕ → Type 0) where
+  -- What the step does and leaves of the reader's answer.
+  abbrev pub Reads : List ℕ → MessageRead → Type 0
+  Reads w′ r = G (onRead (refuse c) (λ h p. hear c h p b v) m w′ r) (onRead (λ n. b) (λ h p. reportHeard c h p b) m w′ r)
+
+  -- 25 applies; 24 applies; what was read.
   pub step-tests : (ltb 1 v ≡ true → G (refuse c 25) b) → (ltb 1 v ≡ false → badSize (c .size) ≡ true → G (refuse c 24) b)
-      → (ltb 1 v ≡ false → badSize (c .size) ≡ false
-      → G (afterRead c m (workingAfter m k w) b v (readMessage m k (length w))) (reportRead c m (workingAfter m k w) b (readMessage m k (length w))))
+      → (ltb 1 v ≡ false → badSize (c .size) ≡ false → Reads (workingAfter m k w) (readMessage m k (length w)))
       → G (step c m k w b v) (reportStepped c m k w b v)
   unfolding step reportStepped
-  step-tests verdict size read =
-      on (ltb 1 v) (λ t. rw t (verdict t)) (λ t. on (badSize (c .size)) (λ z. rw (t, z) (size t z)) (λ z. rw (t, z) (read t z)))
+  step-tests verdict size read = admit-tests (c .size) v m k w Reads verdict size read
 
   -- It is enough that refusals have it and what is heard.
   pub step-cases : ((n : ℕ) → G (refuse c n) b)
       → (badSize (c .size) ≡ false → (f : FoundMessage) → readMessage m k (length w) ≡ Read f → let p = payload m (workingAfter m k w) (Read f) in
       G (hear c (f .header) p b v) (reportHeard c (f .header) p b))
       → G (step c m k w b v) (reportStepped c m k w b v)
-  step-cases refused read = step-tests (λ t. refused 25) (λ t z. refused 24) (λ t z. by z (readMessage m k (length w)) refl)
-    where
-      by : badSize (c .size) ≡ false → (r : MessageRead) → readMessage m k (length w) ≡ r
-          → G (afterRead c m (workingAfter m k w) b v r) (reportRead c m (workingAfter m k w) b r)
-      by z (Refused n) e = refused n
-      by z (Read f) e = read z f e
+  unfolding step reportStepped
+  step-cases refused read = admit-cases (c .size) v m k w Reads (λ w′ n. refused n) read
 
 -- Of answer and connection alone: refusals have it, every Connect message, and every piece that is joined.
 module _ (c : Connection) (m k w b : List ℕ) (v : ℕ) (G : Stepped → Type 0) where

@@ -14,7 +14,8 @@ use Rattle.hub.specs.declared.Stepped.{Stepped}
 use Rattle.hub.specs.Answers.{said, isQuiet}
 use Rattle.hub.specs.Hear.{pieceIn, withProgress, joined, joins, hear, reportHeard}
 use Rattle.hub.specs.Step.{step, reportStepped}
-use Rattle.hub.specs.Calls.{Call, Standing, after, says}
+use Rattle.admission.specs.Calls.{Call}
+use Rattle.hub.specs.Calls.{Standing, after, says}
 use Rattle.hub.proofs.QuietKeeps.{step-still}
 use Rattle.hub.proofs.Telling.{said-of}
 

@@ -1,20 +1,14 @@
 -- SPDX-License-Identifier: MPL-2.0
--- A call of the step, seen from outside: what it is given, what it leaves and answers; and calls one after the other.
+-- A call of the step, seen from outside: what it leaves and answers; and calls one after the other.
 use Prim.Native.Nat.{ℕ}
 use mathlib.Core.List.{List}
 use Rattle.laws.specs.Courses.{final}
 use Rattle.joining.specs.declared.answer.Said.{Said}
+use Rattle.admission.specs.Calls.{Call}
 use Rattle.hub.specs.declared.Connection.{Connection}
 use Rattle.hub.specs.declared.Answer.{Answer}
 use Rattle.hub.specs.Answers.{said}
 use Rattle.hub.specs.Step.{step, reportStepped}
-
--- What one call is given beside the connection and the report buffer.
-pub record Call : Type 0 where
-  pub message : List ℕ
-  pub keys : List ℕ
-  pub working : List ℕ
-  pub verdict : ℕ
 
 -- Where connection and report buffer stand, before a call or after it.
 pub record Standing : Type 0 where

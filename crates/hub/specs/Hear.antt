@@ -12,11 +12,13 @@ use Rattle.joining.specs.declared.Piece.{Piece}
 use Rattle.joining.specs.declared.Joined.{Joined}
 use Rattle.joining.specs.declared.Progress.{Progress}
 use Rattle.laws.specs.Parts.{part}
+use Rattle.laws.specs.Rows.{firstRow}
+use Rattle.admission.specs.Admission.{anotherSession}
 use Rattle.joining.specs.Join.{join, reportAfter}
 use Rattle.hub.specs.declared.Connection.{Connection}
 use Rattle.hub.specs.declared.Stepped.{Stepped}
 use Rattle.hub.specs.Answers.{answerOf}
-use Rattle.hub.specs.Host.{stepped, refuse, firstRow, host}
+use Rattle.hub.specs.Host.{stepped, refuse, host}
 
 -- The bytes of the certificate of a Device Authentication Request.
 abbrev pub certificate : List ℕ → List ℕ
@@ -48,9 +50,9 @@ withProgress c p =
 abbrev pub joined : Connection → Joined → Stepped
 joined c j = stepped (withProgress c (j .progress)) (answerOf (j .answer))
 
--- 16: "state not 0 and another SessionID"; "Discovery skips 16".
+-- 16: "state not 0 and another SessionID".
 abbrev pub isForeign : Connection → Header → Bool
-isForeign c h = not (eqb (h .kind) 1) && not (eqb (c .state) 0) && not (eqb (h .session) (c .session))
+isForeign c h = not (eqb (c .state) 0) && anotherSession h (c .session)
 
 -- A Session message in state 3.
 abbrev pub joins : Connection → Header → Bool

@@ -2,8 +2,9 @@
 -- The host's states: 0 waiting for a request, 1 waiting for authentication, 2 passed, 3 Ready, 4 Failed; and what a Connect message does in each.
 use Prim.Native.Nat.{ℕ}
 use mathlib.Core.List.{List, [], _∷_, _++_}
-use mathlib.Core.Bool.{Bool, cond, _&&_}
+use mathlib.Core.Bool.{Bool, _&&_}
 use lib.Dec.{eqb, leb}
+use Rattle.laws.specs.Rows.{firstRow}
 use Rattle.laws.specs.Same.{same}
 use Rattle.wire.specs.Refusals.{notAllowed}
 use Rattle.payloads.specs.declared.reading.Request.{Request}
@@ -95,12 +96,7 @@ abbrev pub hostRows : Connection → ℕ → ℕ → Request → List ℕ → �
 hostRows c type session r digest verdict =
     rowsOfType type 0 (requestRows c session r) ++ (rowsOfType type 2 (deviceRows c digest verdict) ++ rowsOfType type 6 (doneRows c))
 
--- The first row that applies.
-abbrev pub firstRow : List (Bool × Stepped) → Stepped → Stepped
-firstRow [] other = other
-firstRow (row ∷ rows) other = cond (row .0) (row .1) (firstRow rows other)
-
--- What rows of this connection do; "All else, and all of state 4: refusal 15."
+-- What rows of this connection do, the first that applies; "All else, and all of state 4: refusal 15."
 abbrev pub hosted : Connection → List (Bool × Stepped) → Stepped
 hosted c rows = firstRow rows (refuse c notAllowed)
 

@@ -9,6 +9,7 @@ use super::Connection;
 use super::READY;
 use super::Stepped;
 use super::WAITING;
+use admission::another_session;
 use joining::Piece;
 use payloads::CONNECTION_REQUEST;
 use payloads::DEVICE_REQUEST;
@@ -17,7 +18,6 @@ use payloads::reading::certificate_of;
 use payloads::reading::connect_type;
 use payloads::reading::read_request;
 use wire::header::CONNECT;
-use wire::header::DISCOVERY;
 use wire::header::Header;
 use wire::header::SESSION;
 use wire::refusals;
@@ -79,7 +79,7 @@ impl Connection {
     fn is_foreign(self, header: Header) -> bool
         ensures { λ r. ⌜ r ≡ isForeign self header ⌝ }
     {
-        (header.kind != DISCOVERY) & (self.state != WAITING) & (header.session != self.session)
+        (self.state != WAITING) & another_session(header, self.session)
     }
 
     // A message that the reader read.

@@ -7,6 +7,7 @@ mod step;
 ghost use mathlib.Core.Path.{_≡_};
 ghost use Rattle.hub.specs.Opening.{blank, opened};
 ghost use Rattle.hub.specs.Answers.{said, answerOf};
+use admission::AGAIN;
 use joining::Arrival;
 use joining::Progress;
 use joining::answer::COMPLETE;
@@ -65,10 +66,8 @@ pub enum Answer {
     Complete { length: usize, heard: usize },
 }
 
-// The kinds of a step's answers that a piece's have not.
+// The kinds of a step's answers that neither a piece's have nor the other role's.
 pub const REPLY: u64 = 1;
-
-pub const AGAIN: u64 = 2;
 
 pub const FAILURE: u64 = 3;
 

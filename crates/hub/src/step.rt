@@ -1,11 +1,11 @@
 // SPDX-License-Identifier: MPL-2.0
 // A step: one message on a connection.
 ghost use mathlib.Core.Path.{_≡_};
-ghost use Rattle.hub.specs.Step.{step, reportStepped, workingStepped};
+ghost use Rattle.admission.specs.Admission.{workingAdmitted};
+ghost use Rattle.hub.specs.Step.{step, reportStepped};
 use super::Connection;
 use super::Stepped;
 use message::reading::MessageRead;
-use wire::refusals;
 
 impl Connection {
     // One message, with the keys, the working buffer, the report buffer and the verdict on the gateway's certificate.
@@ -20,15 +20,10 @@ impl Connection {
         ensures { λ r. ⌜ r ≡ step self (now (message .entry)) (now (keys .entry)) (now (working .entry)) (now (report .entry)) verdict ⌝ }
         ensures { λ _. ⌜ now (report .exit) ≡ reportStepped self (now (message .entry)) (now (keys .entry)) (now (working .entry))
             (now (report .entry)) verdict ⌝ }
-        ensures { λ _. ⌜ now (working .exit) ≡ workingStepped self (now (message .entry)) (now (keys .entry)) (now (working .entry)) verdict ⌝ }
+        ensures { λ _. ⌜ now (working .exit) ≡ workingAdmitted (self .size) verdict (now (message .entry)) (now (keys .entry))
+            (now (working .entry)) ⌝ }
     {
-        if 1 < verdict {
-            return self.refuse(refusals::WRONG_VERDICT);
-        }
-        if joining::cut::bad_size(self.size) {
-            return self.refuse(refusals::WRONG_FRAGMENT_SIZE);
-        }
-        let read = message::reading::read(message, keys, working);
+        let read = admission::admit(self.size, verdict, message, keys, working);
         match read {
             MessageRead::Refused(n) => self.refuse(n),
             MessageRead::Read(found) => {

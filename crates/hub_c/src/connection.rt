@@ -16,7 +16,8 @@ ghost use mathlib.Core.Bool.{cond};
 ghost use lib.ListN.{length};
 ghost use Rattle.hub.specs.Answers.{said};
 ghost use Rattle.hub.specs.Opening.{opened};
-ghost use Rattle.hub.specs.Step.{step, reportStepped, workingStepped};
+ghost use Rattle.admission.specs.Admission.{workingAdmitted};
+ghost use Rattle.hub.specs.Step.{step, reportStepped};
 ghost use Rattle.state.specs.Layout.{stateSize};
 ghost use Rattle.state.specs.State.{connectionAt, stateBytes};
 ghost use Rattle.hub_c.specs.Sizes.{wrongBuffer, answerSize, sized, kept};
@@ -120,7 +121,8 @@ pub extern "C" fn hub_step(
         (stateAfter (step (connectionAt (now (state .entry))) (now (message .entry)) (now (keys .entry)) (now (working .entry))
         (now (report .entry)) (verdictOf verdict)) (now (state .entry))) ⌝ }
     ensures { λ _. ⌜ now (working .exit) ≡ cond (wrongStep (now (state .entry)) (now (report .entry)) (now (answer .entry))) (now (working .entry))
-        (workingStepped (connectionAt (now (state .entry))) (now (message .entry)) (now (keys .entry)) (now (working .entry)) (verdictOf verdict)) ⌝ }
+        (workingAdmitted (connectionAt (now (state .entry)) .size) (verdictOf verdict) (now (message .entry)) (now (keys .entry))
+        (now (working .entry))) ⌝ }
     ensures { λ _. ⌜ now (report .exit) ≡ cond (wrongStep (now (state .entry)) (now (report .entry)) (now (answer .entry))) (now (report .entry))
         (reportStepped (connectionAt (now (state .entry))) (now (message .entry)) (now (keys .entry)) (now (working .entry))
         (now (report .entry)) (verdictOf verdict)) ⌝ }

@@ -5,7 +5,7 @@ use Rattle.laws.proofs.Kit.{ℕ, _≤_, _≡_, refl, sym, Bool, true, f
 use Rattle.laws.proofs.Kit.{eqb-false, leb-true, inl, inr, arith}
 use Rattle.laws.proofs.Bools.{and-true}
 use Rattle.laws.proofs.Cases.{on}
-use Rattle.laws.specs.Rows.{first, orElse, numbered, quiet, testOf, leads, upTo}
+use Rattle.laws.specs.Rows.{first, orElse, numbered, quiet, testOf, leads, upTo, firstRow, anyOf}
 
 both : (a b : Bool) → (not a && b) ≡ true → (a ≡ false) × (b ≡ true)
 both true b e = absurd (true≢false (sym e))
@@ -78,3 +78,31 @@ first-upTo k [] e = omega arith
 first-upTo k (row ∷ rows) e =
     let b = and-true (leb (row .0) k) (upTo k rows) e in
     upTo-row k row rows (leb-true (row .0) k (b .0)) (first-upTo k rows (b .1))
+
+-- Cases one after the other, a line each as the rows.
+infixr 5 _also_
+pub _also_ : {A B : Type 0} → A → B → A × B
+p also q = (p, q)
+
+-- A property of what a table of ways does is one of each row, where its test holds.
+module _ {A : Type 0} (G : A → Type 0) where
+  abbrev pub Ways : List (Bool × A) → Type 0
+  Ways [] = Unit {0}
+  Ways (row ∷ rows) = (row .0 ≡ true → G (row .1)) × Ways rows
+
+  pub first-row : (rows : List (Bool × A)) (other : A) → Ways rows → G other → G (firstRow rows other)
+  first-row [] other p q = q
+  first-row (row ∷ rows) other p q = on (row .0) (λ e. rw e (p .0 e)) (λ e. rw e (first-row rows other (p .1) q))
+
+-- Rows of which none refuses, by the number of a refusal: what they refuse is what stands after them, where none applies.
+module _ {A : Type 0} (number : A → ℕ) where
+  abbrev pub loud : List (Bool × A) → Bool
+  loud [] = true
+  loud (row ∷ rows) = eqb (number (row .1)) 0 && loud rows
+
+  pub loud-first : (rows : List (Bool × A)) (other : A) → loud rows ≡ true
+      → number (firstRow rows other) ≡ cond (not (anyOf rows)) (number other) 0
+  loud-first [] other l = refl
+  loud-first (row ∷ rows) other l =
+      let a = and-true (eqb (number (row .1)) 0) (loud rows) l in
+      on (row .0) (λ e. rw e (eqb-true (number (row .1)) 0 (a .0))) (λ e. rw e (loud-first rows other (a .1)))

@@ -1,10 +1,11 @@
 -- SPDX-License-Identifier: MPL-2.0
--- A table of refusals: a list of rows, each a number of document 01 and the test that gives it, in the order in which they are made.
+-- A table of refusals: a list of rows, each a number of document 01 and the test that gives it, in the order in which they are made. A table of
+-- ways: each row a test, and what is done where it is the first that holds.
 use Prim.Native.Nat.{ℕ}
 use mathlib.Core.List.{List, [], _∷_}
 use mathlib.Core.Path.{_≡_}
 use mathlib.Core.Logic.{_⊎_}
-use mathlib.Core.Bool.{Bool, true, false, cond, not, _&&_}
+use mathlib.Core.Bool.{Bool, true, false, cond, not, _&&_, _||_}
 use lib.Dec.{leb, eqb}
 
 -- The number of the first row whose test holds, 0 where none does.
@@ -50,3 +51,13 @@ leads n (row ∷ rows) = ((row .1 ≡ true) × (row .0 ≡ n)) ⊎ ((row .1 ≡ 
 abbrev pub upTo : ℕ → List (ℕ × Bool) → Bool
 upTo k [] = true
 upTo k (row ∷ rows) = leb (row .0) k && upTo k rows
+
+-- What the first row does whose test holds, and where none does the other.
+abbrev pub firstRow : {A : Type 0} → List (Bool × A) → A → A
+firstRow [] other = other
+firstRow (row ∷ rows) other = cond (row .0) (row .1) (firstRow rows other)
+
+-- Some row's test holds.
+abbrev pub anyOf : {A : Type 0} → List (Bool × A) → Bool
+anyOf [] = false
+anyOf (row ∷ rows) = row .0 || anyOf rows

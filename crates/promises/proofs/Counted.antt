@@ -22,7 +22,8 @@ use Rattle.hub.proofs.StepCases.{hear-cases, step-cases}
 use Rattle.promises.specs.Counted.{indexIn, accepted, acceptedAll, Counts, HeardCount}
 use Rattle.promises.proofs.ReadAgain.{read-header}
 use Rattle.joining.specs.Events.{Event}
-use Rattle.hub.specs.Calls.{Call, Standing, after, says, afterAll}
+use Rattle.admission.specs.Calls.{Call}
+use Rattle.hub.specs.Calls.{Standing, after, says, afterAll}
 
 -- Another kind.
 loud : {A : Type 0} → false ≡ true → A

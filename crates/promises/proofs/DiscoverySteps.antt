@@ -1,6 +1,6 @@
 -- SPDX-License-Identifier: MPL-2.0
 -- A step on a Discovery message: 16 does not look at it, and "Host states" have no row for it. Every Presence Response can be carried by a message.
-use Rattle.laws.proofs.Kit.{ℕ, _≡_, refl, sym, _∙_, false, true≢false, not, _||_, eqb, ltb, le-ltb, arith}
+use Rattle.laws.proofs.Kit.{ℕ, _≡_, refl, sym, _∙_, false, true≢false, not, and-false, _||_, eqb, ltb, le-ltb, arith}
 use Rattle.laws.proofs.Bools.{or-false}
 use Rattle.wire.specs.Fields.{badType, hmacFlag, encryptedFlag, isSealed, badFlags}
 use Rattle.payloads.specs.Format.{_and_, write}
@@ -20,7 +20,7 @@ use Rattle.promises.proofs.PresenceBack.{fitting, good}
 pub discovery-answered : DiscoveryAnswered
 discovery-answered s x k kind v z =
     let c = s .connection in
-    let own : isForeign c (k .header) ≡ false = rw kind in
+    let own : isForeign c (k .header) ≡ false = rw (kind, and-false (not (eqb (c .state) 0))) in
     let h : Admitted s x = record { content = k; verdict = v; size = z; own = own } in
     let told = by-host-states s x h .discovery kind .0 in
     let left = leaves-alone c (x .message) (x .keys) (x .working) (s .report) (x .verdict) 15 told in

@@ -1,9 +1,9 @@
 -- SPDX-License-Identifier: MPL-2.0
 -- The premises of `RepeatedStep` can be met: three messages, as the writer writes them, enrol a gateway, and three others ask for the same steps.
 use Rattle.laws.proofs.Kit.{ℕ, _≤_, _<_, _≡_, refl, sym, _∙_, ap, false, not, and-false, List, [], _∷_, length, replicate, eqb, eqb-false}
-use Rattle.laws.proofs.Kit.{le-ltb, arith}
+use Rattle.laws.proofs.Kit.{arith}
 use Rattle.laws.specs.Bytes.{AreBytes, bytesAt}
-use Rattle.wire.specs.Fields.{badType, badFlags, badPiece, mostPieces, isSealed}
+use Rattle.wire.specs.Fields.{badFlags, isSealed}
 use Rattle.wire.specs.Chain.{entryOf, chain, mostEntries, readChain, badChain}
 use Rattle.payloads.specs.Format.{_and_, write, endsFrom, holdsFrom, readFrom, acceptsFrom}
 use Rattle.payloads.specs.Shapes.{connectionRequest, deviceAuthentication, doneRequest, isShaped, badPayload}
@@ -11,7 +11,7 @@ use Rattle.payloads.specs.Reading.{readRequest, certificateOf}
 use Rattle.wire.specs.declared.header.Header.{Header}
 use Rattle.sha256.specs.Digests.{digest}
 use Rattle.seal.specs.Padding.{padding, sealedSize}
-use Rattle.message.specs.Writing.{lengthOf, writeRefusal, messageBytes}
+use Rattle.message.specs.Writing.{messageBytes}
 use Rattle.joining.specs.Cut.{badSize}
 use Rattle.hub.specs.declared.Connection.{Connection}
 use Rattle.hub.specs.declared.Stepped.{Stepped}
@@ -24,14 +24,14 @@ use Rattle.promises.specs.Met.{Otherwise, Enrolled, CanEnrol}
 use Rattle.promises.specs.Enrolment.{SameStep}
 use Rattle.promises.specs.Written.{Wrote, ReadAs}
 use Rattle.promises.proofs.ReadBack.{reads-back, steps-by-state}
-use Rattle.promises.proofs.Writes.{wrote}
+use Rattle.promises.proofs.Letters.{connectHeader, Carried, connect-written}
 use Rattle.promises.proofs.Witness.{are-bytes, end-allowed}
-use Rattle.hub.specs.Calls.{Call, Standing, after, says}
+use Rattle.admission.specs.Calls.{Call}
+use Rattle.hub.specs.Calls.{Standing, after, says}
 
 -- A Connect message of session 7.
 abbrev header : (flags sequence request : ℕ) → Header
-header flags sequence request =
-    record { kind = 2; flags = flags; sequence = sequence; request = request; index = 0; count = 1; session = 7; channel = 0 }
+header flags sequence request = connectHeader flags sequence request 7
 
 -- A chain without entries, and one with an entry.
 abbrev end : List ℕ
@@ -65,12 +65,9 @@ passed F = withDigestAndState (waiting F) (digest (certificate (deviceBytes 0 []
 abbrev ready : ℕ → Connection
 ready F = withDigestAndState (passed F) (passed F .digest) 3
 
--- A message whose flags and payload are not refused.
+-- A message whose flags and payload are not refused, and which 96 bytes have room for.
 pub record Allowed (flags : ℕ) (bytes : List ℕ) : Type 0 where
-  pub low : flags < 65536
-  pub of-bytes : AreBytes bytes
-  pub flagged : badFlags 2 flags ≡ false
-  pub shaped : badPayload 2 (isSealed flags) bytes ≡ false
+  pub carried : Carried flags bytes
   pub room : sealedSize (length bytes) ≤ 96
 
 -- Numbers that are tested to differ.
@@ -81,8 +78,8 @@ unequal a b e p = absurd (eqb-false a b e p)
 request-allowed : Allowed 0 (requestBytes 0) × Allowed 0 (requestBytes 1)
 unfolding badFlags isSealed badPayload isShaped acceptsFrom holdsFrom endsFrom write padding sealedSize
 request-allowed = (
-  record { low = omega arith; of-bytes = are-bytes _ refl; flagged = refl; shaped = refl; room = omega arith },
-  record { low = omega arith; of-bytes = are-bytes _ refl; flagged = refl; shaped = refl; room = omega arith },
+  record { carried = record { low = omega arith; of-bytes = are-bytes _ refl; flagged = refl; shaped = refl }; room = omega arith },
+  record { carried = record { low = omega arith; of-bytes = are-bytes _ refl; flagged = refl; shaped = refl }; room = omega arith },
 )
 
 request-same : SameStep (requestBytes 0) (requestBytes 1)
@@ -92,8 +89,8 @@ request-same = record { type = refl; nonce = λ e. refl; x = λ e. refl; y = λ 
 device-allowed : Allowed 6 (deviceBytes 0 []) × Allowed 6 (deviceBytes 1 (7 ∷ []))
 unfolding badFlags isSealed badPayload isShaped acceptsFrom holdsFrom endsFrom write padding sealedSize
 device-allowed = (
-  record { low = omega arith; of-bytes = are-bytes _ refl; flagged = refl; shaped = refl; room = omega arith },
-  record { low = omega arith; of-bytes = are-bytes _ refl; flagged = refl; shaped = refl; room = omega arith },
+  record { carried = record { low = omega arith; of-bytes = are-bytes _ refl; flagged = refl; shaped = refl }; room = omega arith },
+  record { carried = record { low = omega arith; of-bytes = are-bytes _ refl; flagged = refl; shaped = refl }; room = omega arith },
 )
 
 device-same : SameStep (deviceBytes 0 []) (deviceBytes 1 (7 ∷ []))
@@ -105,8 +102,8 @@ device-same =
 finish-allowed : Allowed 6 (finishBytes 0) × Allowed 6 (finishBytes 1)
 unfolding badFlags isSealed badPayload isShaped acceptsFrom holdsFrom endsFrom write padding sealedSize
 finish-allowed = (
-  record { low = omega arith; of-bytes = are-bytes _ refl; flagged = refl; shaped = refl; room = omega arith },
-  record { low = omega arith; of-bytes = are-bytes _ refl; flagged = refl; shaped = refl; room = omega arith },
+  record { carried = record { low = omega arith; of-bytes = are-bytes _ refl; flagged = refl; shaped = refl }; room = omega arith },
+  record { carried = record { low = omega arith; of-bytes = are-bytes _ refl; flagged = refl; shaped = refl }; room = omega arith },
 )
 
 finish-same : SameStep (finishBytes 0) (finishBytes 1)
@@ -136,12 +133,8 @@ module _ (F : ℕ) (keys report : List ℕ) (sized : badSize F ≡ false) (of-ke
   written : (flags sequence request : ℕ) (chain bytes : List ℕ) → sequence < 4294967296 → request < 18446744073709551616 → AreBytes chain
       → badChain chain ≡ false → Allowed flags bytes
       → Wrote (header flags sequence request) chain bytes keys (messageBytes (header flags sequence request) chain bytes keys)
-  unfolding writeRefusal badType badPiece mostPieces
   written flags sequence request chain bytes s r b c a =
-      let h = header flags sequence request in
-      let k = lengthOf h chain bytes in
-      wrote h chain bytes keys (omega (arith, a .low)) b (a .of-bytes) of-keys
-      (rw (a .flagged, c, whole, and-false (isSealed flags), a .shaped, le-ltb k k (omega arith)))
+      connect-written flags sequence request 7 chain bytes keys s r (omega arith) b c (a .carried) of-keys whole
 
   once-written : (flags : ℕ) (bytes : List ℕ) → Allowed flags bytes → Wrote (header flags 0 0) end bytes keys (once flags bytes .message)
   once-written flags bytes a = written flags 0 0 end bytes (omega arith) (omega arith) (are-bytes end refl) end-allowed a

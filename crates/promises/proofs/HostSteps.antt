@@ -16,7 +16,8 @@ use Rattle.hub.specs.declared.Answer.the-variants.{Refused, Reply, Again, Failu
 use Rattle.hub.specs.Answers.{said}
 use Rattle.hub.specs.Host.{stepped, requested, withDigestAndState, knows, host}
 use Rattle.hub.specs.Hear.{certificate, connect, pieceIn, joined, isForeign, hear}
-use Rattle.hub.specs.Calls.{Call, Standing}
+use Rattle.admission.specs.Calls.{Call}
+use Rattle.hub.specs.Calls.{Standing}
 use Rattle.hub.proofs.Telling.{said-of}
 use Rattle.promises.specs.Enrolment.{Content}
 use Rattle.promises.specs.HostStates.{Admitted, Does, IsConnect, ByHostStates}

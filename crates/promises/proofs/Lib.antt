@@ -4,6 +4,7 @@ pub mod Apart
 pub mod Exactly
 pub mod ReaderNumber
 pub mod RefusalTables
+pub mod Admitting
 pub mod StepTable
 pub mod Working
 pub mod ReadBack
@@ -18,6 +19,7 @@ pub mod Repeats
 pub mod Counted
 pub mod Determined
 pub mod Witness
+pub mod Letters
 pub mod Enrols
 pub mod HostSteps
 pub mod ConnectBack

@@ -1,6 +1,6 @@
 -- SPDX-License-Identifier: MPL-2.0
 -- Demand 2's messages: what the writer's answer and output say gives message's theorems their premises.
-use Rattle.laws.proofs.Kit.{ℕ, _+_, _≤_, _≡_, refl, _∙_, ap, false, List, length, drop, take-at, eqb, eqb-true, le-ltb}
+use Rattle.laws.proofs.Kit.{ℕ, _+_, _≤_, _≡_, refl, _∙_, ap, false, List, length, drop, take-at, eqb, eqb-true}
 use Rattle.laws.proofs.Cases.{on}
 use Rattle.wire.specs.Fields.{isSealed}
 use Rattle.wire.specs.declared.header.Header.{Header}
@@ -16,9 +16,10 @@ use Rattle.message.proofs.WrittenBack.{foundAt, read-plain, read-sealed}
 use Rattle.message.proofs.HandedBack.{handed-plain, handed-sealed}
 use Rattle.joining.specs.Cut.{badSize}
 use Rattle.hub.specs.declared.Connection.{Connection}
+use Rattle.hub.specs.Host.{refuse}
 use Rattle.hub.specs.Hear.{hear, reportHeard}
 use Rattle.hub.specs.Step.{step, reportStepped}
-use Rattle.promises.proofs.ReaderNumber.{read-found}
+use Rattle.promises.proofs.Admitting.{role-hears}
 use Rattle.promises.specs.Written.{Wrote, ReadAs, ReadsBack, StepsByState}
 
 module _ (h : Header) (chain bytes keys message : List ℕ) (w : Wrote h chain bytes keys message) where
@@ -66,9 +67,10 @@ pub step-hears : (c : Connection) (h : Header) (bytes m keys working report : Li
     → ReadAs h bytes m keys working
     → (step c m keys working report v ≡ hear c h bytes report v) × (reportStepped c m keys working report v ≡ reportHeard c h bytes report)
 unfolding step reportStepped
-step-hears c h bytes m keys working report v z l r =
-    let e = read-found m keys (length working) (r .accepted) in
-    rw (le-ltb 1 v l, z, e, rw e at (r .handed), rw e at (r .header)) (refl, refl)
+step-hears c h bytes m keys working report v z l r = (
+  role-hears (refuse c) (λ h p. hear c h p report v) (c .size) v h bytes m keys working z l r,
+  role-hears (λ n. report) (λ h p. reportHeard c h p report) (c .size) v h bytes m keys working z l r,
+)
 
 pub steps-by-state : StepsByState
 steps-by-state c h chain payload keys message w working report v room l z =

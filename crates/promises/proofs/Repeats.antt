@@ -19,7 +19,8 @@ use Rattle.promises.proofs.ReaderNumber.{read-found}
 use Rattle.promises.proofs.ReadAgain.{read-again}
 use Rattle.promises.proofs.StateKept.{step-kept}
 use Rattle.promises.proofs.RepeatKnown.{Known, still-known, same-known, again, hear-replied}
-use Rattle.hub.specs.Calls.{Call, Standing, after, answer, afterAll}
+use Rattle.admission.specs.Calls.{Call}
+use Rattle.hub.specs.Calls.{Standing, after, answer, afterAll}
 
 -- The message of a call that was answered with a reply was read,
 content : (p : Standing) (x : Call) (t : ℕ) → answer p x ≡ Reply t → Content x

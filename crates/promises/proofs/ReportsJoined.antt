@@ -17,7 +17,8 @@ use Rattle.promises.specs.Reports.{Sending, began, fragments, Fair, frag
 use Rattle.promises.specs.Reports.{Brought, DemandThree, NotBetween}
 use Rattle.promises.proofs.ReadBack.{steps-by-state}
 use Rattle.joining.specs.Events.{Event, piece}
-use Rattle.hub.specs.Calls.{Call, Standing}
+use Rattle.admission.specs.Calls.{Call}
+use Rattle.hub.specs.Calls.{Standing}
 
 module _ (s : Sending) (f : Fair s) where
   -- What the cutter does not refuse at piece 0 it refuses at no piece under the count.

@@ -9,7 +9,8 @@ use Rattle.hub.specs.declared.Answer.the-variants.{Failure}
 use Rattle.hub.specs.Host.{withDigestAndState}
 use Rattle.hub.specs.Hear.{certificate, withProgress}
 use Rattle.hub.specs.Step.{step}
-use Rattle.hub.specs.Calls.{Call, Standing, answer}
+use Rattle.admission.specs.Calls.{Call}
+use Rattle.hub.specs.Calls.{Standing, answer}
 use Rattle.hub.proofs.Telling.{said-apart}
 use Rattle.hub.proofs.HostWays.{connect-cases}
 use Rattle.hub.proofs.StepCases.{step-has}

@@ -26,7 +26,8 @@ use Rattle.promises.specs.Met.{Typed, Choice, Good, callFor}
 use Rattle.promises.proofs.ReportsJoined.{demand-three}
 use Rattle.promises.proofs.Writes.{not-longer, can-be-sent}
 use Rattle.joining.specs.Events.{Event, piece, between, LastMissing}
-use Rattle.hub.specs.Calls.{Call, Standing, says}
+use Rattle.admission.specs.Calls.{Call}
+use Rattle.hub.specs.Calls.{Standing, says}
 
 -- A list whose elements are tested to be bytes.
 abbrev below : List ℕ → Bool

@@ -9,14 +9,13 @@ use Rattle.laws.proofs.Firsts.{leads-first, quiet-first}
 use Rattle.seal.specs.Opening.{intoUnless}
 use Rattle.message.specs.Reading.{opened, workingAfter}
 use Rattle.joining.specs.Cut.{badSize}
-use Rattle.hub.specs.declared.Connection.{Connection}
-use Rattle.hub.specs.Step.{unready, workingStepped}
+use Rattle.admission.specs.Admission.{unready, workingAdmitted}
 use Rattle.promises.specs.Refusals.{sealed, start, headerTable, sealedTable, untouchedTable, WorkingBuffer}
 use Rattle.promises.proofs.ReaderNumber.{working-by-number}
 use Rattle.promises.proofs.Exactly.{leads-numbered}
 use Rattle.promises.proofs.RefusalTables.{early-first}
 
-module _ (c : Connection) (m keys working report : List ℕ) (v : ℕ) where
+module _ (F v : ℕ) (m keys working : List ℕ) where
   -- Rows 1 to 13.
   abbrev rows : List (ℕ × Bool)
   rows = headerTable m ++ sealedTable m keys (length working)
@@ -27,17 +26,17 @@ module _ (c : Connection) (m keys working report : List ℕ) (v : ℕ) where
       working-by-number m keys working
       ∙ ap (λ (n : ℕ). cond (sealed m) (intoUnless n (opened m keys (start m)) working) working) (sym (early-first m keys (length working) bytes))
 
-  pub working-buffer : WorkingBuffer c m keys working report v
-  unfolding workingStepped intoUnless
+  pub working-buffer : WorkingBuffer F v m keys working
+  unfolding workingAdmitted intoUnless
   working-buffer bytes =
       record {
         refused = λ n l.
-            on (unready c v) (λ u. rw u)
+            on (unready F v) (λ u. rw u)
             (λ u.
-            let z = leads-numbered n (untouchedTable c m keys working report v) refl l in
-            let k = or-false (ltb 1 v) (badSize (c .size)) u in
-            let e : first rows ≡ n = rw (k .0, k .1) at (leads-first n (untouchedTable c m keys working report v) l) in
+            let z = leads-numbered n (untouchedTable F v m keys working) refl l in
+            let k = or-false (ltb 1 v) (badSize F) u in
+            let e : first rows ≡ n = rw (k .0, k .1) at (leads-first n (untouchedTable F v m keys working) l) in
             rw (u, after-first bytes, e, ne-eqb n 0 z) (on (sealed m) (λ s. rw s) (λ s. rw s)));
-        plain = λ s. on (unready c v) (λ u. rw u) (λ u. rw (u, after-first bytes, s));
+        plain = λ s. on (unready F v) (λ u. rw u) (λ u. rw (u, after-first bytes, s));
         past = λ q s. rw (q .0, q .1 .0, after-first bytes, quiet-first rows (q .1 .1), s);
       }

@@ -10,7 +10,8 @@ use Rattle.joining.specs.Heard.{most, none}
 use Rattle.joining.specs.declared.answer.Said.{Said}
 use Rattle.joining.specs.Answers.{isTaken, isRepeat, isComplete}
 use Rattle.joining.specs.Events.{Event, piece, came, howMany}
-use Rattle.hub.specs.Calls.{Call, Standing, after, says, afterAll}
+use Rattle.admission.specs.Calls.{Call}
+use Rattle.hub.specs.Calls.{Standing, after, says, afterAll}
 
 -- FragmentIndex, in its place on the wire.
 abbrev pub indexIn : Call → ℕ

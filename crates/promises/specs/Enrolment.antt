@@ -12,7 +12,8 @@ use Rattle.sha256.specs.Digests.{digest}
 use Rattle.seal.specs.Opening.{sealedPart}
 use Rattle.hub.specs.Answers.{reply, again, failure}
 use Rattle.hub.specs.Hear.{certificate}
-use Rattle.hub.specs.Calls.{Call, Standing, after, says, afterAll}
+use Rattle.admission.specs.Calls.{Call}
+use Rattle.hub.specs.Calls.{Standing, after, says, afterAll}
 use Rattle.promises.specs.Refusals.{sealed, start}
 use Rattle.promises.specs.Written.{ReadAs}
 

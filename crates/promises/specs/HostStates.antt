@@ -14,7 +14,8 @@ use Rattle.hub.specs.declared.Connection.{Connection}
 use Rattle.hub.specs.Answers.{reply, again, failure}
 use Rattle.hub.specs.Host.{requested, withDigestAndState}
 use Rattle.hub.specs.Hear.{certificate, pieceIn, withProgress, isForeign}
-use Rattle.hub.specs.Calls.{Call, Standing, says, after}
+use Rattle.admission.specs.Calls.{Call}
+use Rattle.hub.specs.Calls.{Standing, says, after}
 use Rattle.promises.specs.Enrolment.{Content}
 
 -- A call that comes as far as the states: the reader reads its message, and neither 25 nor 24 nor 16 applies.

@@ -17,7 +17,8 @@ use Rattle.hub.specs.Opening.{blank}
 use Rattle.promises.specs.Enrolment.{AskedAgain}
 use Rattle.promises.specs.Reports.{Sending, fragments, fragment, headerFor, Fair, Sent, Course}
 use Rattle.joining.specs.Events.{Event, piece}
-use Rattle.hub.specs.Calls.{Call, Standing, after, says}
+use Rattle.admission.specs.Calls.{Call}
+use Rattle.hub.specs.Calls.{Standing, after, says}
 
 -- What the types of the calls say of a report that is sent, and 64 key bytes.
 pub record Typed (s : Sending) : Type 0 where

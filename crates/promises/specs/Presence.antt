@@ -20,7 +20,8 @@ use Rattle.message.specs.Widths.{InWidth}
 use Rattle.message.specs.Writing.{messageBytes}
 use Rattle.joining.specs.Answers.{refused}
 use Rattle.joining.specs.Cut.{badSize}
-use Rattle.hub.specs.Calls.{Call, Standing, says, after}
+use Rattle.admission.specs.Calls.{Call}
+use Rattle.hub.specs.Calls.{Standing, says, after}
 use Rattle.promises.specs.Refusals.{_⇔_}
 use Rattle.promises.specs.Enrolment.{Content}
 use Rattle.promises.specs.Written.{Wrote, ReadAs}

@@ -8,7 +8,7 @@ use mathlib.Core.Bool.{Bool, true, false, cond, not, _&&_, _||_}
 use lib.ListN.{length, take, drop}
 use lib.Dec.{ltb, leb, eqb}
 use Rattle.laws.specs.Bytes.{AreBytes, be8, be16}
-use Rattle.laws.specs.Rows.{leads, quiet}
+use Rattle.laws.specs.Rows.{leads, quiet, anyOf}
 use Rattle.laws.specs.Same.{same}
 use Rattle.wire.specs.Fields.{badType, badFlags, badPiece, isSealed, tagSize}
 use Rattle.wire.specs.Chain.{leaves, isBroken, badChain}
@@ -34,12 +34,12 @@ use Rattle.joining.specs.declared.cut.Cutting.{Cutting}
 use Rattle.joining.specs.Join.{unlike, misfit, conflict}
 use Rattle.hub.specs.declared.Connection.{Connection}
 use Rattle.hub.specs.declared.Opened.{Opened}
-use Rattle.hub.specs.declared.Stepped.{Stepped}
 use Rattle.hub.specs.Answers.{said}
 use Rattle.hub.specs.Opening.{blank, opened as openedAt}
 use Rattle.hub.specs.Host.{hostRows}
 use Rattle.hub.specs.Hear.{certificate, pieceIn, isForeign, joins}
-use Rattle.hub.specs.Step.{step, reportStepped, workingStepped}
+use Rattle.hub.specs.Step.{step, reportStepped}
+use Rattle.admission.specs.Admission.{workingAdmitted}
 
 -- What the reader sees of a message without keys.
 module _ (m : List ℕ) where
@@ -119,13 +119,8 @@ ReaderExact =
 abbrev pub handedOut : (m keys working : List ℕ) → List ℕ
 handedOut m keys working = payload m (workingAfter m keys working) (readMessage m keys (length working))
 
--- One of the sentences of "Host states" applies to a Connect message.
-abbrev pub anyOf : List (Bool × Stepped) → Bool
-anyOf [] = false
-anyOf (row ∷ rows) = row .0 || anyOf rows
-
 module _ (c : Connection) (h : Header) (payload report : List ℕ) (verdict : ℕ) where
-  -- The message is Connect, and such a sentence applies to it.
+  -- The message is Connect, and one of the sentences of "Host states" applies to it.
   abbrev pub enrols : Bool
   enrols = eqb (h .kind) 2 && anyOf (hostRows c (connectType payload) (h .session) (readRequest payload) (digest (certificate payload)) verdict)
 
@@ -152,20 +147,22 @@ module _ (c : Connection) (h : Header) (payload report : List ℕ) (verdict : �
       ∷ (23, joins c h && conflict (c .size) (c .progress) (pieceIn h) payload report)
       ∷ []
 
-module _ (c : Connection) (m keys working report : List ℕ) (verdict : ℕ) where
-  -- Rows 25 and 24, which come before the message is looked at.
-  abbrev pub readyTable : List (ℕ × Bool)
-  readyTable =
-      -- verdict not 0 or 1
-      (25, ltb 1 verdict)
-      -- F outside 1 to 16,384 … in the connection given to a step
-      ∷ (24, badSize (c .size))
-      ∷ []
+-- Rows 25 and 24 of a step, in either role, which come before the message is looked at.
+abbrev pub readyTable : (F verdict : ℕ) → List (ℕ × Bool)
+readyTable F verdict =
+    -- verdict not 0 or 1
+    (25, ltb 1 verdict)
+    -- F outside 1 to 16,384 … in the connection given to a step
+    ∷ (24, badSize F)
+    ∷ []
 
+module _ (c : Connection) (m keys working report : List ℕ) (verdict : ℕ) where
   -- "A step checks in this order, the first that applies being the answer: 25; 24; 1 to 9; for sealed messages 10 to 13; 14; 16; 15; then
   -- 19, 17, 18, 21, 20, 22, 23."
   abbrev pub stepTable : List (ℕ × Bool)
-  stepTable = readyTable ++ (readerTable m keys (length working) ++ hostTable c (headerOf m) (handedOut m keys working) report verdict)
+  stepTable =
+      readyTable (c .size) verdict
+      ++ (readerTable m keys (length working) ++ hostTable c (headerOf m) (handedOut m keys working) report verdict)
 
   -- The step: "Given exactly when".
   abbrev pub StepExact : Type 0
@@ -177,17 +174,19 @@ module _ (c : Connection) (m keys working report : List ℕ) (verdict : ℕ) whe
       (n : ℕ) → said (step c m keys working report verdict .answer) ≡ refused n
       → (step c m keys working report verdict .connection ≡ c) × (reportStepped c m keys working report verdict ≡ report)
 
+-- What a step leaves in the working buffer, in either role.
+module _ (F verdict : ℕ) (m keys working : List ℕ) where
   -- The rows that leave the working buffer untouched: 25, 24, 1 to 13.
   abbrev pub untouchedTable : List (ℕ × Bool)
-  untouchedTable = readyTable ++ (headerTable m ++ sealedTable m keys (length working))
+  untouchedTable = readyTable F verdict ++ (headerTable m ++ sealedTable m keys (length working))
 
   -- "The working buffer is untouched by refusals 1 to 13, 24 and 25, and by plain messages. After a sealed message got past 13 its first bytes
   -- hold the opened sealed part, the rest is unchanged."
   pub record WorkingRule : Type 0 where
-    pub refused : (n : ℕ) → leads n untouchedTable → workingStepped c m keys working verdict ≡ working
-    pub plain : sealed m ≡ false → workingStepped c m keys working verdict ≡ working
+    pub refused : (n : ℕ) → leads n untouchedTable → workingAdmitted F verdict m keys working ≡ working
+    pub plain : sealed m ≡ false → workingAdmitted F verdict m keys working ≡ working
     pub past : quiet untouchedTable → sealed m ≡ true
-        → workingStepped c m keys working verdict
+        → workingAdmitted F verdict m keys working
         ≡ opened m keys (start m) ++ drop (length (opened m keys (start m))) working
 
   -- It holds of every message, which is a list of bytes.

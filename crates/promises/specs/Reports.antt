@@ -18,7 +18,8 @@ use Rattle.hub.specs.Answers.{isQuiet}
 use Rattle.hub.specs.Hear.{withProgress}
 use Rattle.promises.specs.Written.{Wrote}
 use Rattle.joining.specs.Events.{Event, piece, between, came, LastMissing, howMany}
-use Rattle.hub.specs.Calls.{Call, Standing, after, says, afterAll}
+use Rattle.admission.specs.Calls.{Call}
+use Rattle.hub.specs.Calls.{Standing, after, says, afterAll}
 
 -- A report that is sent to a connection, in these keys and on this channel; and the report buffer as it began.
 pub record Sending : Type 0 where
