@@ -6,6 +6,7 @@ pub mod Written
 pub mod Pieces
 pub mod Line
 pub mod Answered
+pub mod Client
 pub mod Stream
 pub mod Connect
 pub mod Discovery

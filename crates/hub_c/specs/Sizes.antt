@@ -30,6 +30,10 @@ placeSize = 3
 abbrev pub answerSize : ℕ
 answerSize = 3
 
+-- The words of the request that is due.
+abbrev pub dueSize : ℕ
+dueSize = 1
+
 -- The words of a piece.
 abbrev pub pieceSize : ℕ
 pieceSize = 3

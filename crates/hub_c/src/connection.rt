@@ -79,8 +79,8 @@ fn settle(stepped: Stepped, state: &mut [u8], answer: &mut [u64]) -> u32
     0
 }
 
-// The verdict as a step takes it. Every word but 0 and 1 is one that it refuses with 25.
-fn verdict_of(word: u64) -> u8
+// The verdict as a step takes it, in either role. Every word but 0 and 1 is one that it refuses with 25.
+pub(crate) fn verdict_of(word: u64) -> u8
     ensures { λ r. ⌜ r ≡ verdictOf word ⌝ }
 {
     if word < 2 { word as u8 } else { 2 }

@@ -3,6 +3,7 @@
 // document 01's refusal where it refuses, and 255, a number that document 01 does not use, where a buffer of fixed size has another size,
 // a word no room in its field, or the report buffer none for the report. That is judged first, and then nothing is changed. In C a slice is
 // a pointer and a length.
+pub mod client;
 pub mod connect;
 pub mod connection;
 pub mod cutting;
@@ -20,7 +21,7 @@ ghost use mathlib.Core.Path.{_≡_};
 // The version of these calls: major · 65536 + minor · 256 + patch.
 #[no_mangle]
 pub extern "C" fn hub_version() -> u32
-    ensures { λ r. ⌜ r ≡ 0x00010100 ⌝ }
+    ensures { λ r. ⌜ r ≡ 0x00010200 ⌝ }
 {
-    0x00010100
+    0x00010200
 }

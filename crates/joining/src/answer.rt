@@ -1,10 +1,10 @@
 // SPDX-License-Identifier: MPL-2.0
-// An answer in document 01's numbers: of a piece that arrives here, of a step in the crate above.
+// An answer in document 01's numbers: of a piece that arrives here, of a step in the crates above.
 ghost use mathlib.Core.Path.{_≡_};
 ghost use Rattle.joining.specs.Answers.{words, refused, arrived};
 use super::Arrival;
 
-// The kinds of a piece's answers; a refusal is 0, and a step has 1 to 3 besides.
+// The kinds of a piece's answers; a refusal is 0. A step of the hub has 1 to 3 besides, one of the gateway 2 and 7 to 9.
 pub const TAKEN: u64 = 4;
 
 pub const REPEAT: u64 = 5;
@@ -15,9 +15,9 @@ pub const COMPLETE: u64 = 6;
 pub struct Said {
     // The refusal's number, 0 where there is none.
     pub refusal: u8,
-    // Which case it is: 0 Refused, 1 Reply, 2 Again, 3 Failure, 4 Taken, 5 Repeat, 6 Complete.
+    // Which case it is: 0 Refused, 1 Reply, 2 Again, 3 Failure, 4 Taken, 5 Repeat, 6 Complete; on the gateway's side 7 Next, 8 Ready, 9 Failed.
     pub kind: u64,
-    // How many different pieces have come; of a reply its Connect type.
+    // How many different pieces have come; of a reply, and of a request, its Connect type.
     pub value: u64,
     // Of Complete the report's length; of a reply its Status.
     pub detail: u64,

@@ -5,3 +5,4 @@ pub mod Sames
 pub mod Bits
 pub mod StateBack
 pub mod StateWhole
+pub mod ClientStored

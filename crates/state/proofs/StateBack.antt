@@ -37,7 +37,7 @@ read16 n e = rw e (simp div-add-mod')
 read32 : {l : List ℕ} (n : ℕ) → l ≡ bytes32 n → be32 l 0 ≡ n
 read32 n e = rw e (simp div-add-mod')
 
-read64 : {l : List ℕ} (n : ℕ) → l ≡ bytes64 n → be64 l 0 ≡ n
+pub read64 : {l : List ℕ} (n : ℕ) → l ≡ bytes64 n → be64 l 0 ≡ n
 read64 n e = rw e (simp div-add-mod')
 
 -- The heard set, where its bytes stand at their place.

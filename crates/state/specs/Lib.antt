@@ -1,3 +1,4 @@
 -- SPDX-License-Identifier: MPL-2.0
 pub mod Layout
 pub mod State
+pub mod Client
