@@ -36,7 +36,7 @@ module _ (f : Format) (v : Values f) (p : List ℕ) (w : WrotePayload f v p) whe
   back : (p ≡ write f v) × (accepts f (write f v) ≡ true) × (read f (write f v) ≡ v)
   back = let k = payload-back f v (w .output) _ answered in (w .bytes ∙ k .0, k .1, k .2)
 
-  is : p ≡ write f v
+  pub is : p ≡ write f v
   is = back .0
 
   accepted : accepts f p ≡ true

@@ -25,3 +25,8 @@ pub mod HostSteps
 pub mod ConnectBack
 pub mod PresenceBack
 pub mod DiscoverySteps
+pub mod GatewaySteps
+pub mod GatewayTable
+pub mod SidesHear
+pub mod TwoSides
+pub mod SidesReady

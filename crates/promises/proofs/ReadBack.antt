@@ -30,7 +30,7 @@ module _ (h : Header) (chain bytes keys message : List ℕ) (w : Wrote h chain b
       let n = writeRefusal h chain bytes (length keys) (length (w .output)) in
       on (eqb n 0) (λ e. eqb-true n 0 e) (λ e. rw e at (w .accepted))
 
-  is-message : message ≡ messageBytes h chain bytes keys
+  pub is-message : message ≡ messageBytes h chain bytes keys
   unfolding writeAnswer writtenInto
   is-message =
       let size = lengthOf h chain bytes in

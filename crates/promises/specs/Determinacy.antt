@@ -5,6 +5,8 @@
 use mathlib.Core.Path.{_≡_}
 use Rattle.hub.specs.declared.Answer.{Answer}
 use Rattle.hub.specs.Answers.{said}
+use Rattle.gateway.specs.declared.Answer as client
+use Rattle.gateway.specs.Answers as gateway
 
 -- Any two results that a clause allows agree.
 abbrev pub Determined : (A : Type 0) → (A → Type 0) → Type 0
@@ -21,3 +23,7 @@ OneOutcome = (A B : Type 0) (value : A) (held : B) → Determined (A × B) (λ r
 -- "a definition specifies this paper's number and values for each of its cases": by them a step's answer is known, no two say the same.
 abbrev pub ToldApart : Type 0
 ToldApart = (a b : Answer) → said a ≡ said b → a ≡ b
+
+-- So is an answer of the gateway's step, in which a request's type is a byte.
+abbrev pub ToldApartByGateway : Type 0
+ToldApartByGateway = (a b : client.Answer) → gateway.OfBytes a → gateway.OfBytes b → gateway.said a ≡ gateway.said b → a ≡ b

@@ -11,4 +11,6 @@ pub mod Enrolment
 pub mod HostStates
 pub mod Counted
 pub mod Met
+pub mod Gateway
+pub mod TwoSides
 pub mod Determinacy
