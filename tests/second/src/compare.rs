@@ -5,13 +5,14 @@
 use std::fmt::Debug;
 use std::ops::Range;
 
+use crate::client::{self, Client};
 use crate::connection::{Answer, Connection};
 use crate::crypto::{hmac, sha256};
 use crate::cutter::cut;
 use crate::draft::Damage;
 use crate::generate::{Case, Conversation, CutCase, PayloadCase, PresenceCase, WriteCase};
-use crate::generate::{case, connect_bytes, conversation, cut_case, discovery_bytes};
-use crate::generate::{payload_case, presence_case, write_case};
+use crate::generate::{case, client_case, connect_bytes, conversation, cut_case, discovery_bytes};
+use crate::generate::{meeting, payload_case, presence_case, write_case};
 use crate::header::{Framed, Header, read_header};
 use crate::listing::{line, wanted};
 use crate::message::{Message, part, read_message};
@@ -20,6 +21,8 @@ use crate::payload::{write_connect, write_presence_request, write_presence_respo
 use crate::prng::Prng;
 use crate::refusal::Refusal;
 use crate::writer::write_message;
+
+mod client_side;
 
 /// Document 01's calls, on buffers of the caller.
 pub trait Implementation {
@@ -84,6 +87,22 @@ pub trait Implementation {
         report: &mut [u8],
         verdict: u64,
     ) -> (Connection, Answer);
+
+    /// Opening the gateway's side: the connection answered, and what refused it.
+    fn gateway_open(&mut self, fragment_size: u32, session: u64) -> (Client, Result<(), Refusal>);
+
+    /// A step of the gateway's side.
+    fn gateway_step(
+        &mut self,
+        client: Client,
+        message: &[u8],
+        keys: &[u8],
+        working: &mut [u8],
+        verdict: u64,
+    ) -> (Client, client::Answer);
+
+    /// The type of the request that is due on the gateway's side, if one is.
+    fn gateway_due(&mut self, client: Client) -> Option<u8>;
 
     /// The cutter: the count, where in the report the piece lies, and what refused it.
     fn cut(&mut self, report: &[u8], fragment_size: u32, index: u32) -> Piece;
@@ -178,6 +197,25 @@ impl Implementation for Second {
         connection.step(message, keys, working, report, verdict)
     }
 
+    fn gateway_open(&mut self, fragment_size: u32, session: u64) -> (Client, Result<(), Refusal>) {
+        Client::open(fragment_size, session)
+    }
+
+    fn gateway_step(
+        &mut self,
+        client: Client,
+        message: &[u8],
+        keys: &[u8],
+        working: &mut [u8],
+        verdict: u64,
+    ) -> (Client, client::Answer) {
+        client.step(message, keys, working, verdict)
+    }
+
+    fn gateway_due(&mut self, client: Client) -> Option<u8> {
+        client.due()
+    }
+
     fn cut(&mut self, report: &[u8], fragment_size: u32, index: u32) -> Piece {
         let (cut, refused) = cut(report, fragment_size, index);
         let start = cut.piece.as_ptr() as usize - report.as_ptr() as usize;
@@ -204,10 +242,14 @@ pub struct Difference(pub String);
 /// How many calls agreed.
 #[derive(Clone, Copy, Debug, Default, PartialEq, Eq)]
 pub struct Tally {
-    /// Steps, those of conversations included.
+    /// Steps of the host's side, those of conversations and meetings included.
     pub steps: u64,
     /// Whole conversations.
     pub conversations: u64,
+    /// Steps of the gateway's side, those of meetings included.
+    pub gateway_steps: u64,
+    /// Whole conversations between both sides.
+    pub meetings: u64,
     /// Messages read, without a step.
     pub reads: u64,
     /// Calls of the writer.
@@ -242,8 +284,10 @@ impl<I: Implementation> Comparison<I> {
         Comparison { other, tally: Tally::default() }
     }
 
-    /// Sixty single steps, one conversation, and four each of calls of the writer, of the cutter, of
-    /// the digests, and of each of the payloads' writers and readers.
+    /// Sixty single steps, one conversation, and four each of calls of the writer, of the cutter,
+    /// of the digests, and of each of the payloads' writers and readers; then twelve single steps
+    /// of the gateway's side and a meeting of both sides. These last draw from a generator of their
+    /// own, so that all else in the rounds of a seed is what it was without them.
     pub fn round(&mut self, prng: &mut Prng) -> Result<(), Difference> {
         for _ in 0..60 {
             let case = case(prng);
@@ -263,7 +307,11 @@ impl<I: Implementation> Comparison<I> {
             self.write_presence(&presence_case(prng))?;
             self.read_payload(&discovery_bytes(prng))?;
         }
-        Ok(())
+        let aside = &mut prng.aside();
+        for _ in 0..12 {
+            self.gateway_step(&client_case(aside))?;
+        }
+        self.meet(&meeting(aside))
     }
 
     /// The header reader, the listing's line, the message reader and the length in a stream on a
@@ -301,7 +349,7 @@ impl<I: Implementation> Comparison<I> {
         let opened = Connection::open(size);
         same(&size, opened, self.other.open(size))?;
         let connection = opened.0;
-        let mut ours = Case {
+        let hub = Case {
             connection,
             message: Vec::new(),
             keys: talk.keys.to_vec(),
@@ -309,33 +357,48 @@ impl<I: Implementation> Comparison<I> {
             report: vec![0x55; talk.report],
             verdict: 0,
         };
-        let mut theirs = ours.clone();
+        let mut hubs = [hub.clone(), hub];
         for (number, delivery) in talk.deliveries.iter().enumerate() {
-            for case in [&mut ours, &mut theirs] {
-                case.message.clone_from(&delivery.message);
-                case.verdict = delivery.verdict;
-            }
-            let our_answer = ours.step();
-            let their_answer = step(&mut self.other, &mut theirs);
-            let input = (number, talk);
-            same(&input, our_answer, their_answer)?;
-            same(&input, (&ours.working, &ours.report), (&theirs.working, &theirs.report))?;
-            (ours.connection, theirs.connection) = (our_answer.0, their_answer.0);
-            self.tally.steps += 1;
+            self.hubs_hear(&(number, talk), &mut hubs, &delivery.message, delivery.verdict)?;
         }
         self.tally.conversations += 1;
         Ok(())
     }
 
+    /// One more message of a conversation at both hubs, this implementation's first.
+    fn hubs_hear(
+        &mut self,
+        input: &dyn Debug,
+        hubs: &mut [Case; 2],
+        message: &[u8],
+        verdict: u64,
+    ) -> Result<(), Difference> {
+        for hub in hubs.iter_mut() {
+            message.clone_into(&mut hub.message);
+            hub.verdict = verdict;
+        }
+        let [ours, theirs] = hubs;
+        let (our_answer, their_answer) = (ours.step(), step(&mut self.other, theirs));
+        same(input, our_answer, their_answer)?;
+        same(input, (&ours.working, &ours.report), (&theirs.working, &theirs.report))?;
+        (ours.connection, theirs.connection) = (our_answer.0, their_answer.0);
+        self.tally.steps += 1;
+        Ok(())
+    }
+
     /// One call of the writer.
     pub fn write(&mut self, case: &WriteCase) -> Result<(), Difference> {
+        self.same_bytes(case)?;
+        self.tally.writes += 1;
+        Ok(())
+    }
+
+    fn same_bytes(&mut self, case: &WriteCase) -> Result<(), Difference> {
         let (mut ours, mut theirs) = (case.clone(), case.output.clone());
         let our_answer = ours.write();
         let WriteCase { header, chain, payload, keys, .. } = case;
         let their_answer = self.other.write_message(header, chain, payload, keys, &mut theirs);
-        same(case, (our_answer, ours.output), (their_answer, theirs))?;
-        self.tally.writes += 1;
-        Ok(())
+        same(case, (our_answer, ours.output), (their_answer, theirs))
     }
 
     /// One call of a Connect payload's writer, and the Presence Request's with the same output.
@@ -392,15 +455,8 @@ impl<I: Implementation> Comparison<I> {
     /// A fault at every place: the message cut at every length, every bit of it flipped, keys, working
     /// buffer and report buffer at every size from none to what the case has.
     pub fn every_fault(&mut self, case: &Case) -> Result<(), Difference> {
-        let mut faulty = Vec::new();
-        for length in 0..case.message.len() {
-            faulty.push(Case { message: case.message[..length].to_vec(), ..case.clone() });
-        }
-        for bit in 0..8 * case.message.len() {
-            let mut flipped = case.clone();
-            Damage::Flip(bit).befall(&mut flipped.message);
-            faulty.push(flipped);
-        }
+        let messages = spoilt(&case.message).into_iter();
+        let mut faulty: Vec<_> = messages.map(|message| Case { message, ..case.clone() }).collect();
         let shorter: [fn(&mut Case) -> &mut Vec<u8>; 3] =
             [|case| &mut case.keys, |case| &mut case.working, |case| &mut case.report];
         for buffer in shorter {
@@ -426,6 +482,17 @@ impl<I: Implementation> Comparison<I> {
         }
         Ok(())
     }
+}
+
+/// A message cut at every length, and with each bit flipped.
+fn spoilt(message: &[u8]) -> Vec<Vec<u8>> {
+    let cut = (0..message.len()).map(|length| message[..length].to_vec());
+    let flipped = (0..8 * message.len()).map(|bit| {
+        let mut flipped = message.to_vec();
+        Damage::Flip(bit).befall(&mut flipped);
+        flipped
+    });
+    cut.chain(flipped).collect()
 }
 
 fn step(other: &mut impl Implementation, case: &mut Case) -> (Connection, Answer) {

@@ -3,10 +3,9 @@
 
 use std::fmt;
 
+use crate::admit::admit;
 use crate::crypto::sha256;
-use crate::header::Kind;
-use crate::message::{part, read_message};
-use crate::payload::{Connect, FRAGMENT_SIZE, Offer, Payload, read_payload};
+use crate::payload::{Connect, FRAGMENT_SIZE, Offer, Payload};
 use crate::refusal::{Refusal, require};
 
 /// The states of a host; the value is document 01's number.
@@ -143,19 +142,13 @@ impl Connection {
         report: &mut [u8],
         verdict: u64,
     ) -> Result<Next, Refusal> {
-        require(verdict <= 1, Refusal::Verdict)?;
-        check_fragment_size(self.fragment_size)?;
-        let read = read_message(message, keys, working)?;
-        let (kind, header) = (read.kind, read.header);
-        let bytes = part(Some(&read.payload), message, working);
-        let payload = read_payload(kind, header.sealed(), bytes)?;
-        let bound = kind != Kind::Discovery && self.state != State::AwaitingRequest as u8;
-        require(!bound || header.session == self.session, Refusal::Session)?;
-        match payload {
+        let bound = (self.state != State::AwaitingRequest as u8).then_some(self.session);
+        let read = admit(self.fragment_size, bound, message, keys, working, verdict)?;
+        match read.payload {
             Payload::PresenceRequest | Payload::PresenceResponse(_) => Err(Refusal::State),
-            Payload::Connect(_, connect) => self.enrol(header.session, connect, verdict == 1),
+            Payload::Connect(_, connect) => self.enrol(read.header.session, connect, read.passes),
             Payload::Piece(piece) if self.state == State::Ready as u8 => {
-                self.join(&header, piece, report)
+                self.join(&read.header, piece, report)
             }
             Payload::Piece(_) => Err(Refusal::State),
         }

@@ -91,13 +91,20 @@ impl Gateway {
     /// The replies that a hub would send it: Connection Response for each Result, Device
     /// Authentication Response, Authentication Done Response for each Status.
     pub fn replies(&self) -> Vec<Draft> {
-        let mut replies = vec![
-            self.connect(Connect::ConnectionPending(self.offer)),
-            self.connect(Connect::AuthenticationResponse(self.credentials())),
-        ];
+        let [pending, shown, _] = self.good_replies();
+        let mut replies = vec![pending, shown];
         replies.extend([0, 2, 3].map(|result| self.connect(Connect::ConnectionResult(result))));
         replies.extend((0..=4).map(|status| self.connect(Connect::DoneResponse(status))));
         replies
+    }
+
+    /// The three replies that take it through its enrolment: Pending, a certificate, Status 0.
+    pub fn good_replies(&self) -> [Draft; 3] {
+        [
+            self.connect(Connect::ConnectionPending(self.offer)),
+            self.connect(Connect::AuthenticationResponse(self.credentials())),
+            self.connect(Connect::DoneResponse(0)),
+        ]
     }
 
     /// A Session message with any index, count and payload.

@@ -2,7 +2,8 @@
 //! Inputs for comparing two implementations, drawn from a [`Prng`], so that a seed names an input.
 //!
 //! [`mod@step`] makes single steps with faults of every kind, [`mod@conversation`] whole
-//! conversations over a bad link, [`mod@write`] calls of the writer and of the cutter,
+//! conversations over a bad link, [`mod@client`] and [`mod@meeting`] the same for the gateway's
+//! side and for both sides together, [`mod@write`] calls of the writer and of the cutter,
 //! [`mod@payload`] calls of the payloads' writers and bytes for their readers.
 
 use crate::connection::State;
@@ -12,14 +13,18 @@ use crate::header::{ACKNOWLEDGE, WAKE};
 use crate::payload::FRAGMENT_SIZE;
 use crate::prng::Prng;
 
+pub mod client;
 pub mod conversation;
 pub mod fault;
+pub mod meeting;
 pub mod payload;
 pub mod step;
 pub mod write;
 
+pub use client::{ClientCase, client, client_case, incoming};
 pub use conversation::{Conversation, Delivery, Link, conversation};
 pub use fault::Fault;
+pub use meeting::{Arrival, Meeting, Side, meeting};
 pub use payload::{PayloadCase, connect_bytes, payload_case};
 pub use payload::{PresenceCase, discovery_bytes, presence_case};
 pub use step::{Case, case, connection, draft};

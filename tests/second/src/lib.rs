@@ -6,15 +6,18 @@
 //! the only place with `unsafe`).
 //!
 //! Reading goes [`header`] (with its [`chain`]), [`seal`], [`payload`], [`message`]; writing is
-//! [`writer`]; the host's side is [`connection`] with [`join`], the sender's [`cutter`];
-//! [`listing`] and [`replay`] are the programs. [`prng`], [`draft`], [`gateway`], [`generate`] and
-//! [`samples`] make inputs; [`compare`] holds another implementation against this one.
+//! [`writer`]; the host's side is [`connection`] with [`join`], the gateway's [`client`] and
+//! [`cutter`]; [`listing`] and [`replay`] are the programs. [`prng`], [`draft`], [`gateway`],
+//! [`generate`] and [`samples`] make inputs; [`compare`] holds another implementation against this
+//! one.
 
 #![deny(unsafe_code)]
 #![warn(missing_docs)]
 
+mod admit;
 pub mod bytes;
 pub mod chain;
+pub mod client;
 pub mod compare;
 pub mod connection;
 pub mod crypto;

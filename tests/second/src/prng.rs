@@ -12,6 +12,11 @@ impl Prng {
         Prng(seed)
     }
 
+    /// Another generator, named by where this one stands, which stays there.
+    pub fn aside(&self) -> Prng {
+        Prng(self.clone().word())
+    }
+
     /// Any 64 bits.
     pub fn word(&mut self) -> u64 {
         self.0 = self.0.wrapping_add(0x9E37_79B9_7F4A_7C15);

@@ -35,9 +35,9 @@ pub enum Refusal {
     Padding = 13,
     /// Discovery or Connect payload not as it should be.
     Payload = 14,
-    /// Message not allowed in this state.
+    /// Message not allowed in this state, by role.
     State = 15,
-    /// State not 0 and another SessionID.
+    /// State not 0 and another SessionID; on the gateway's side another SessionID in every state.
     Session = 16,
     /// SequenceNumber below the expected one.
     SequenceBelow = 17,

@@ -3,13 +3,15 @@
 
 mod common;
 
+use second::client::{self, Client, FAILED, READY};
 use second::compare::{Comparison, Difference, Implementation, Piece, Second, Tally};
 use second::connection::{Answer, Connection, State};
 use second::gateway::presence_response;
-use second::generate::{Case, WriteCase, case, payload_case, write_case};
-use second::header::{Framed, Header};
+use second::generate::{Case, ClientCase, WriteCase, case, payload_case, write_case};
+use second::generate::{client_case, meeting};
+use second::header::{Framed, Header, Kind};
 use second::message::{Message, part, read_message};
-use second::payload::{Connect, DiscoveryParts, Parts, Presence};
+use second::payload::{Connect, DiscoveryParts, Parts, Presence, read_connect};
 use second::prng::Prng;
 use second::refusal::Refusal;
 
@@ -20,9 +22,12 @@ fn it_agrees_with_itself() {
     for _ in 0..100 {
         comparison.round(&mut prng).unwrap();
     }
-    let Tally { steps, conversations, reads, writes, payloads, cuts, digests } = comparison.tally;
+    let Tally { steps, conversations, reads, writes, payloads, cuts, digests, .. } =
+        comparison.tally;
     assert_eq!((conversations, reads, writes, cuts, digests), (100, 6_000, 400, 400, 400));
     assert!(steps > 10_000 && payloads > 3_000);
+    let Tally { gateway_steps, meetings, .. } = comparison.tally;
+    assert!(meetings == 100 && gateway_steps > 1_500);
 }
 
 /// A fault at every place on each kind of message, in the state that waits for it.
@@ -54,6 +59,24 @@ fn a_fault_at_every_place() {
         comparison.every_output(&WriteCase { header, chain, payload, keys, output }).unwrap();
     }
     assert!(comparison.tally.steps > 4_000 && comparison.tally.writes > 400);
+}
+
+/// The same for the gateway's side and each reply that it waits for.
+#[test]
+fn a_fault_at_every_place_of_a_reply() {
+    let gateway = common::gateway();
+    let mut comparison = Comparison::new(Second);
+    for (state, draft) in (0..READY).zip(gateway.good_replies()) {
+        let case = ClientCase {
+            client: Client { fragment_size: 8, state, session: gateway.session },
+            message: draft.bytes(&gateway.keys),
+            keys: gateway.keys.to_vec(),
+            working: vec![0xAA; 100],
+            verdict: 1,
+        };
+        comparison.every_gateway_fault(&case).unwrap();
+    }
+    assert!(comparison.tally.gateway_steps > 3_000);
 }
 
 /// An implementation with one error.
@@ -88,6 +111,18 @@ enum Error {
     LineWithoutBlanks,
     DigestOfAllButOne,
     TagBit,
+    GatewayOpenKeepsSession,
+    ResultTakenForPending,
+    SessionIdNotAskedWhileWaiting,
+    SessionMessageNotRefused,
+    DoneTakenBeforeAuthentication,
+    AgainNamesWhatIsDue,
+    FailsOnlyOnTheAwaited,
+    FailsWhereStatesEnd,
+    VerdictOnEveryReply,
+    FailedForgetsSession,
+    GatewayTouchesWorking,
+    DoneIsDueInFailed,
 }
 
 /// Whether a message is a well formed Presence Response: of all plain payloads only its own starts
@@ -95,6 +130,14 @@ enum Error {
 fn responds(message: &[u8]) -> bool {
     read_message(message, &[], &mut [])
         .is_ok_and(|read| part(Some(&read.payload), message, &[]).first() == Some(&1))
+}
+
+/// Type, and Result or Status, of a Connect message that comes to a gateway.
+fn said(message: &[u8], keys: &[u8]) -> Option<(u8, u8)> {
+    let working = &mut vec![0; message.len()];
+    let read = read_message(message, keys, working).ok()?;
+    let parts = read_connect(part(Some(&read.payload), message, working)).ok()?;
+    (read.kind == Kind::Connect).then_some((parts.kind, parts.code))
 }
 
 impl Implementation for Spoilt {
@@ -243,6 +286,75 @@ impl Implementation for Spoilt {
         (next, answer)
     }
 
+    fn gateway_open(&mut self, fragment_size: u32, session: u64) -> (Client, Result<(), Refusal>) {
+        let (mut client, opened) = Second.gateway_open(fragment_size, session);
+        if self.0 == Error::GatewayOpenKeepsSession {
+            client.session = session;
+        }
+        (client, opened)
+    }
+
+    fn gateway_step(
+        &mut self,
+        client: Client,
+        message: &[u8],
+        keys: &[u8],
+        working: &mut [u8],
+        verdict: u64,
+    ) -> (Client, client::Answer) {
+        use client::Answer::{Again, Failed, Next, Ready, Refused};
+        let fifteen = Refused(Refusal::State);
+        let said = said(message, keys);
+        let (next, answer) = client.step(message, keys, working, verdict);
+        let waits_for = |kind| client.due().is_some_and(|request| request + 1 == kind);
+        match (self.0, answer, said) {
+            (Error::ResultTakenForPending, Failed, Some((1, 0))) if client.state == 0 => {
+                (Client { state: 1, ..client }, Next(2))
+            }
+            (Error::SessionIdNotAskedWhileWaiting, Refused(Refusal::Session), _)
+                if client.state == 0 =>
+            {
+                let session = u64::from_be_bytes(message[24..32].try_into().unwrap());
+                let (next, answer) =
+                    Client { session, ..client }.step(message, keys, working, verdict);
+                (Client { session: client.session, ..next }, answer)
+            }
+            (Error::SessionMessageNotRefused, Refused(Refusal::State), None)
+                if client.state == READY && message[5] == Kind::Session.number() =>
+            {
+                (client, Again(None))
+            }
+            (Error::DoneTakenBeforeAuthentication, Refused(Refusal::State), Some((7, 0)))
+                if client.state == 1 =>
+            {
+                (Client { state: READY, ..client }, Ready)
+            }
+            (Error::AgainNamesWhatIsDue, Again(_), _) => (next, Again(client.due())),
+            (Error::FailsOnlyOnTheAwaited, Failed, Some((kind, _))) if !waits_for(kind) => {
+                (client, fifteen)
+            }
+            (Error::FailsWhereStatesEnd, Refused(Refusal::State), Some((7, 1..)))
+                if client.state > FAILED =>
+            {
+                (Client { state: FAILED, ..client }, Failed)
+            }
+            (Error::VerdictOnEveryReply, Again(_) | Next(_) | Ready, _) if verdict == 0 => {
+                (Client { state: FAILED, ..client }, Failed)
+            }
+            (Error::FailedForgetsSession, Failed, _) => (Client { session: 0, ..next }, Failed),
+            (Error::GatewayTouchesWorking, Refused(Refusal::Session), _) => {
+                working.last_mut().into_iter().for_each(|byte| *byte = byte.wrapping_add(1));
+                (next, answer)
+            }
+            _ => (next, answer),
+        }
+    }
+
+    fn gateway_due(&mut self, client: Client) -> Option<u8> {
+        let failed = self.0 == Error::DoneIsDueInFailed && client.state == FAILED;
+        if failed { Some(6) } else { client.due() }
+    }
+
     fn cut(&mut self, report: &[u8], fragment_size: u32, index: u32) -> Piece {
         let (count, place, refused) = Second.cut(report, fragment_size, index);
         (count + u16::from(self.0 == Error::CountOffByOne), place, refused)
@@ -295,6 +407,18 @@ fn it_notices_every_kind_of_error() {
         Error::LineWithoutBlanks,
         Error::DigestOfAllButOne,
         Error::TagBit,
+        Error::GatewayOpenKeepsSession,
+        Error::ResultTakenForPending,
+        Error::SessionIdNotAskedWhileWaiting,
+        Error::SessionMessageNotRefused,
+        Error::DoneTakenBeforeAuthentication,
+        Error::AgainNamesWhatIsDue,
+        Error::FailsOnlyOnTheAwaited,
+        Error::FailsWhereStatesEnd,
+        Error::VerdictOnEveryReply,
+        Error::FailedForgetsSession,
+        Error::GatewayTouchesWorking,
+        Error::DoneIsDueInFailed,
     ] {
         let mut prng = Prng::new(2);
         let mut comparison = Comparison::new(Spoilt(error));
@@ -320,4 +444,43 @@ fn single_steps_alone_find_a_hub_that_stores_nothing() {
     assert!((0..500).any(|_| comparison.step(&case(&mut prng)).is_err()));
     assert!((0..500).all(|_| comparison.write(&write_case(&mut prng)).is_ok()));
     assert!((0..500).all(|_| comparison.write_payload(&payload_case(&mut prng)).is_ok()));
+}
+
+/// Each of them without the other.
+#[test]
+fn single_steps_and_meetings_each_find_errors_of_the_gateway() {
+    for error in [
+        Error::ResultTakenForPending,
+        Error::SessionIdNotAskedWhileWaiting,
+        Error::DoneTakenBeforeAuthentication,
+        Error::AgainNamesWhatIsDue,
+        Error::FailsOnlyOnTheAwaited,
+    ] {
+        let mut prng = Prng::new(4);
+        let mut comparison = Comparison::new(Spoilt(error));
+        let found =
+            (0..2_000).filter(|_| comparison.gateway_step(&client_case(&mut prng)).is_err());
+        assert!(found.count() > 3, "{error:?} in single steps");
+        let found = (0..1_000).filter(|_| comparison.meet(&meeting(&mut prng)).is_err());
+        assert!(found.count() > 3, "{error:?} in meetings");
+    }
+}
+
+/// Two that agree on breaking the promise are told so: a forged conversation that is said to be
+/// honest.
+#[test]
+fn a_meeting_holds_both_sides_to_the_promise() {
+    let mut prng = Prng::new(5);
+    let mut comparison = Comparison::new(Second);
+    let mut broken = 0;
+    for _ in 0..400 {
+        let mut talk = meeting(&mut prng);
+        comparison.meet(&talk).unwrap();
+        let honest = std::mem::replace(&mut talk.honest, true);
+        if let Err(Difference(text)) = comparison.meet(&talk) {
+            assert!(!honest && text.contains("both break the promise"));
+            broken += 1;
+        }
+    }
+    assert!(broken > 40, "{broken}");
 }

@@ -3,11 +3,11 @@
 
 mod common;
 
-use common::{Hub, Setup, gateway, presence, refused};
+use common::{BEFORE, Edit, Hub, Setup, every_message, gateway, presence, refused};
 use second::connection::{Answer, Connection, State};
 use second::crypto::sha256;
-use second::draft::{Damage, Draft};
-use second::gateway::{Gateway, presence_request, presence_response};
+use second::draft::Draft;
+use second::gateway::{Gateway, presence_response};
 use second::payload::{Connect, Credentials, Offer};
 use second::prng::Prng;
 use second::refusal::Refusal;
@@ -32,42 +32,9 @@ fn opening() {
     }
 }
 
-type Edit = (u8, fn(&mut Setup));
-
-/// The checks before a state is asked, in the order of a step.
-const BEFORE: [Edit; 15] = [
-    (25, |s| s.case.verdict = 2),
-    (24, |s| s.case.connection.fragment_size = 16_385),
-    (1, |s| s.draft.damage.push(Damage::Cut(41))),
-    (2, |s| s.draft.signature[0] = 0),
-    (3, |s| s.draft.length = Some(99)),
-    (4, |s| s.draft.version = 0),
-    (5, |s| s.draft.header.message_type = 0),
-    (6, |s| s.draft.header.flags |= 0x8000),
-    (7, |s| s.draft.header.index = s.draft.header.count),
-    (8, |s| s.draft.chain = vec![0, 1]),
-    (9, |s| s.draft.padding = Some(vec![0; 7])),
-    (10, |s| s.case.keys.push(0)),
-    (11, |s| s.case.keys[63] ^= 1),
-    (12, |s| s.case.working.truncate(15)),
-    (13, |s| s.draft.size = Some(u32::MAX - 3)),
-];
-
 fn check_pairs(base: &Setup, good: Answer, edits: &[Edit]) {
     assert_eq!(base.answer(), good);
-    for (first, (refusal, edit)) in edits.iter().enumerate() {
-        let mut alone = base.clone();
-        edit(&mut alone);
-        assert_eq!(refused(alone.answer()), *refusal);
-        for (second, also) in &edits[first + 1..] {
-            if (*refusal, *second) == (17, 18) {
-                continue;
-            }
-            let mut setup = alone.clone();
-            also(&mut setup);
-            assert_eq!(refused(setup.answer()), *refusal, "with {second}");
-        }
-    }
+    common::check_pairs(base, |setup| refused(setup.answer()), edits);
 }
 
 #[test]
@@ -188,16 +155,6 @@ fn verdict_0_fails_the_connection_for_good() {
         let discovery = message.header.message_type == 1;
         assert_eq!(refused(hub.take_in_vain(&message)), if discovery { 15 } else { 16 });
     }
-}
-
-/// Every kind of message: requests, replies, a Presence Request, a piece, a Presence Response.
-fn every_message(gateway: &Gateway) -> Vec<Draft> {
-    let mut messages: Vec<Draft> = gateway.enrolment().map(|(draft, _)| draft).to_vec();
-    messages.extend(gateway.replies());
-    messages.push(presence_request());
-    messages.push(gateway.piece(0, 0, 1, b"piece"));
-    messages.push(presence_response(presence()));
-    messages
 }
 
 #[test]

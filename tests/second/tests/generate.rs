@@ -6,10 +6,11 @@ mod common;
 use std::collections::{BTreeMap, BTreeSet};
 
 use common::{gateway, number};
+use second::client::{self, Client, READY};
 use second::connection::{Answer, Connection, State};
 use second::generate::{
-    Case, Conversation, Fault, Link, case, connect_bytes, conversation, cut_case, discovery_bytes,
-    dress, payload_case, presence_case, stream, write_case,
+    Case, Conversation, Fault, Link, Meeting, Side, case, client_case, connect_bytes, conversation,
+    cut_case, discovery_bytes, dress, meeting, payload_case, presence_case, stream, write_case,
 };
 use second::header::{Kind, read_header};
 use second::listing::list;
@@ -71,7 +72,12 @@ fn the_same_seed_gives_the_same_inputs() {
         assert_eq!(presence_case(&mut a), presence_case(&mut b));
         assert_eq!(discovery_bytes(&mut a), discovery_bytes(&mut b));
         assert_eq!(conversation(&mut a).deliveries, conversation(&mut b).deliveries);
+        assert_eq!(client_case(&mut a), client_case(&mut b));
+        assert_eq!(meeting(&mut a), meeting(&mut b));
+        let (mut aside, mut again) = (a.aside(), a.aside());
+        assert_eq!(aside.word(), again.word());
         assert_eq!(a.word(), b.word());
+        assert_ne!(a.word(), aside.word());
     }
 }
 
@@ -343,5 +349,140 @@ fn gateways_enrol() {
             hub = next;
         }
         assert_eq!(hub, gateway.connection(64, State::Ready));
+    }
+}
+
+/// Every answer that a step of the gateway's side can give.
+fn every_client_answer() -> Vec<String> {
+    let refusals = (1..=16).chain([24, 25]);
+    let mut names: Vec<String> = refusals.map(|number| format!("refused {number}")).collect();
+    let others = ["next 2", "next 6", "ready", "failed", "again 2", "again 6", "again"];
+    names.extend(others.map(String::from));
+    names
+}
+
+#[test]
+fn steps_of_the_gateway_reach_every_answer() {
+    let mut prng = Prng::new(13);
+    let mut times: BTreeMap<String, u32> = BTreeMap::new();
+    let mut failed = [0; 4];
+    let mut states = BTreeSet::new();
+    for _ in 0..30_000 {
+        let mut case = client_case(&mut prng);
+        let before = case.clone();
+        let (next, answer) = case.step();
+        let refusal = common::client_refused(answer);
+        if refusal > 0 || matches!(answer, client::Answer::Again(_)) {
+            assert_eq!(next, before.client);
+        }
+        if matches!(refusal, 1..=13 | 24 | 25) {
+            assert_eq!(case.working, before.working);
+        }
+        if answer == client::Answer::Failed {
+            failed[usize::from(before.client.state)] += 1;
+        }
+        states.insert(before.client.state);
+        *times.entry(answer.to_string()).or_default() += 1;
+    }
+    for answer in every_client_answer() {
+        assert!(times.get(&answer) > Some(&20), "{answer} in {times:?}");
+    }
+    assert_eq!(times.len(), every_client_answer().len(), "{times:?}");
+    assert!(failed.iter().all(|times| *times > 200), "{failed:?}");
+    assert!(states.into_iter().eq([0, 1, 2, 3, 4, 5, 6, 7, 128, 255]));
+}
+
+/// What comes to a gateway that goes past the reader: by type and Result or Status, in each state.
+#[test]
+fn every_reply_comes_in_every_state() {
+    let mut prng = Prng::new(14);
+    let mut times: BTreeMap<(u8, u8, u8), u32> = BTreeMap::new();
+    let mut others = [[0; 5]; 2];
+    for _ in 0..60_000 {
+        let mut case = client_case(&mut prng);
+        let state = case.client.state.min(5);
+        let (message, keys, working) = (&case.message, &case.keys, &mut case.working);
+        let Ok(read) = read_message(message, keys, working) else { continue };
+        if read.kind != Kind::Discovery && read.header.session != case.client.session {
+            continue;
+        }
+        let payload = second::message::part(Some(&read.payload), message, working);
+        match read.kind {
+            Kind::Connect => {
+                let parts = read_connect(payload).unwrap();
+                *times.entry((state, parts.kind, parts.code)).or_default() += 1;
+            }
+            Kind::Session if state < 5 => others[0][usize::from(state)] += 1,
+            Kind::Discovery if state < 5 => others[1][usize::from(state)] += 1,
+            _ => {}
+        }
+    }
+    for state in 0..=5 {
+        let requests = [(0, 0), (2, 0), (6, 0)].into_iter();
+        let results = (0..=3).map(|result| (1, result));
+        let statuses = (0..=4).map(|status| (7, status));
+        for (kind, code) in requests.chain(results).chain([(3, 0)]).chain(statuses) {
+            assert!(times.get(&(state, kind, code)) > Some(&2), "{state} {kind} {code} {times:?}");
+        }
+    }
+    assert!(others.iter().flatten().all(|times| *times > 10), "{others:?}");
+}
+
+/// Plays a meeting: how each side ended, and the answers of both.
+fn play_both(talk: &Meeting) -> (Connection, Client, Vec<String>) {
+    let mut hub = Connection::open(talk.fragment_size).0;
+    let mut client = Client::open(talk.fragment_size, talk.gateway.session).0;
+    let (keys, mut working) = (talk.gateway.keys, vec![0; talk.working]);
+    let mut answers = Vec::new();
+    for arrival in &talk.arrivals {
+        let (message, verdict) = (&arrival.message, arrival.verdict);
+        match arrival.at {
+            Side::Hub => {
+                let (next, answer) = hub.step(message, &keys, &mut working, &mut [], verdict);
+                hub = next;
+                answers.push(format!("hub {}", name(answer)));
+            }
+            Side::Gateway => {
+                let (next, answer) = client.step(message, &keys, &mut working, verdict);
+                client = next;
+                answers.push(format!("gateway {answer}"));
+            }
+        }
+        assert!(talk.keeps_promise(&hub, &client));
+    }
+    (hub, client, answers)
+}
+
+#[test]
+fn meetings_reach_every_answer_and_mostly_succeed() {
+    let mut prng = Prng::new(15);
+    let mut times: BTreeMap<String, u32> = BTreeMap::new();
+    let (mut honest, mut ready, mut failed, mut longest) = (0, 0, [0, 0], 0);
+    for _ in 0..3_000 {
+        let talk = meeting(&mut prng);
+        let (hub, client, answers) = play_both(&talk);
+        if talk.honest {
+            honest += 1;
+            ready += usize::from((hub.state, client.state) == (State::Ready as u8, READY));
+            let mut kinds: Vec<u8> = talk.written.iter().map(|case| case.payload[2]).collect();
+            kinds.sort_unstable();
+            assert!([0, 1, 2, 3, 6, 7].starts_with(&kinds), "each is written once: {kinds:?}");
+        } else {
+            failed[0] += usize::from(hub.state == State::Failed as u8);
+            failed[1] += usize::from(client.state == client::FAILED);
+        }
+        longest = longest.max(answers.len());
+        answers.into_iter().for_each(|answer| *times.entry(answer).or_default() += 1);
+    }
+    println!("{honest} honest, {ready} of them ready, {failed:?} failed, {longest}: {times:?}");
+    assert!(honest > 1_000 && ready * 10 > honest * 9, "{ready} of {honest}");
+    assert!(failed.iter().all(|times| *times > 50) && longest == 30, "{failed:?} {longest}");
+    let refusals = [1, 3, 11, 14, 15, 16].map(|number| format!("refused {number}"));
+    for answer in every_client_answer().into_iter().skip(18).chain(refusals) {
+        assert!(times.get(&format!("gateway {answer}")) > Some(&20), "{answer} in {times:?}");
+    }
+    for kind in [1, 3, 7] {
+        assert!(times[&format!("hub reply {kind}")] > 1_000);
+        assert!(times[&format!("hub again {kind}")] > 100);
     }
 }

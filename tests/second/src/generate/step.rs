@@ -96,10 +96,13 @@ fn made_up(prng: &mut Prng, session: u64, fragment_size: u32) -> Connection {
     }
 }
 
+/// Some F that is none.
+pub(super) const BAD_SIZES: [u32; 4] = [0, FRAGMENT_SIZE + 1, 1 << 16, u32::MAX];
+
 /// One thing remembered is made up.
 fn scramble(prng: &mut Prng, connection: &mut Connection) {
     match prng.below(12) {
-        0 => connection.fragment_size = prng.pick(&[0, FRAGMENT_SIZE + 1, 1 << 16, u32::MAX]),
+        0 => connection.fragment_size = prng.pick(&BAD_SIZES),
         1 => connection.state = prng.pick(&[0, 1, 2, 3, 4, 5, 255]),
         2 => connection.session = other_number(prng, connection.session),
         3 => change_byte(prng, &mut connection.nonce),
@@ -163,7 +166,8 @@ fn piece(prng: &mut Prng, gateway: &Gateway, connection: &Connection, report: &[
 }
 
 /// Verdicts that are none; the lower bits of some are 0 or 1.
-const VERDICTS: [u64; 9] = [2, 3, 255, 256, 257, 1 << 32, (1 << 32) + 1, (1 << 63) + 1, u64::MAX];
+pub(super) const VERDICTS: [u64; 9] =
+    [2, 3, 255, 256, 257, 1 << 32, (1 << 32) + 1, (1 << 63) + 1, u64::MAX];
 
 /// A step on a message with 0 to 3 faults, now and then on random bytes; keys, buffers and verdict
 /// may be faulty too.
@@ -184,7 +188,7 @@ pub fn case(prng: &mut Prng) -> Case {
 }
 
 /// Random bytes, the first few of which may look like a message's.
-fn noise(prng: &mut Prng) -> Vec<u8> {
+pub(super) fn noise(prng: &mut Prng) -> Vec<u8> {
     let length = prng.below(300);
     let mut noise = prng.bytes(length);
     let length = (length as u16).to_be_bytes();
@@ -212,7 +216,7 @@ fn report_buffer(prng: &mut Prng, connection: &Connection) -> Vec<u8> {
 }
 
 /// Room for the sealed part, or about.
-fn working_buffer(prng: &mut Prng, message: usize) -> Vec<u8> {
+pub(super) fn working_buffer(prng: &mut Prng, message: usize) -> Vec<u8> {
     let sealed = message.saturating_sub(74);
     let length = match prng.below(20) {
         0 => sealed.saturating_sub(1),
@@ -224,7 +228,7 @@ fn working_buffer(prng: &mut Prng, message: usize) -> Vec<u8> {
     prng.bytes(length)
 }
 
-fn keys(prng: &mut Prng, keys: [u8; 64]) -> Vec<u8> {
+pub(super) fn keys(prng: &mut Prng, keys: [u8; 64]) -> Vec<u8> {
     let mut keys = keys.to_vec();
     match prng.below(40) {
         0 => keys.truncate(prng.below(64)),

@@ -3,10 +3,11 @@
 
 #![allow(dead_code)]
 
+use second::client::{self, Client};
 use second::connection::{Answer, Connection, State};
-use second::draft::Draft;
-use second::gateway::Gateway;
-use second::generate::Case;
+use second::draft::{Damage, Draft};
+use second::gateway::{Gateway, presence_request, presence_response};
+use second::generate::{Case, ClientCase};
 use second::payload::Presence;
 use second::prng::Prng;
 use second::refusal::Refusal;
@@ -30,6 +31,16 @@ pub fn presence() -> Presence<'static> {
 /// A gateway, always the same.
 pub fn gateway() -> Gateway {
     Gateway::new(&mut Prng::new(1), 33, 20)
+}
+
+/// Every kind of message: requests, replies, a Presence Request, a piece, a Presence Response.
+pub fn every_message(gateway: &Gateway) -> Vec<Draft> {
+    let mut messages: Vec<Draft> = gateway.enrolment().map(|(draft, _)| draft).to_vec();
+    messages.extend(gateway.replies());
+    messages.push(presence_request());
+    messages.push(gateway.piece(0, 0, 1, b"piece"));
+    messages.push(presence_response(presence()));
+    messages
 }
 
 /// The number of a refusal, 0 for none.
@@ -86,6 +97,14 @@ impl Hub {
     }
 }
 
+/// The number of a refusal of the gateway's side, 0 for none.
+pub fn client_refused(answer: client::Answer) -> u8 {
+    match answer {
+        client::Answer::Refused(refusal) => refusal.number(),
+        _ => 0,
+    }
+}
+
 /// A step before its message is made: every part of it can be spoilt.
 #[derive(Clone)]
 pub struct Setup {
@@ -117,5 +136,62 @@ impl Setup {
             assert_eq!(case.working, before.working, "{answer} changed the working buffer");
         }
         answer
+    }
+
+    /// The answer of the gateway's side, which remembers the first three things that a hub does.
+    pub fn client_answer(&self) -> client::Answer {
+        let Case { connection, keys, working, verdict, .. } = self.case.clone();
+        let Connection { fragment_size, state, session, .. } = connection;
+        let client = Client { fragment_size, state, session };
+        let message = self.draft.bytes(&gateway().keys);
+        let mut case = ClientCase { client, message, keys, working, verdict };
+        let (next, answer) = case.step();
+        let refusal = client_refused(answer);
+        if refusal > 0 {
+            assert_eq!(next, client, "refusal {refusal} changed the connection");
+        }
+        if matches!(refusal, 1..=13 | 24 | 25) || !self.draft.header.sealed() {
+            assert_eq!(case.working, self.case.working, "{answer} changed the working buffer");
+        }
+        answer
+    }
+}
+
+/// A fault put into a step, with the refusal it must lead to.
+pub type Edit = (u8, fn(&mut Setup));
+
+/// The checks before a state is asked, in the order of a step.
+pub const BEFORE: [Edit; 15] = [
+    (25, |s| s.case.verdict = 2),
+    (24, |s| s.case.connection.fragment_size = 16_385),
+    (1, |s| s.draft.damage.push(Damage::Cut(41))),
+    (2, |s| s.draft.signature[0] = 0),
+    (3, |s| s.draft.length = Some(99)),
+    (4, |s| s.draft.version = 0),
+    (5, |s| s.draft.header.message_type = 0),
+    (6, |s| s.draft.header.flags |= 0x8000),
+    (7, |s| s.draft.header.index = s.draft.header.count),
+    (8, |s| s.draft.chain = vec![0, 1]),
+    (9, |s| s.draft.padding = Some(vec![0; 7])),
+    (10, |s| s.case.keys.push(0)),
+    (11, |s| s.case.keys[63] ^= 1),
+    (12, |s| s.case.working.truncate(15)),
+    (13, |s| s.draft.size = Some(u32::MAX - 3)),
+];
+
+/// Each fault alone is refused with its number, and so is it with any of the later ones.
+pub fn check_pairs(base: &Setup, refusal_of: fn(&Setup) -> u8, edits: &[Edit]) {
+    for (first, (refusal, edit)) in edits.iter().enumerate() {
+        let mut alone = base.clone();
+        edit(&mut alone);
+        assert_eq!(refusal_of(&alone), *refusal);
+        for (second, also) in &edits[first + 1..] {
+            if (*refusal, *second) == (17, 18) {
+                continue;
+            }
+            let mut setup = alone.clone();
+            also(&mut setup);
+            assert_eq!(refusal_of(&setup), *refusal, "with {second}");
+        }
     }
 }
