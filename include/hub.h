@@ -2,12 +2,12 @@
 /*
  * hub.h: the hub of Hlidunsk for C and C++.
  *
- * The library enrols gateways, joins their reports and answers presence calls, over the Connected Devices Platform protocol (MS-CDP) as
- * docs/01-scope.md, here called document 01, describes it. Every call below (hub_text, a table in this header, is none) is proved to do exactly what
- * its contract in crates/hub_c says, on every input; the sentences of this header are those contracts in words. What "proved" rests on is in
- * docs/TRUST.md. This header itself is not proved: that it fits the library is tested (tests/boundary), over a million steps against an independent
- * second implementation. The files named docs/ and host/ here are installed under share/doc/hlidunsk; crates/ and tests/ are in the project. The
- * library is for x86-64 Linux, the header for C99, C++98 and later.
+ * The library enrols gateways, joins their reports and answers presence calls, and has the gateway's side of it too, over the Connected Devices
+ * Platform protocol (MS-CDP) as docs/01-scope.md, here called document 01, describes it. Every call below (hub_text, a table in this header, is none)
+ * is proved to do exactly what its contract in crates/hub_c says, on every input; the sentences of this header are those contracts in words. What
+ * "proved" rests on is in docs/TRUST.md. This header itself is not proved: that it fits the library is tested (tests/boundary), over a million steps
+ * against an independent second implementation. The files named docs/ and host/ here are installed under share/doc/hlidunsk; crates/ and tests/ are
+ * in the project. The library is for x86-64 Linux, the header for C99, C++98 and later.
  *
  *
  * MESSAGES, PIECES, REPORTS
@@ -26,12 +26,19 @@
  *     hub_write_connection_response, hub_write_device_authentication, hub_write_done_response
  *                   make the payload of a reply, and hub_write its message
  *
- * The gateway's side:
+ * The gateway's side, for each enrolment:
  *
+ *     hub_gateway_open
+ *                   once: makes a gateway's connection of fragment size F and the SessionID that its requests carry
+ *     hub_gateway_due
+ *                   names the request that is due: what to send, and to send again where no reply comes
  *     hub_write_connection_request, hub_write_device_authentication, hub_write_done_request
  *                   make the payload of a request, and hub_write its message
+ *     hub_gateway_step
+ *                   for each message that comes in: judges it, changes the gateway's connection, and answers what to do: send the next request,
+ *                   send one again, send reports, since the hub is ready for them, or start over
  *     hub_read, hub_payload, hub_read_connect
- *                   open a reply and take it apart
+ *                   open a reply and take it apart: for the keys, and for the verdict on the hub's certificate
  *     hub_cut       cuts a report, and hub_write makes the message of each piece
  *
  * Whoever looks for hubs, and a hub that says its name:
@@ -46,7 +53,7 @@
  * accepts the certificate that a message shows.
  *
  *
- * WHAT THE MAKER OF A HUB MUST KNOW
+ * WHAT THE MAKER OF A HUB OR OF A GATEWAY MUST KNOW
  *
  * Keys. The 64 key bytes come from a key agreement outside this library, and are new for each connection. The Connection Request and the Response,
  * which give X, Y and nonces to it, are plain: keys or verdict must depend on all of these, for otherwise nobody notices that the link has damaged
@@ -76,13 +83,13 @@
  * cut off a gateway that is Ready, for whoever sends its old request. A Connection Response lets the gateway go on only where its Result is
  * HUB_PENDING. With any other the connection is in state HUB_WAITING_FOR_AUTHENTICATION all the same: open a new one.
  *
- * Verdicts. The verdict matters for one message alone, a Device Authentication Request, which is sealed, in state HUB_WAITING_FOR_AUTHENTICATION.
- * Only there need a caller read the message before the step: hub_read_header says whether it is a sealed Connect message, hub_read opens it,
- * hub_payload says where its payload lies, and hub_read_connect where in that its certificate. For every other message any verdict of 0 or 1 gives
- * the same. A certificate alone proves nothing: it is public, and anybody can show a copy. Give verdict 1 only where the sender has proved that he
- * holds its key: verify the thumbprint as a signature over both nonces and both public keys, or derive the 64 key bytes from a secret that only
- * this gateway has. Where certificates are compared, compare their lengths as well as their bytes. Verdict 0 is final: where you cannot judge yet,
- * hold the message back and do not step.
+ * Verdicts. To a hub the verdict matters for one message alone, a Device Authentication Request, which is sealed, in state
+ * HUB_WAITING_FOR_AUTHENTICATION. Only there need a caller read the message before the step: hub_read_header says whether it is a sealed Connect
+ * message, hub_read opens it, hub_payload says where its payload lies, and hub_read_connect where in that its certificate. For every other message
+ * any verdict of 0 or 1 gives the same. A certificate alone proves nothing: it is public, and anybody can show a copy. Give verdict 1 only where the
+ * sender has proved that he holds its key: verify the thumbprint as a signature over both nonces and both public keys, or derive the 64 key bytes
+ * from a secret that only this gateway has. Where certificates are compared, compare their lengths as well as their bytes. Verdict 0 is final: where
+ * you cannot judge yet, hold the message back and do not step.
  *
  * Failure. On HUB_KIND_FAILURE the verdict was 0. MS-CDP (2.2.2.3.10) says: "If the authentication process itself fails to complete, an empty
  * payload is returned", and gives this message the type number 8, HUB_AUTHENTICATION_FAILURE. How it is sent is the caller's: hub_write refuses it
@@ -96,10 +103,27 @@
  * one is HUB_PASSED. Bound how many you keep. While there are several, each message goes to one after the other until one does not refuse it. So
  * neither a stranger nor an old request cuts a gateway off, and one that starts over is heard (host/c/hub.c).
  *
- * The gateway. A reply counts where hub_read does not refuse it, its SessionID is the gateway's, its type is HUB_TYPE_CONNECT, and hub_read_connect
- * gives the type that is awaited: 1 with Result HUB_PENDING, whose nonce, X and Y lead to the keys; 3, whose certificate is judged as the hub
- * judges the gateway's; 7 with Status HUB_SUCCESS. Every other message is dropped: it is late, damaged or a stranger's. A gateway whose sealed
- * requests get no reply starts over with its Connection Request.
+ * The gateway. hub_gateway_open is given F and the SessionID that the gateway's requests carry: a random number, new for each enrolment, as its nonce
+ * and its key pair are. hub_gateway_due names the request that is due. Write it once, keep its bytes and send them; then give hub_gateway_step each
+ * message that comes. What it refuses is late, damaged or a stranger's: drop it. On HUB_KIND_NEXT the reply was taken, and the next request is due.
+ * Where that is HUB_AUTHENTICATION_REQUEST the message was the Connection Response: read its nonce, X and Y, which lead to the keys, by hub_read,
+ * hub_payload and hub_read_connect. Do so at once: without keys no sealed message is written or opened. On HUB_KIND_READY cut and send reports. A
+ * gateway that is Ready still hears messages: give them to the step too.
+ *
+ * Lost replies. Where no reply comes in its time, send the bytes of the request that is due once more: the same bytes, never with a new nonce, for a
+ * hub that has taken the first one refuses the other with 15. Nothing in the library makes a nonce, and the 17 bytes of a gateway's connection have
+ * none. On HUB_KIND_AGAIN a reply has come that was taken before: send the request that answer names, the one that follows this reply, once more,
+ * the same bytes too; after an Authentication Done Response it is HUB_NOTHING_DUE, and there is nothing to send. Only the type of such a reply is
+ * looked at, and its Result, its Status or the verdict: so keep the keys, whatever nonce, X and Y a second Connection Response has.
+ *
+ * Turned away. A Connection Response of another Result than HUB_PENDING, an Authentication Done Response of another Status than HUB_SUCCESS, and a
+ * Device Authentication Response with verdict 0 are answered HUB_KIND_FAILED, whenever they come, in Ready too. The verdict is on the hub's
+ * certificate, and matters for the last of these alone, but for each one that comes, also where it is a repeated one: judge every one, as Verdicts
+ * says. After HUB_KIND_FAILED every message is refused: only hub_gateway_open helps, with a new SessionID, nonce and key pair. A Connection Response
+ * is plain: whoever has seen the SessionID can make one of another Result, and throw a gateway out, at the start and when it is Ready. To be spared
+ * that, look at plain Connection Responses before the step once the state is not HUB_GATEWAY_WAITING_FOR_RESPONSE any longer, and drop those whose
+ * Result is not HUB_PENDING (host/c/gateway.c); or start over. One that is HUB_PENDING and was forged, or damaged, leads to keys that the hub does
+ * not have: no sealed request is replied to, and after some tries the gateway starts over, with all of these new.
  *
  * Presence. A presence call asks who is there. It is a plain message: hub_read needs neither keys nor working for it. Its type is HUB_TYPE_DISCOVERY,
  * hub_payload says where its payload lies, and hub_read_discovery that this is a HUB_PRESENCE_REQUEST. The answer's payload is made by
@@ -120,7 +144,8 @@
  * Stored connections. While a report is under way, which is while the bytes from HUB_STATE_HEARD on are not all zero, the report buffer belongs to
  * the connection: store both together, or open anew. A connection that is put back without its report buffer would complete a false report. At
  * HUB_KIND_COMPLETE store report and connection together: otherwise a crash loses a report, or hands it out twice. Its SequenceNumber was that of
- * HUB_STATE_EXPECTED before the step, and hub_read_header of the message says it too.
+ * HUB_STATE_EXPECTED before the step, and hub_read_header of the message says it too. A gateway's connection is of use only with its keys, the bytes
+ * of its requests, and the number that its next report has: store them together, or enrol anew.
  *
  * Refusals. Most are harmless, and a hub drops the message and goes on: connection and report buffer are as they were. 17 is what late copies of a
  * report that is complete get, 11 what damaged or foreign bytes do, 15 and 16 what strangers do and a gateway that starts over; 15 is also what
@@ -130,14 +155,17 @@
  * number twice, or, 23, that the report buffer was touched. In a stream 2 and 3 mean that the framing is lost: close it. 19 is for a number that no
  * report has, 2^32 - 1. 10, 12, 22, 24, 25 and 255 are the caller's own: keys, a buffer, F or a verdict are not as they should be. But until there
  * are keys 10 is a sealed message that comes too early; and a gateway can bring about 12 and 22 where working is shorter than HUB_MOST_SEALED, or
- * report than 64 times F. hub_text has a sentence for each.
+ * report than 64 times F. A gateway drops what is refused too: its connection is as it was. 16 is another SessionID there, in every state, and 15 a
+ * reply out of order, a request, a Session or a Discovery message, and all that comes after HUB_KIND_FAILED; 11 of every sealed message says there
+ * too that the two sides have different keys. hub_text has a sentence for each.
  *
  *
  * WHO OWNS WHICH MEMORY
  *
- * All memory is the caller's. The library allocates nothing, keeps no pointer after a call, and has no state of its own: what it remembers of
- * a gateway is the 151 bytes that hub_open writes and hub_step changes. They may be copied, stored, sent, or compared with memcmp. So any
- * calls may run at the same time in different threads, as long as none writes a buffer that another uses.
+ * All memory is the caller's. The library allocates nothing, keeps no pointer after a call, and has no state of its own: what a hub remembers of
+ * a gateway is the 151 bytes that hub_open writes and hub_step changes, and what a gateway remembers of its hub the 17 bytes that hub_gateway_open
+ * writes and hub_gateway_step changes. They may be copied, stored, sent, or compared with memcmp. So any calls may run at the same time in different
+ * threads, as long as none writes a buffer that another uses.
  *
  * Every buffer is two parameters, a pointer and after it the number of its elements (x and x_n): bytes, or words of 64 bits where the type
  * is uint64_t. The caller promises, as everywhere in C, that so many elements are there, that words are aligned, and that a buffer that a call
@@ -170,7 +198,8 @@
  *
  * On a refusal, 1 to 25, every byte of every buffer is exactly as it was before, and every word that the call hands out (header, length, answer,
  * piece, connect, discovery) is 0. What a call does otherwise its "On refusal" names. No call that is done hands out zeros alone, but for
- * hub_payload, and hub_read_discovery of a Presence Request: look at what a call returns before you look at its words.
+ * hub_payload, hub_read_discovery of a Presence Request, and hub_gateway_due where a Connection Request is due: look at what a call returns before
+ * you look at its words.
  *
  * On HUB_WRONG_BUFFER every buffer is exactly as it was before, each byte and each word of it. It is answered where a buffer of fixed size has
  * another size, where a word is too wide for its field, and where hub_step is lent a report buffer that is shorter than the report.
@@ -184,13 +213,14 @@
  * SECRETS, TIME, STACK
  *
  * hub_hmac and hub_tags_differ make no branch and no memory access that depends on the bytes they are given; this is tested with valgrind
- * (tests/memory) and not proved. AES reads tables at places that depend on keys and data, so hub_read, hub_write and hub_step are NOT
- * constant-time: see docs/SECURITY.md. Copies on the stack are not erased.
+ * (tests/memory) and not proved. AES reads tables at places that depend on keys and data, so hub_read, hub_write, hub_step and hub_gateway_step are
+ * NOT constant-time: see docs/SECURITY.md. Copies on the stack are not erased.
  *
  * The stack that a call takes, its return address included, is at most so many bytes. This is measured (tests/memory, which fails where a call takes
  * more) and not proved; what a call reserves and never writes is not seen.
  *
  *     hub_step                        3,584
+ *     hub_gateway_step                2,432
  *     hub_read                        2,240
  *     hub_write                       1,856
  *     hub_hmac                        1,472
@@ -211,14 +241,17 @@
  *     hub_write_device_authentication    64
  *     hub_write_done_request             64
  *     hub_write_done_response            64
+ *     hub_gateway_open                   64
+ *     hub_gateway_due                    64
  *     hub_cut                            64
  *
  *
  * VERSIONS
  *
  * HUB_VERSION is the header's, hub_version the library's. The first number rises where a caller has to change something: a name or a declaration
- * here, or the meaning of the 151 bytes of a connection. So connections that were stored under one first number may be read under another only
- * where docs/CHANGES.md says how; under the same first number all are read. The second number rises where something is added.
+ * here, or the meaning of the 151 bytes of a connection or of the 17 of a gateway's. So connections that were stored under one first number may be
+ * read under another only where docs/CHANGES.md says how; under the same first number all are read. The second number rises where something is
+ * added.
  */
 #ifndef HLIDUNSK_HUB_H
 #define HLIDUNSK_HUB_H
@@ -238,16 +271,18 @@ extern "C" {
 #endif
 
 /* This header's version: major * 65536 + minor * 256 + patch. */
-#define HUB_VERSION 0x00010100u
+#define HUB_VERSION 0x00010200u
 
 /* Sizes of the buffers of fixed size, in bytes or in words of 64 bits. */
 #define HUB_STATE_BYTES 151     /* a connection */
+#define HUB_GATEWAY_BYTES 17    /* a gateway's connection */
 #define HUB_HEADER_WORDS 11     /* a header that was read, and the place of its payload */
 #define HUB_FIELDS_WORDS 8      /* the fields of a header to be written */
 #define HUB_PLACE_WORDS 3       /* where a payload lies */
 #define HUB_CONNECT_WORDS 13    /* what a Connect payload says */
 #define HUB_DISCOVERY_WORDS 9   /* what a Discovery payload says */
-#define HUB_ANSWER_WORDS 3      /* what a step answers */
+#define HUB_ANSWER_WORDS 3      /* what a step answers, of either side */
+#define HUB_DUE_WORDS 1         /* the request that is due */
 #define HUB_PIECE_WORDS 3       /* a piece of a report */
 #define HUB_LENGTH_WORDS 1      /* how many bytes were written */
 #define HUB_DIGEST_BYTES 32     /* a SHA-256 digest, and a tag */
@@ -297,8 +332,9 @@ enum hub_refusal {
     HUB_SHORT_WORKING = 12,       /* working buffer shorter than the sealed part */
     HUB_WRONG_PADDING = 13,       /* size or padding not as the rule gives */
     HUB_WRONG_PAYLOAD = 14,       /* Discovery or Connect payload not as document 01 says */
-    HUB_NOT_ALLOWED = 15,         /* message not allowed in this state */
-    HUB_OTHER_SESSION = 16,       /* state not 0 and another SessionID */
+    HUB_NOT_ALLOWED = 15,         /* message not allowed in this state, by role */
+    HUB_OTHER_SESSION = 16,       /* state not 0 and another SessionID; on the gateway's side another SessionID
+                                     in every state */
     HUB_PAST_SEQUENCE = 17,       /* SequenceNumber below the expected one */
     HUB_FUTURE_SEQUENCE = 18,     /* SequenceNumber above the expected one */
     HUB_LAST_SEQUENCE = 19,       /* SequenceNumber is 2^32 - 1 */
@@ -351,9 +387,9 @@ static inline const char *hub_text(uint32_t number)
     case HUB_WRONG_PAYLOAD:
         return "Discovery or Connect payload not as document 01 says";
     case HUB_NOT_ALLOWED:
-        return "message not allowed in this state";
+        return "message not allowed in this state, by role";
     case HUB_OTHER_SESSION:
-        return "state not 0 and another SessionID";
+        return "state not 0 and another SessionID; on the gateway's side another SessionID in every state";
     case HUB_PAST_SEQUENCE:
         return "SequenceNumber below the expected one";
     case HUB_FUTURE_SEQUENCE:
@@ -418,6 +454,9 @@ enum hub_connect {
     HUB_DONE_RESPONSE = 7,           /* Authentication Done Response */
     HUB_AUTHENTICATION_FAILURE = 8          /* Authentication Failure: see Failure above; no call here reads or writes it */
 };
+
+/* In the place of the type of a request: no request is due, and none is to be sent. No type byte has this number. */
+#define HUB_NOTHING_DUE 256
 
 /* The types of Discovery payloads: DiscoveryType, their first byte. */
 enum hub_discovery { HUB_PRESENCE_REQUEST = 0, HUB_PRESENCE_RESPONSE = 1 };
@@ -486,25 +525,31 @@ enum hub_place_word {
     HUB_PLACE_SIZE = 2
 };
 
-/* Places of the words that hub_step writes. */
+/* Places of the words that hub_step and hub_gateway_step write. */
 enum hub_answer_word {
     HUB_ANSWER_KIND = 0,   /* a hub_kind */
-    HUB_ANSWER_VALUE = 1,  /* Reply, Again: the Connect type to send; Taken, Repeat, Complete: how many different pieces have come; else 0 */
+    HUB_ANSWER_VALUE = 1,  /* Reply, Again, Next: the Connect type to send (Again of hub_gateway_step: or HUB_NOTHING_DUE); Taken, Repeat, Complete:
+                              how many different pieces have come; else 0 */
     HUB_ANSWER_LENGTH = 2, /* Complete: the report's length, at most report_n; Reply, Again: see the next name; else 0 */
     HUB_ANSWER_STATUS = 2  /* the same word. Reply, Again: the Status to send with type 7, which is 0; 0 with types 1 and 3 */
 };
 
-/* The kinds of a step's answers. */
+/* The kinds of a step's answers, in one numbering for both sides: hub_step gives 0 to 6, hub_gateway_step 0, 2 and 7 to 9. */
 enum hub_kind {
-    HUB_KIND_REFUSED = 0, /* the step was refused, by the number that it returned */
-    HUB_KIND_REPLY = 1,   /* send the Connect payload of this type: 1 (Connection Response; Result HUB_PENDING, nonce and key are the caller's),
-                             3 (Device Authentication Response, with the hub's own certificate), 7 (Authentication Done Response, with the
-                             Status of HUB_ANSWER_STATUS) */
-    HUB_KIND_AGAIN = 2,   /* a message that asks for a step that was made; nothing has changed; send the same reply again (see Replies above) */
-    HUB_KIND_FAILURE = 3, /* the verdict was 0: send Authentication Failure, which the caller makes without hub_write (see Failure above) */
-    HUB_KIND_TAKEN = 4,   /* a new piece is in the report buffer; others are missing */
-    HUB_KIND_REPEAT = 5,  /* a piece that had come, with the same bytes; nothing has changed */
-    HUB_KIND_COMPLETE = 6 /* the last missing piece: the report is the report buffer's first bytes */
+    HUB_KIND_REFUSED = 0,  /* the step was refused, by the number that it returned */
+    HUB_KIND_REPLY = 1,    /* send the Connect payload of this type: 1 (Connection Response; Result HUB_PENDING, nonce and key are the caller's),
+                              3 (Device Authentication Response, with the hub's own certificate), 7 (Authentication Done Response, with the
+                              Status of HUB_ANSWER_STATUS) */
+    HUB_KIND_AGAIN = 2,    /* a message that asks for a step that was made; nothing has changed; send the same reply again (see Replies above). Of
+                              hub_gateway_step: a reply that was taken before; nothing has changed; send the same request again, the one that
+                              follows this reply, or none (see Lost replies above) */
+    HUB_KIND_FAILURE = 3,  /* the verdict was 0: send Authentication Failure, which the caller makes without hub_write (see Failure above) */
+    HUB_KIND_TAKEN = 4,    /* a new piece is in the report buffer; others are missing */
+    HUB_KIND_REPEAT = 5,   /* a piece that had come, with the same bytes; nothing has changed */
+    HUB_KIND_COMPLETE = 6, /* the last missing piece: the report is the report buffer's first bytes */
+    HUB_KIND_NEXT = 7,     /* a gateway's reply was taken: send the request of this type, HUB_AUTHENTICATION_REQUEST or HUB_DONE_REQUEST */
+    HUB_KIND_READY = 8,    /* a gateway's last reply was taken: reports may be sent */
+    HUB_KIND_FAILED = 9    /* the hub turns the gateway away, or the verdict was 0: only hub_gateway_open helps (see Turned away above) */
 };
 
 /* Places of the words that hub_cut writes. */
@@ -545,9 +590,31 @@ enum hub_state {
 };
 
 /*
+ * Where in the 17 bytes of a gateway's connection what stands: these are the first three parts of a hub's connection, at the same places. Every 17
+ * bytes are a gateway's connection, and every one is 17 bytes in exactly one way. Only hub_gateway_open and hub_gateway_step need write them.
+ *
+ * Proved    GatewayStored.
+ */
+enum hub_gateway_place {
+    HUB_GATEWAY_SIZE = 0,   /* 8 bytes: F */
+    HUB_GATEWAY_STATE = 8,  /* 1 byte: a hub_gateway_state */
+    HUB_GATEWAY_SESSION = 9 /* 8 bytes: SessionID */
+};
+
+/* The states of a gateway's connection: gateway[HUB_GATEWAY_STATE]. MS-CDP has one state for 1 and 2. */
+enum hub_gateway_state {
+    HUB_GATEWAY_WAITING_FOR_RESPONSE = 0,       /* for a Connection Response */
+    HUB_GATEWAY_WAITING_FOR_AUTHENTICATION = 1, /* for a Device Authentication Response */
+    HUB_GATEWAY_WAITING_FOR_DONE = 2,           /* for an Authentication Done Response */
+    HUB_GATEWAY_READY = 3,                      /* reports may be sent */
+    HUB_GATEWAY_FAILED = 4                      /* every message is refused, with 15 or 16 if not before; only hub_gateway_open helps. A higher
+                                                   number is made up, and the same holds */
+};
+
+/*
  * The library's version, as HUB_VERSION is this header's.
  *
- * Returns   0x00010100 for 1.1.0.
+ * Returns   0x00010200 for 1.2.0.
  */
 uint32_t hub_version(void);
 
@@ -685,7 +752,8 @@ uint32_t hub_payload(const uint8_t *message, size_t message_n, const uint8_t *wo
  *           order.
  * On done   the first length[0] bytes of out are the message; the rest of out is unchanged.
  * On refusal length is 0, and out is as it was.
- * Proved    WriterExact; ReadsBack: hub_read gives the same fields and payload back.
+ * Proved    WriterExact; ReadsBack: hub_read gives the same fields and payload back. SameBytes: the same fields, chain, payload and keys make the
+ *           same bytes.
  */
 HUB_ANSWER_MATTERS
 uint32_t hub_write(const uint64_t *fields, size_t fields_n, const uint8_t *chain, size_t chain_n, const uint8_t *payload, size_t payload_n,
@@ -696,7 +764,7 @@ uint32_t hub_write(const uint64_t *fields, size_t fields_n, const uint8_t *chain
  * the start of out, for hub_write.
  *
  * mode      ConnectionMode, 0 to 2: see hub_mode.
- * nonce     HUB_NONCE_BYTES, random and new for each request, and for each response that is not sent again.
+ * nonce     HUB_NONCE_BYTES, random and new for each request and each response; one that is sent again has the same.
  * x, y      HUB_COORDINATE_BYTES each: the public key of the sender's half of the key agreement.
  * out       at least as long as the payload: HUB_MOST_PAYLOAD bytes are enough for all. It may overlap no other buffer.
  * length    HUB_LENGTH_WORDS.
@@ -844,6 +912,75 @@ uint32_t hub_open(uint64_t fragment_size, uint8_t *state, size_t state_n);
 HUB_ANSWER_MATTERS
 uint32_t hub_step(uint8_t *state, size_t state_n, const uint8_t *message, size_t message_n, const uint8_t *keys, size_t keys_n, uint8_t *working,
                   size_t working_n, uint8_t *report, size_t report_n, uint64_t verdict, uint64_t *answer, size_t answer_n);
+
+/*
+ * Opens a gateway's connection: state 0, waiting for the Connection Response. The Connection Request is due.
+ *
+ * fragment_size   F, 1 to 16,384: the bytes of each piece but the last. It is kept for the caller, who gives it to hub_cut.
+ * session         the SessionID that the gateway's requests carry: any. Draw it at random, a new one for each enrolment.
+ * gateway         HUB_GATEWAY_BYTES.
+ *
+ * Returns   HUB_DONE, HUB_WRONG_BUFFER (gateway), 24.
+ * On done   gateway holds the gateway's connection.
+ * On refusal 24 gateway is all zero, the SessionID too, which hub_gateway_step refuses with 24.
+ * Proved    GatewayOpens.
+ */
+HUB_ANSWER_MATTERS
+uint32_t hub_gateway_open(uint64_t fragment_size, uint64_t session, uint8_t *gateway, size_t gateway_n);
+
+/*
+ * Takes one message that has come to a gateway.
+ *
+ * gateway   HUB_GATEWAY_BYTES: the gateway's connection.
+ * message   the message, as it came.
+ * keys      the 64 key bytes of this enrolment. Until they are agreed on give none (a null pointer, 0): a plain message does not look at
+ *           them, and a sealed one is refused with 10.
+ * working   at least as long as the message's sealed part.
+ * verdict   1 if the hub's certificate that this message may show is accepted, else 0. Every Device Authentication Response looks at it, in whichever
+ *           state but HUB_GATEWAY_FAILED it comes, and no other message (see Turned away above). Every other number is refused with 25.
+ * answer    HUB_ANSWER_WORDS.
+ *
+ * Returns   HUB_DONE, HUB_WRONG_BUFFER (gateway or answer), then the first that applies of 25; 24; 1 to 9; 10 to 13 (sealed messages); 14; 16; 15.
+ *           16 is for another SessionID than the gateway's, in every state. 15 is for what the table below does not have: every message in state 4
+ *           and above, a reply out of order, a request, a Session message. A Discovery message skips 16 and is 15.
+ * On done   answer holds what to do, by the first row that applies, and its third word is 0; gateway is the next connection, which differs in its
+ *           state alone.
+ *
+ *               In state   of type                                    the answer is                     and the next state
+ *               0 to 3     1, of another Result than HUB_PENDING      HUB_KIND_FAILED                   4
+ *               0 to 3     3, with verdict 0                          HUB_KIND_FAILED                   4
+ *               0 to 3     7, of another Status than HUB_SUCCESS      HUB_KIND_FAILED                   4
+ *               0          1                                          HUB_KIND_NEXT, type 2             1
+ *               1          3                                          HUB_KIND_NEXT, type 6             2
+ *               2          7                                          HUB_KIND_READY                    3
+ *               1 to 3     1                                          HUB_KIND_AGAIN, type 2            as it was
+ *               2 and 3    3                                          HUB_KIND_AGAIN, type 6            as it was
+ *               3          7                                          HUB_KIND_AGAIN, HUB_NOTHING_DUE   as it was
+ *
+ *           The first bytes of working hold the opened sealed part of a sealed message.
+ * On refusal answer is 0, 0, 0 (HUB_KIND_REFUSED); gateway is as it was. So is working for 1 to 13, 24 and 25; for the others its first bytes hold
+ *           the opened sealed part of a sealed message.
+ * Proved    GatewayExact, GatewayLeavesAlone, WorkingBuffer, ByGatewayStates. OneSession: a gateway and a new hub that hear only what the other
+ *           wrote, lost and repeated at will, and with verdict 1 always, never differ in the SessionID of a request. NeverWedged: and whatever was
+ *           lost, both can still become ready.
+ */
+HUB_ANSWER_MATTERS
+uint32_t hub_gateway_step(uint8_t *gateway, size_t gateway_n, const uint8_t *message, size_t message_n, const uint8_t *keys, size_t keys_n,
+                          uint8_t *working, size_t working_n, uint64_t verdict, uint64_t *answer, size_t answer_n);
+
+/*
+ * Names the request that is due: what a gateway sends now, and again, the same bytes, where no reply comes in its time.
+ *
+ * gateway   HUB_GATEWAY_BYTES: the gateway's connection; only its state is looked at.
+ * due       HUB_DUE_WORDS.
+ *
+ * Returns   HUB_DONE, HUB_WRONG_BUFFER (gateway or due).
+ * On done   due holds the type of the request: HUB_CONNECTION_REQUEST, which is 0, in state 0; HUB_AUTHENTICATION_REQUEST in state 1;
+ *           HUB_DONE_REQUEST in state 2; HUB_NOTHING_DUE in every other.
+ * Proved    DueNames.
+ */
+HUB_ANSWER_MATTERS
+uint32_t hub_gateway_due(const uint8_t *gateway, size_t gateway_n, uint64_t *due, size_t due_n);
 
 /*
  * Cuts a report: says where its piece lies.

@@ -4,8 +4,7 @@
  *
  *     gateway DESCRIPTOR [CERTIFICATE]
  *
- * It asks for the hub's name, enrols, sends its reports, and prints each as the hub does. Messages on the stream may be lost, repeated, damaged, or
- * out of order.
+ * It asks for the hub's name, enrols, sends its reports, and prints each as the hub does. Messages may be lost, repeated, damaged or a stranger's.
  */
 #define _POSIX_C_SOURCE 200112L
 #include <stdio.h>
@@ -15,29 +14,21 @@
 #include "link.h"
 
 #define WAIT 50      /* the milliseconds in which a reply should come */
-#define TRIES 4      /* how often a presence call is sent, and a request before enrolment starts over */
-#define STARTS 64    /* how often it starts */
+#define TRIES 4      /* how often a presence call is sent, and a sealed request before enrolment starts over */
+#define SENDS 512    /* how many requests it sends, all in all */
 #define ROUNDS 16    /* how often each piece is sent: document 01 has nothing by which a hub says that it came */
+#define PAUSE 2      /* the milliseconds after each of these rounds, in which it takes what has come */
 #define LINGER 10000 /* the milliseconds in which the hub should close the stream */
 
 static struct link hub;
+static const char *certificate;
+
+/* What the gateway has of its enrolment. */
+static uint8_t gateway[HUB_GATEWAY_BYTES];
 static uint64_t session;
 static struct half ours;
 static struct keys keys;
-
-/* Says a name, which may be any bytes: what is not a printable ASCII character is shown by its number. */
-static void say_name(const uint8_t *name, uint64_t n)
-{
-    uint64_t i;
-
-    fprintf(stderr, "gateway: the hub is called \"");
-    for (i = 0; i < n; i++)
-        if (name[i] >= ' ' && name[i] <= '~' && name[i] != '\\')
-            fprintf(stderr, "%c", name[i]);
-        else
-            fprintf(stderr, "\\x%02x", name[i]);
-    fprintf(stderr, "\"\n");
-}
+static struct message requests[HUB_DONE_REQUEST + 1]; /* by their type */
 
 /* Asks for the hub's name, and says it where an answer comes. It is for people to read: call and answer are plain, so anybody can make them. */
 static void ask_name(void)
@@ -51,81 +42,103 @@ static void ask_name(void)
 
     draw_bytes(&request, sizeof request);
     must(hub_write_presence_request(payload, sizeof payload, &length, HUB_LENGTH_WORDS), "hub_write_presence_request");
-    for (i = 0; i < TRIES && send_discovery(&hub, request, payload, length); i++) {
-        deadline = now() + WAIT;
-        while ((n = receive(&hub, deadline)) > 0)
+    for (i = 0; i < TRIES && send_discovery(&hub, request, payload, length); i++)
+        for (deadline = now() + WAIT; (n = receive(&hub, deadline)) > 0;)
             if (read_discovery(&hub, n, &answer) && answer.words[HUB_DISCOVERY_TYPE] == HUB_PRESENCE_RESPONSE &&
                 answer.header[HUB_HEADER_REQUEST] == request) {
-                say_name(answer.payload + answer.words[HUB_DISCOVERY_NAME_FROM], answer.words[HUB_DISCOVERY_NAME_SIZE]);
+                say_name("gateway: the hub is called", answer.payload + answer.words[HUB_DISCOVERY_NAME_FROM], answer.words[HUB_DISCOVERY_NAME_SIZE]);
                 return;
             }
-    }
 }
 
-/* Whether the message of n bytes is the reply of this type, and says what we hope for. Any other is dropped: it is late, damaged or a stranger's. */
-static int is_reply(size_t n, uint64_t type)
-{
-    struct connect reply;
-    struct half theirs;
-
-    if (!read_connect(&hub, n, &keys, &reply) || reply.header[HUB_HEADER_SESSION] != session || reply.words[HUB_CONNECT_TYPE] != type)
-        return 0;
-    switch (type) {
-    case HUB_CONNECTION_RESPONSE:
-        if (reply.words[HUB_CONNECT_CODE] != HUB_PENDING)
-            return 0;
-        read_half(&reply, &theirs);
-        agree(&ours, &theirs, &keys);
-        return 1;
-    case HUB_AUTHENTICATION_RESPONSE:
-        return shows(&reply, CERTIFICATE_OF_HUB);
-    default:
-        return reply.words[HUB_CONNECT_CODE] == HUB_SUCCESS;
-    }
-}
-
-/* Writes a request, once and under a number of its own, and sends the same bytes until the reply of this type comes; answers whether it came. */
-static int ask(uint64_t flags, const uint8_t *payload, uint64_t payload_n, uint64_t type)
+/* Writes a request, once and under a number of its own, and keeps it: whenever it is sent, it is these bytes. */
+static void write_request(uint64_t type)
 {
     static uint64_t next_number = NUMBERS_OF_GATEWAY;
-    static struct message request;
-    const uint64_t fields[HUB_FIELDS_WORDS] = {[HUB_HEADER_TYPE] = HUB_TYPE_CONNECT,
-                                               [HUB_HEADER_FLAGS] = flags,
-                                               [HUB_HEADER_SEQUENCE] = next_number++,
-                                               [HUB_HEADER_COUNT] = 1,
-                                               [HUB_HEADER_SESSION] = session};
-    int64_t deadline;
-    size_t n;
-    int i;
+    uint64_t length, fields[HUB_FIELDS_WORDS] = {[HUB_HEADER_TYPE] = HUB_TYPE_CONNECT, [HUB_HEADER_SEQUENCE] = next_number++, [HUB_HEADER_COUNT] = 1,
+                                                 [HUB_HEADER_FLAGS] = type == HUB_CONNECTION_REQUEST ? 0 : HUB_FLAGS_SEALED,
+                                                 [HUB_HEADER_SESSION] = session};
+    uint8_t payload[HUB_MOST_PAYLOAD];
 
-    write_message(fields, payload, payload_n, &keys, &request);
-    for (i = 0; i < TRIES && send_bytes(&hub, request.bytes, request.n); i++) {
-        deadline = now() + WAIT;
-        while ((n = receive(&hub, deadline)) > 0)
-            if (is_reply(n, type))
-                return 1;
-    }
-    return 0;
+    if (type == HUB_CONNECTION_REQUEST)
+        must(hub_write_connection_request(HUB_MODE_PROXIMAL, ours.nonce, sizeof ours.nonce, ours.x, sizeof ours.x, ours.y, sizeof ours.y, payload,
+                                          sizeof payload, &length, HUB_LENGTH_WORDS),
+             "hub_write_connection_request");
+    else if (type == HUB_AUTHENTICATION_REQUEST)
+        must(hub_write_device_authentication(type, HUB_MODE_PROXIMAL, (const uint8_t *)certificate, strlen(certificate), NULL, 0, payload,
+                                             sizeof payload, &length, HUB_LENGTH_WORDS),
+             "hub_write_device_authentication");
+    else
+        must(hub_write_done_request(HUB_MODE_PROXIMAL, payload, sizeof payload, &length, HUB_LENGTH_WORDS), "hub_write_done_request");
+    write_message(fields, payload, length, &keys, &requests[type]);
 }
 
-/* The three requests of an enrolment, each once the one before is replied to; answers whether all are. */
-static int enrol(const char *certificate)
+/* Begins an enrolment, of which all is new. */
+static void begin(void)
 {
-    uint8_t payload[HUB_MOST_PAYLOAD];
-    uint64_t length;
+    draw_bytes(&session, sizeof session);
+    draw_half(&ours, 'g');
+    keys.n = 0;
+    must(hub_gateway_open(F, session, gateway, HUB_GATEWAY_BYTES), "hub_gateway_open");
+    write_request(HUB_CONNECTION_REQUEST);
+}
 
-    must(hub_write_connection_request(HUB_MODE_PROXIMAL, ours.nonce, sizeof ours.nonce, ours.x, sizeof ours.x, ours.y, sizeof ours.y, payload,
-                                      sizeof payload, &length, HUB_LENGTH_WORDS),
-         "hub_write_connection_request");
-    if (!ask(0, payload, length, HUB_CONNECTION_RESPONSE))
-        return 0;
-    must(hub_write_device_authentication(HUB_AUTHENTICATION_REQUEST, HUB_MODE_PROXIMAL, (const uint8_t *)certificate, strlen(certificate), NULL, 0,
-                                         payload, sizeof payload, &length, HUB_LENGTH_WORDS),
-         "hub_write_device_authentication");
-    if (!ask(HUB_FLAGS_SEALED, payload, length, HUB_AUTHENTICATION_RESPONSE))
-        return 0;
-    must(hub_write_done_request(HUB_MODE_PROXIMAL, payload, sizeof payload, &length, HUB_LENGTH_WORDS), "hub_write_done_request");
-    return ask(HUB_FLAGS_SEALED, payload, length, HUB_DONE_RESPONSE);
+/* Takes the message of n bytes, and answers of which kind the step's answer is. What is refused is dropped: it is late, damaged or a stranger's. So
+   is a Connection Response that turns the gateway away after another one was taken: it is plain, so anybody can make it. */
+static uint64_t take(size_t n)
+{
+    uint64_t answer[HUB_ANSWER_WORDS], type;
+    struct connect reply;
+    struct half theirs;
+    int opened = read_connect(&hub, n, &keys, &reply), response = opened && reply.words[HUB_CONNECT_TYPE] == HUB_CONNECTION_RESPONSE;
+
+    if ((response && reply.words[HUB_CONNECT_CODE] != HUB_PENDING && gateway[HUB_GATEWAY_STATE] != HUB_GATEWAY_WAITING_FOR_RESPONSE) ||
+        hub_gateway_step(gateway, HUB_GATEWAY_BYTES, hub.message, n, keys.bytes, keys.n, hub.working, sizeof hub.working,
+                         opened && shows(&reply, CERTIFICATE_OF_HUB), answer, HUB_ANSWER_WORDS) != HUB_DONE)
+        return HUB_KIND_REFUSED;
+    type = answer[HUB_ANSWER_VALUE];
+    if (answer[HUB_ANSWER_KIND] == HUB_KIND_NEXT && response) { /* from here on there are keys */
+        read_half(&reply, &theirs);
+        agree(&ours, &theirs, &keys);
+    }
+    if (answer[HUB_ANSWER_KIND] == HUB_KIND_NEXT)
+        write_request(type);
+    else if (answer[HUB_ANSWER_KIND] == HUB_KIND_AGAIN && type != HUB_NOTHING_DUE)
+        (void)send_bytes(&hub, requests[type].bytes, requests[type].n);
+    return answer[HUB_ANSWER_KIND];
+}
+
+/* Takes messages until the deadline, or until one changes the gateway's state; answers of which kind the last answer is. */
+static uint64_t hear(int64_t deadline)
+{
+    uint64_t kind = HUB_KIND_REFUSED;
+    size_t n;
+
+    while ((kind == HUB_KIND_REFUSED || kind == HUB_KIND_AGAIN) && (n = receive(&hub, deadline)) > 0)
+        kind = take(n);
+    return kind;
+}
+
+/* Sends the request that is due, the same bytes until it is replied to; answers whether all are. Where it is turned away, maybe by a stranger, it
+   starts over; and where nothing sealed is replied to, for a Connection Request or Response that was damaged or forged gives keys that do not fit. */
+static int enrol(void)
+{
+    uint64_t kind, due;
+    int tries = 0, i;
+
+    begin();
+    for (i = 0; i < SENDS; i++) {
+        must(hub_gateway_due(gateway, HUB_GATEWAY_BYTES, &due, HUB_DUE_WORDS), "hub_gateway_due");
+        if (!send_bytes(&hub, requests[due].bytes, requests[due].n))
+            return 0;
+        kind = hear(now() + WAIT);
+        if (kind == HUB_KIND_READY)
+            return 1;
+        tries = due == HUB_CONNECTION_REQUEST || kind == HUB_KIND_NEXT ? 0 : tries + 1;
+        if (kind == HUB_KIND_FAILED || tries == TRIES)
+            begin();
+    }
+    return 0;
 }
 
 /* Sends every piece of a report; answers whether they have gone. */
@@ -147,7 +160,7 @@ static int send_report(uint64_t number, const uint8_t *report, size_t n)
     return 1;
 }
 
-/* Sends reports of one piece to 64; answers whether all have gone. */
+/* Sends reports of one piece to 64, and hears what comes between; answers whether all have gone. */
 static int send_reports(void)
 {
     static const size_t sizes[] = {0, 1, F, F + 1, 5 * F - 1, HUB_MOST_PIECES * F};
@@ -161,7 +174,7 @@ static int send_reports(void)
             n += (size_t)sprintf(report + n, "session %u, day %u, vine %u: 1.8 kg; ", (unsigned)session, (unsigned)number, (unsigned)n);
         print_report(number, (const uint8_t *)report, sizes[number]);
         for (i = 0; i < ROUNDS; i++)
-            if (!send_report(number, (const uint8_t *)report, sizes[number]))
+            if (!send_report(number, (const uint8_t *)report, sizes[number]) || hear(now() + PAUSE) == HUB_KIND_FAILED)
                 return 0;
     }
     return 1;
@@ -169,29 +182,19 @@ static int send_reports(void)
 
 int main(int argc, char **argv)
 {
-    int64_t deadline;
-    int i = 0;
-
     if (argc != 2 && argc != 3) {
         fprintf(stderr, "usage: gateway DESCRIPTOR [CERTIFICATE]\n");
         return 2;
     }
+    certificate = argc == 3 ? argv[2] : CERTIFICATE_OF_GATEWAY;
     open_link(&hub, argv[1]);
-    draw_bytes(&session, sizeof session);
-    draw_half(&ours, 'g');
     ask_name();
-    /* A Connection Request or Response that was damaged, or a stranger's, gives keys that do not fit: nothing sealed is replied to. */
-    while (!enrol(argc == 3 ? argv[2] : CERTIFICATE_OF_GATEWAY))
-        if (++i == STARTS) {
-            fprintf(stderr, "gateway: the hub does not enrol it\n");
-            return 1;
-        }
-    if (!send_reports())
+    if (!enrol() || !send_reports()) {
+        fprintf(stderr, "gateway: the hub does not enrol it, or has turned it away\n");
         return 1;
+    }
     /* Whoever closes a stream with replies unread may lose what it has sent: say that no more comes, and wait for the hub to close. */
     shutdown(hub.descriptor, SHUT_WR);
-    deadline = now() + LINGER;
-    while (receive(&hub, deadline) > 0)
-        continue;
+    (void)hear(now() + LINGER);
     return 0;
 }

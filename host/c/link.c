@@ -160,8 +160,7 @@ int send_discovery(struct link *link, uint64_t request, const uint8_t *payload, 
 {
     static const struct keys none;
     static struct message message;
-    const uint64_t fields[HUB_FIELDS_WORDS] = {
-        [HUB_HEADER_TYPE] = HUB_TYPE_DISCOVERY, [HUB_HEADER_REQUEST] = request, [HUB_HEADER_COUNT] = 1};
+    const uint64_t fields[HUB_FIELDS_WORDS] = {[HUB_HEADER_TYPE] = HUB_TYPE_DISCOVERY, [HUB_HEADER_REQUEST] = request, [HUB_HEADER_COUNT] = 1};
 
     write_message(fields, payload, payload_n, &none, &message);
     return send_bytes(link, message.bytes, message.n);
@@ -187,4 +186,14 @@ void print_report(uint64_t number, const uint8_t *report, size_t n)
     printf("report %u, %u bytes: ", (unsigned)number, (unsigned)n);
     fwrite(report, 1, n, stdout);
     printf("\n");
+}
+
+void say_name(const char *before, const uint8_t *name, uint64_t n)
+{
+    uint64_t i;
+
+    fprintf(stderr, "%s \"", before);
+    for (i = 0; i < n; i++)
+        fprintf(stderr, name[i] >= ' ' && name[i] <= '~' && name[i] != '\\' ? "%c" : "\\x%02x", name[i]);
+    fprintf(stderr, "\"\n");
 }

@@ -99,4 +99,7 @@ int shows(const struct connect *connect, const char *certificate);
 
 void print_report(uint64_t number, const uint8_t *report, size_t n);
 
+/* Says a name after these words. It may be any bytes: what is not a printable ASCII character is shown by its number. */
+void say_name(const char *before, const uint8_t *name, uint64_t n);
+
 #endif

@@ -5,10 +5,11 @@
  *     relay FIRST LAST HUB GATEWAY
  *
  * HUB and GATEWAY are commands, which are given the number of a descriptor. For each seed from FIRST to LAST both run, and what they send to each
- * other is lost, sent twice, held back or damaged, message by message; a stranger's Connection Requests and presence calls come between, also when
- * the hub is ready. The hub must print each report once, in order, as the gateway sent it, and answer each of these calls by its name. Then both run
- * with a gateway before that is cut off: in its enrolment, in the midst of a report, or when the hub has not accepted its certificate. The hub must
- * hear the other one, and print its reports from 0 on. A line at the end says what was counted.
+ * other is lost, sent twice, held back or damaged, message by message; a stranger's Connection Requests, Connection Responses and presence calls come
+ * between, also when hub and gateway are ready. The hub must print each report once, in order, as the gateway sent it, and answer each of these calls
+ * by its name; the gateway must enrol, whoever turns it away, and stay ready; and what either sends again must be the same bytes. Then both run with
+ * a gateway before that is cut off: in its enrolment, in the midst of a report, or when the hub has not accepted its certificate. The hub must hear
+ * the other one, and print its reports from 0 on. A line at the end says what was counted.
  */
 #define _POSIX_C_SOURCE 200809L
 #include <fcntl.h>
@@ -53,6 +54,7 @@ static uint64_t session;
 static unsigned sent_messages, sent_pieces;
 
 static unsigned seed, runs, messages, lost, twice, late, damaged, forgeries, while_ready, replayed, cut_off, in_report, unknown;
+static unsigned responses, turned_away_ready, starts;
 static unsigned reports, replied, again, dropped, named;
 
 /* The stranger's presence calls of this run, those of them that the hub has answered, its answers to all presence calls; and these of all runs. */
@@ -155,6 +157,23 @@ static void forge(uint64_t of_session, int sealed)
     while_ready += sent_pieces > 0;
 }
 
+/* Sends the gateway a stranger's Connection Response of its SessionID: with another half than the hub's, or one that turns the gateway away. */
+static void forge_response(uint64_t result)
+{
+    static const uint8_t coordinate[HUB_COORDINATE_BYTES];
+    static const struct keys none;
+    uint64_t fields[HUB_FIELDS_WORDS] = {[HUB_HEADER_TYPE] = HUB_TYPE_CONNECT, [HUB_HEADER_COUNT] = 1, [HUB_HEADER_SESSION] = session}, length;
+    uint8_t payload[HUB_MOST_PAYLOAD], nonce[HUB_NONCE_BYTES];
+
+    draw_bytes(nonce, sizeof nonce);
+    must(hub_write_connection_response(HUB_MODE_NONE, result, nonce, HUB_NONCE_BYTES, coordinate, HUB_COORDINATE_BYTES, coordinate,
+                                       HUB_COORDINATE_BYTES, payload, sizeof payload, &length, HUB_LENGTH_WORDS),
+         "hub_write_connection_response");
+    write_message(fields, payload, length, &none, &forged);
+    responses += (unsigned)send_bytes(&gateway.link, forged.bytes, forged.n);
+    turned_away_ready += result != HUB_PENDING && sent_pieces > 0;
+}
+
 /* Sends the hub a stranger's presence call. */
 static void call_hub(void)
 {
@@ -189,7 +208,7 @@ static struct shown {
     struct half halves[1024];
     size_t n;
 } by_gateways, by_hub;
-static struct keys agreed[2048];
+static struct keys agreed[16384];
 static size_t agreed_n;
 
 /* Takes note of a half that a side shows, with the keys that it gives. */
@@ -224,22 +243,47 @@ static size_t sealed_by(struct link *link, size_t n)
     return SIZE_MAX;
 }
 
-/* The sealed messages of this run: the keys, the four numbers that the vector is made of, and a digest of the bytes. */
+/* The sealed messages of this run: the keys, the four numbers that the vector is made of, the type of a Connect message, and a digest. */
 static struct {
-    uint64_t vector[5];
+    uint64_t vector[5], type;
     uint8_t digest[HUB_DIGEST_BYTES];
 } seen[1024];
 static size_t seen_n;
 
-/* Under one set of keys no two sealed messages of different bytes have the same vector, whoever sends them. */
+/* The Connection Requests of this run's gateways, each of another enrolment: the SessionID, and a digest of the bytes. */
+static struct {
+    uint64_t session;
+    uint8_t digest[HUB_DIGEST_BYTES];
+} enrolments[1024];
+static size_t enrolments_n;
+
+/* A lost reply makes a gateway send the same bytes again, nonce included: no two Connection Requests of one SessionID differ. */
+static void watch_request(uint64_t of_session, const uint8_t *digest)
+{
+    size_t i = 0;
+
+    while (i < enrolments_n && enrolments[i].session != of_session)
+        i++;
+    if (i == sizeof enrolments / sizeof enrolments[0])
+        fail("a gateway begins ever new enrolments");
+    if (i < enrolments_n && memcmp(enrolments[i].digest, digest, HUB_DIGEST_BYTES) != 0)
+        fail("a Connection Request that is sent again has other bytes");
+    enrolments[i].session = of_session;
+    memcpy(enrolments[i].digest, digest, HUB_DIGEST_BYTES);
+    starts += i == enrolments_n;
+    enrolments_n += i == enrolments_n;
+}
+
+/* Under one set of keys no two sealed messages of different bytes have the same vector, whoever sends them; and what is sent again of an enrolment is
+   the same bytes, so that no two requests or replies of one type differ. */
 static void watch(struct side *from, size_t n)
 {
     static const struct keys none;
-    uint64_t header[HUB_HEADER_WORDS], vector[5];
+    uint64_t header[HUB_HEADER_WORDS], vector[5], type = UINT64_MAX;
     uint8_t digest[HUB_DIGEST_BYTES];
     struct connect connect;
     struct half half;
-    size_t i = 0;
+    size_t i = 0, k;
 
     if (hub_read_header(from->link.message, n, header, HUB_HEADER_WORDS) != HUB_DONE ||
         hub_digest(from->link.message, n, digest, HUB_DIGEST_BYTES) != HUB_DONE)
@@ -258,6 +302,8 @@ static void watch(struct side *from, size_t n)
             fail("a plain message is no Connect message");
         read_half(&connect, &half);
         note(from == &hub ? &by_hub : &by_gateways, &half);
+        if (from == &gateway)
+            watch_request(header[HUB_HEADER_SESSION], digest);
         return;
     }
     vector[0] = sealed_by(&from->link, n);
@@ -265,6 +311,12 @@ static void watch(struct side *from, size_t n)
     vector[2] = header[HUB_HEADER_SEQUENCE];
     vector[3] = header[HUB_HEADER_INDEX];
     vector[4] = header[HUB_HEADER_COUNT];
+    if (vector[0] != SIZE_MAX && read_connect(&from->link, n, &agreed[vector[0]], &connect)) {
+        type = connect.words[HUB_CONNECT_TYPE];
+        for (k = 0; k < seen_n; k++)
+            if (seen[k].vector[0] == vector[0] && seen[k].type == type && memcmp(seen[k].digest, digest, HUB_DIGEST_BYTES) != 0)
+                fail("a request or a reply that is sent again has other bytes");
+    }
     while (i < seen_n && memcmp(seen[i].vector, vector, sizeof vector) != 0)
         i++;
     if (i == sizeof seen / sizeof seen[0])
@@ -272,6 +324,7 @@ static void watch(struct side *from, size_t n)
     if (i < seen_n && memcmp(seen[i].digest, digest, HUB_DIGEST_BYTES) != 0)
         fail("two sealed messages have the same vector");
     memcpy(seen[i].vector, vector, sizeof vector);
+    seen[i].type = type;
     memcpy(seen[i].digest, digest, HUB_DIGEST_BYTES);
     seen_n += i == seen_n;
 }
@@ -331,6 +384,8 @@ static void pass(struct side *from, size_t n)
         forge(draw(2) == 0 ? session : ~session, 0);
     if (first || (from == &gateway && draw(8) == 0))
         call_hub();
+    if (first || (from == &gateway && draw(8) == 0))
+        forge_response(first ? HUB_FAILURE_NOT_ALLOWED : draw(HUB_FAILURE_NOT_ALLOWED + 1));
     switch (first ? TWICE : draw(FATES)) {
     case LOST:
         lost++;
@@ -445,7 +500,7 @@ static size_t run(char **commands, const struct cut *cut)
     size_t before = 0;
 
     drawn = seed + (cut == NULL ? 0 : 1000 * (1 + cut->messages + cut->pieces)); /* no two runs of a seed are alike */
-    seen_n = agreed_n = by_gateways.n = by_hub.n = old_n = 0;
+    seen_n = enrolments_n = agreed_n = by_gateways.n = by_hub.n = old_n = 0;
     called = answered = answers = 0;
     keeping = cut != NULL;
     runs++;
@@ -608,10 +663,13 @@ int main(int argc, char **argv)
     hold_deadline();
     if (lost == 0 || twice == 0 || late == 0 || damaged == 0 || while_ready == 0 || again == 0 || dropped == 0 || replied <= 3 * (runs + cut_off))
         fail("the link was too good");
+    if (turned_away_ready == 0 || starts <= runs + cut_off)
+        fail("the gateways were not troubled");
     if (named == 0)
         fail("no gateway hears the hub's name");
     printf("%u runs, %u messages: %u lost, %u twice, %u late, %u damaged, %u forged between, %u of them to a hub that is ready; ", runs, messages,
            lost, twice, late, damaged, forgeries, while_ready);
+    printf("%u forged to gateways, %u to turn one away that is ready; %u enrolments begun; ", responses, turned_away_ready, starts);
     printf("%u gateways cut off, %u in a report, and another one heard, whatever %u old requests say; ", cut_off, in_report, replayed);
     printf("%u reports came once, in order, as sent; %u replies, %u sent again, %u messages dropped; ", reports, replied, again, dropped);
     printf("%u unknown certificates not accepted; %u presence calls answered, %u gateways hear the hub's name\n", unknown, all_answers, named);

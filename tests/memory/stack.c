@@ -21,12 +21,12 @@ static ucontext_t here, there;
 static const uint8_t nonce[HUB_NONCE_BYTES], x[HUB_COORDINATE_BYTES], y[HUB_COORDINATE_BYTES];
 static const uint8_t certificate[HUB_MOST_CERTIFICATE], thumbprint[HUB_MOST_THUMBPRINT];
 static const uint8_t name[HUB_MOST_NAME], salt[HUB_SALT_BYTES], hash[HUB_HASH_BYTES];
-static uint8_t keys[HUB_KEYS_BYTES], state[HUB_STATE_BYTES], before[HUB_STATE_BYTES], working[HUB_MOST_SEALED], report[3 * F];
+static uint8_t keys[HUB_KEYS_BYTES], state[HUB_STATE_BYTES], gateway[HUB_GATEWAY_BYTES], working[HUB_MOST_SEALED], report[3 * F];
 static uint8_t message[HUB_MOST_READ], out[HUB_MOST_WRITTEN], digest[HUB_DIGEST_BYTES], line[HUB_LINE_BYTES], payload[F], chain[8 * (2 + ENTRY) + 2];
 static uint64_t header[HUB_HEADER_WORDS], fields[HUB_FIELDS_WORDS], place[HUB_PLACE_WORDS], answer[HUB_ANSWER_WORDS];
-static uint64_t length[HUB_LENGTH_WORDS], connect[HUB_CONNECT_WORDS], discovery[HUB_DISCOVERY_WORDS];
+static uint64_t length[HUB_LENGTH_WORDS], connect[HUB_CONNECT_WORDS], discovery[HUB_DISCOVERY_WORDS], due[HUB_DUE_WORDS];
 static size_t message_n, payload_n;
-static uint64_t verdict;
+static uint64_t verdict, authentication = HUB_AUTHENTICATION_REQUEST, status = HUB_FAILURE_UNKNOWN;
 static uint32_t number;
 
 static void do_nothing(void) {}
@@ -62,14 +62,11 @@ static void do_connection_response(void)
 }
 static void do_device_authentication(void)
 {
-    number = hub_write_device_authentication(HUB_AUTHENTICATION_REQUEST, HUB_MODE_LEGACY, certificate, sizeof certificate, thumbprint,
-                                             sizeof thumbprint, payload, sizeof payload, length, HUB_LENGTH_WORDS);
+    number = hub_write_device_authentication(authentication, HUB_MODE_LEGACY, certificate, sizeof certificate, thumbprint, sizeof thumbprint,
+                                             payload, sizeof payload, length, HUB_LENGTH_WORDS);
 }
 static void do_done_request(void) { number = hub_write_done_request(HUB_MODE_LEGACY, payload, sizeof payload, length, HUB_LENGTH_WORDS); }
-static void do_done_response(void)
-{
-    number = hub_write_done_response(HUB_MODE_LEGACY, HUB_FAILURE_UNKNOWN, payload, sizeof payload, length, HUB_LENGTH_WORDS);
-}
+static void do_done_response(void) { number = hub_write_done_response(HUB_MODE_LEGACY, status, payload, sizeof payload, length, HUB_LENGTH_WORDS); }
 static void do_read_connect(void) { number = hub_read_connect(payload, payload_n, connect, HUB_CONNECT_WORDS); }
 static void do_read_discovery(void) { number = hub_read_discovery(payload, payload_n, discovery, HUB_DISCOVERY_WORDS); }
 static void do_open(void) { number = hub_open(F, state, HUB_STATE_BYTES); }
@@ -78,6 +75,13 @@ static void do_step(void)
     number = hub_step(state, HUB_STATE_BYTES, message, message_n, keys, sizeof keys, working, sizeof working, report, sizeof report, verdict, answer,
                       HUB_ANSWER_WORDS);
 }
+static void do_gateway_open(void) { number = hub_gateway_open(F, 0, gateway, HUB_GATEWAY_BYTES); }
+static void do_gateway_step(void)
+{
+    number = hub_gateway_step(gateway, HUB_GATEWAY_BYTES, message, message_n, keys, sizeof keys, working, sizeof working, verdict, answer,
+                              HUB_ANSWER_WORDS);
+}
+static void do_gateway_due(void) { number = hub_gateway_due(gateway, HUB_GATEWAY_BYTES, due, HUB_DUE_WORDS); }
 static void do_cut(void) { number = hub_cut(report, sizeof report, F, 2, place, HUB_PIECE_WORDS); }
 static void do_list(void) { number = hub_list(message, message_n, line, sizeof line, length, HUB_LENGTH_WORDS); }
 
@@ -104,14 +108,17 @@ static size_t most(size_t a, size_t b)
     return a < b ? b : a;
 }
 
-/* The bytes of stack that a call takes; it is made twice, on the same state. */
+/* The bytes of stack that a call takes; it is made twice, on the same connections. */
 static size_t used(void (*call)(void))
 {
+    static uint8_t hub_before[HUB_STATE_BYTES], gateway_before[HUB_GATEWAY_BYTES];
     size_t twice;
 
-    memcpy(before, state, sizeof state);
+    memcpy(hub_before, state, sizeof state);
+    memcpy(gateway_before, gateway, sizeof gateway);
     twice = used_in(call, 0xA5);
-    memcpy(state, before, sizeof state);
+    memcpy(state, hub_before, sizeof state);
+    memcpy(gateway, gateway_before, sizeof gateway);
     twice = most(twice, used_in(call, 0x5A));
     return twice - most(used_in(do_nothing, 0xA5), used_in(do_nothing, 0x5A));
 }
@@ -206,6 +213,37 @@ static size_t steps(void)
     return bytes;
 }
 
+/* A whole enrolment on the gateway's side, each step measured; on the way refusals, of the longest piece too; and the last turns it away. */
+static size_t gateway_steps(void)
+{
+    size_t bytes = 0;
+
+    do_gateway_open();
+    verdict = 1;
+    prepare_by(do_connection_response, HUB_TYPE_CONNECT, 0);
+    bytes = most(bytes, measure(do_gateway_step, HUB_DONE));
+    bytes = most(bytes, measure(do_gateway_step, HUB_DONE)); /* Again */
+    authentication = HUB_AUTHENTICATION_RESPONSE;
+    prepare_by(do_device_authentication, HUB_TYPE_CONNECT, HUB_FLAGS_SEALED);
+    bytes = most(bytes, measure(do_gateway_step, HUB_DONE));
+    bytes = most(bytes, measure(do_gateway_step, HUB_DONE)); /* Again */
+    prepare_by(do_presence_response, HUB_TYPE_DISCOVERY, 0);
+    bytes = most(bytes, measure(do_gateway_step, HUB_NOT_ALLOWED));
+    prepare(HUB_TYPE_SESSION, HUB_FLAGS_SEALED, 0, 2, F);
+    bytes = most(bytes, measure(do_gateway_step, HUB_NOT_ALLOWED));
+    message[message_n - 1] ^= 1;
+    bytes = most(bytes, measure(do_gateway_step, HUB_WRONG_TAG));
+    status = HUB_SUCCESS;
+    prepare_by(do_done_response, HUB_TYPE_CONNECT, HUB_FLAGS_SEALED);
+    bytes = most(bytes, measure(do_gateway_step, HUB_DONE)); /* Ready */
+    bytes = most(bytes, measure(do_gateway_step, HUB_DONE)); /* Again */
+    prepare_by(do_device_authentication, HUB_TYPE_CONNECT, HUB_FLAGS_SEALED);
+    verdict = 0;
+    bytes = most(bytes, measure(do_gateway_step, HUB_DONE)); /* Failed */
+    bytes = most(bytes, measure(do_gateway_step, HUB_NOT_ALLOWED));
+    return bytes;
+}
+
 /* The writers of payloads, and both readers of what each has written. */
 static void payloads(void)
 {
@@ -262,6 +300,9 @@ int main(void)
     payloads();
     row("hub_open", measure(do_open, HUB_DONE));
     row("hub_step", steps());
+    row("hub_gateway_open", measure(do_gateway_open, HUB_DONE));
+    row("hub_gateway_step", gateway_steps());
+    row("hub_gateway_due", measure(do_gateway_due, HUB_DONE));
     row("hub_cut", measure(do_cut, HUB_DONE));
     sealed = measure(do_list, HUB_DONE);
     message_n--;

@@ -157,6 +157,31 @@ unsafe extern "C" {
         answer: *mut u64,
         answer_n: usize,
     ) -> u32;
+    pub fn hub_gateway_open(
+        fragment_size: u64,
+        session: u64,
+        gateway: *mut u8,
+        gateway_n: usize,
+    ) -> u32;
+    pub fn hub_gateway_step(
+        gateway: *mut u8,
+        gateway_n: usize,
+        message: *const u8,
+        message_n: usize,
+        keys: *const u8,
+        keys_n: usize,
+        working: *mut u8,
+        working_n: usize,
+        verdict: u64,
+        answer: *mut u64,
+        answer_n: usize,
+    ) -> u32;
+    pub fn hub_gateway_due(
+        gateway: *const u8,
+        gateway_n: usize,
+        due: *mut u64,
+        due_n: usize,
+    ) -> u32;
     pub fn hub_cut(
         report: *const u8,
         report_n: usize,

@@ -1,7 +1,7 @@
 // SPDX-License-Identifier: MPL-2.0
 //! A proved hub library for Rust: it enrols gateways, joins their reports and answers presence
-//! calls over the Connected Devices Platform protocol (MS-CDP), as the project's document 01
-//! (docs/01-scope.md) describes it.
+//! calls, and has the gateway's side of it too, over the Connected Devices Platform protocol
+//! (MS-CDP), as the project's document 01 (docs/01-scope.md) describes it.
 //!
 //! The calls are those of include/hub.h, with types for what C can only ask for: keys are 64 bytes
 //! or none, a connection is a value, fields have their width, payloads are types, a report is a
@@ -31,12 +31,15 @@
 //! | [`Connection::step`] | takes a message that came in, and answers what to do: reply, reply again, name a failure, wait for more pieces, or take the report, which is complete |
 //! | [`Connect::write`], [`write()`] | make the payload of a reply, and its message |
 //!
-//! The gateway's side:
+//! The gateway's side, for each enrolment:
 //!
 //! | Call | What it does |
 //! |---|---|
+//! | [`Gateway::open`] | once: makes a gateway's connection of fragment size F and the SessionID that its requests carry |
+//! | [`Gateway::due`] | names the request that is due: what to send, and to send again where no reply comes |
 //! | [`Connect::write`], [`write()`] | make the payload of a request, and its message |
-//! | [`read`], [`Message::connect`] | open a reply, and take it apart |
+//! | [`Gateway::step`] | takes a message that came in, and answers what to do: send the next request, send one again, send reports, since the hub is ready for them, or start over |
+//! | [`read`], [`Message::connect`] | open a reply, and take it apart: for the keys, and for the verdict on the hub's certificate |
 //! | [`cut`] | cuts a report; [`write()`] makes the message of each piece |
 //!
 //! Whoever looks for hubs, and a hub that says its name:
@@ -55,9 +58,10 @@
 //! comes first.
 //!
 //! ```
-//! use hlidunsk::payload::{Connect, ConnectionResult, Exchange, Mode, Status, MOST_PAYLOAD};
-//! use hlidunsk::{cut, read, read_header, write, Answer, Connection, Keys, MessageType, Refusal};
-//! use hlidunsk::{Reply, State, MOST_PIECES, MOST_REPLY, MOST_SEALED, MOST_WRITTEN, NO_ENTRIES};
+//! use hlidunsk::payload::{Connect, ConnectionResult, Exchange, Mode, MOST_PAYLOAD};
+//! use hlidunsk::{cut, read, read_header, write, Answer, Connection, Gateway, GatewayAnswer, Keys};
+//! use hlidunsk::{GatewayState, MessageType, Refusal, Reply, Request, State};
+//! use hlidunsk::{MOST_PIECES, MOST_REPLY, MOST_SEALED, MOST_WRITTEN, NO_ENTRIES};
 //!
 //! const F: usize = 16; // the bytes of a piece
 //! const SESSION: u64 = 42;
@@ -154,31 +158,44 @@
 //!     sequence: 0xC000_0000,
 //! };
 //!
-//! // The gateway enrols by three requests. It hears no reply to the first copy of each.
+//! // The gateway draws its SessionID, its nonce and its key pair, and sends what is due.
+//! let mut gateway = Gateway::open(F, SESSION)?;
 //! let exchange = Exchange { nonce: *b"nonce  1", x: [1; 32], y: [2; 32] };
 //! let (certificate, thumbprint) = (GATEWAY, &b""[..]);
-//! let requests = [
-//!     Connect::ConnectionRequest { mode: MODE, exchange },
-//!     Connect::DeviceAuthenticationRequest { mode: MODE, certificate, thumbprint },
-//!     Connect::DoneRequest { mode: MODE },
-//! ];
-//! let mut keys = None;
+//! let (mut keys, mut sequence) = (None, 0x8000_0000);
 //! let (mut sent, mut working) = ([0; MOST_WRITTEN], [0; MOST_SEALED]);
-//! for (request, sequence) in requests.iter().zip(0x8000_0000..) {
-//!     let length = message(request, sequence, keys.as_ref(), &mut sent)?;
+//! while let Some(request) = gateway.due() {
+//!     let connect = match request {
+//!         Request::ConnectionRequest => Connect::ConnectionRequest { mode: MODE, exchange },
+//!         Request::DeviceAuthenticationRequest => {
+//!             Connect::DeviceAuthenticationRequest { mode: MODE, certificate, thumbprint }
+//!         }
+//!         Request::DoneRequest => Connect::DoneRequest { mode: MODE },
+//!     };
+//!     let length = message(&connect, sequence, keys.as_ref(), &mut sent)?;
+//!     sequence += 1;
+//!     // The reply to the first copy is lost, and the request goes once more: the same bytes.
 //!     assert!(matches!(hub.take(&sent[..length])?, Answer::Reply(_)));
 //!     let Answer::Again(reply) = hub.take(&sent[..length])? else { panic!("another step") };
-//!     let reply = read(&hub.replies[which(reply)], keys.as_ref(), &mut working)?;
-//!     match reply.connect() {
+//!     let reply = &hub.replies[which(reply)];
+//!
+//!     // What is in it: the hub's half of the key agreement, or its certificate, or neither.
+//!     let (theirs, accepted) = match read(reply, keys.as_ref(), &mut working)?.connect() {
 //!         Some(Connect::ConnectionResponse { result: ConnectionResult::Pending(theirs), .. }) => {
-//!             keys = Some(agree(theirs).1);
+//!             (Some(theirs), false)
 //!         }
-//!         Some(Connect::DeviceAuthenticationResponse { certificate: HUB, .. }) => {}
-//!         Some(Connect::DoneResponse { status: Status::Success, .. }) => {}
+//!         Some(Connect::DeviceAuthenticationResponse { certificate, .. }) => {
+//!             (None, certificate == HUB)
+//!         }
+//!         _ => (None, false),
+//!     };
+//!     match (gateway.step(reply, keys.as_ref(), &mut working, accepted)?, theirs) {
+//!         (GatewayAnswer::Next(_), Some(theirs)) => keys = Some(agree(theirs).1),
+//!         (GatewayAnswer::Next(_) | GatewayAnswer::Ready, None) => {}
 //!         other => panic!("{other:?}"),
 //!     }
 //! }
-//! assert_eq!(hub.connection.state(), State::Ready);
+//! assert_eq!((gateway.state(), hub.connection.state()), (GatewayState::Ready, State::Ready));
 //!
 //! // It sends its first report, in two pieces.
 //! let report = b"pump 7: 1,204 litres";
@@ -198,7 +215,7 @@
 //! # Ok::<(), Refusal>(())
 //! ```
 //!
-//! # What the maker of a hub must know
+//! # What the maker of a hub or of a gateway must know
 //!
 //! ## Keys
 //!
@@ -262,10 +279,10 @@
 //!
 //! ## Verdicts
 //!
-//! The verdict matters for one message alone, a Device Authentication Request, which is sealed, in
-//! [`State::WaitingForAuthentication`]. Only there need a caller read the message before the step,
-//! as `accepts` does above: [`read_header`] says whether it is a sealed Connect message, and only
-//! such a one is opened. For every other message any verdict gives the same.
+//! To a hub the verdict matters for one message alone, a Device Authentication Request, which is
+//! sealed, in [`State::WaitingForAuthentication`]. Only there need a caller read the message before
+//! the step, as `accepts` does above: [`read_header`] says whether it is a sealed Connect message,
+//! and only such a one is opened. For every other message any verdict gives the same.
 //!
 //! A certificate alone proves nothing: it is public, and anybody can show a copy. Give the verdict
 //! `true` only where the sender has proved that he holds its key: verify the thumbprint as a
@@ -304,12 +321,47 @@
 //!
 //! ## The gateway
 //!
-//! A reply counts where [`read`] does not refuse it, its SessionID is the gateway's, and
-//! [`Message::connect`] gives the payload that is awaited: a Connection Response whose Result is
-//! Pending, which leads to the keys; a Device Authentication Response, whose certificate is judged
-//! as the hub judges the gateway's; a Done Response with
-//! [`Success`](payload::Status::Success). Every other message is dropped: it is late, damaged or a
-//! stranger's. A gateway whose sealed requests get no reply starts over with its Connection Request.
+//! [`Gateway::open`] is given F and the SessionID that the gateway's requests carry: a random
+//! number, new for each enrolment, as its nonce and its key pair are. [`Gateway::due`] names the
+//! request that is due. Write it once, keep its bytes and send them; then give [`Gateway::step`]
+//! each message that comes. What it refuses is late, damaged or a stranger's: drop it.
+//!
+//! On [`GatewayAnswer::Next`] the reply was taken, and the next request is due. Where that is the
+//! Device Authentication Request the message was the Connection Response: [`read`] its nonce, X and
+//! Y, which lead to the keys. Do so at once: without keys no sealed message is written or opened.
+//!
+//! On [`GatewayAnswer::Ready`] [`cut`] and send reports. A gateway that is Ready still hears
+//! messages: give them to the step too.
+//!
+//! ## Lost replies
+//!
+//! Where no reply comes in its time, send the bytes of the request that is due once more: the same
+//! bytes, never with a new nonce, for a hub that has taken the first one refuses the other with 15.
+//! Nothing in the library makes a nonce, and a [`Gateway`] has none in it.
+//!
+//! On [`GatewayAnswer::Again`] a reply has come that was taken before: send the request that it
+//! names, the one that follows this reply, once more, the same bytes too. After an Authentication
+//! Done Response there is none to send. Only the type of such a reply is looked at, and its Result,
+//! its Status or the verdict: so keep the keys, whatever nonce, X and Y a second Connection Response
+//! has.
+//!
+//! ## Turned away
+//!
+//! A Connection Response of another Result than [`Pending`](payload::ConnectionResult::Pending), an
+//! Authentication Done Response of another Status than [`Success`](payload::Status::Success), and a
+//! Device Authentication Response whose certificate is not accepted are answered
+//! [`GatewayAnswer::Failed`], whenever they come, in Ready too. The verdict is on the hub's
+//! certificate, and matters for the last of these alone, but for each one that comes, also where it
+//! is a repeated one: judge every one, as [Verdicts](#verdicts) says. After that every message is
+//! refused: only [`Gateway::open`] helps, with a new SessionID, nonce and key pair.
+//!
+//! A Connection Response is plain: whoever has seen the SessionID can make one of another Result,
+//! and throw a gateway out, at the start and when it is Ready. To be spared that, [`read`] plain
+//! Connection Responses before the step once the state is not
+//! [`WaitingForResponse`](GatewayState::WaitingForResponse) any longer, and drop those whose Result
+//! is not Pending; or start over. One that is Pending and was forged, or damaged, leads to keys that
+//! the hub does not have: no sealed request is replied to, and after some tries the gateway starts
+//! over, with all of these new.
 //!
 //! ## Presence
 //!
@@ -353,6 +405,9 @@
 //! report. At [`Answer::Complete`] store report and connection together, else a crash loses or
 //! doubles a report.
 //!
+//! A [`Gateway`] is 17 bytes. It is of use only with its keys, the bytes of its requests, and the
+//! number that its next report has: store them together, or enrol anew.
+//!
 //! ## Refusals
 //!
 //! Most are harmless, and a hub drops the message and goes on: connection and report buffer are as
@@ -387,16 +442,16 @@
 //!
 //! [`hmac`] and [`same_tag`] make no branch and no memory access that depends on the bytes they are
 //! given; this is tested and not proved. AES reads tables at places that depend on keys and data,
-//! so [`read`], [`write()`] and [`Connection::step`] are not constant-time: docs/SECURITY.md has
-//! more. Copies on the stack are not erased.
+//! so [`read`], [`write()`], [`Connection::step`] and [`Gateway::step`] are not constant-time:
+//! docs/SECURITY.md has more. Copies on the stack are not erased.
 //!
 //! # Versions
 //!
 //! This crate has the version of hub.h and of the library, which [`version`] tells. The first
 //! number rises where a caller has to change something, or the meaning of the 151 bytes of a
-//! connection changes. So connections that were stored under one first number may be read under
-//! another only where docs/CHANGES.md says how; under the same first number all are read. The
-//! second number rises where something is added.
+//! connection or of the 17 of a gateway's changes. So connections that were stored under one first
+//! number may be read under another only where docs/CHANGES.md says how; under the same first
+//! number all are read. The second number rises where something is added.
 //!
 //! The library is for x86-64 Linux. The build script looks for it in the folder that `HLIDUNSK_LIB`
 //! names.
@@ -416,6 +471,7 @@ mod answer;
 mod connection;
 mod cutting;
 mod ffi;
+mod gateway;
 mod hash;
 mod listing;
 mod message;
@@ -426,6 +482,7 @@ mod stream;
 pub use answer::{Answer, Reply};
 pub use connection::{Connection, State, MOST_FRAGMENT_SIZE, MOST_PIECES};
 pub use cutting::{cut, Piece};
+pub use gateway::{Gateway, GatewayAnswer, GatewayState, Request};
 pub use hash::{digest, hmac, same_tag};
 pub use listing::{list, Line};
 pub use message::{read, read_header, write, Body, Framed, Header, Keys, Message, MessageType};

@@ -53,11 +53,11 @@ const PRESENCE_REQUEST: u64 = 0;
 const PRESENCE_RESPONSE: u64 = 1;
 
 // The types of Connect payloads: the byte after ConnectionMode.
-const CONNECTION_REQUEST: u64 = 0;
+pub(crate) const CONNECTION_REQUEST: u64 = 0;
 pub(crate) const CONNECTION_RESPONSE: u64 = 1;
-const AUTHENTICATION_REQUEST: u64 = 2;
+pub(crate) const AUTHENTICATION_REQUEST: u64 = 2;
 pub(crate) const AUTHENTICATION_RESPONSE: u64 = 3;
-const DONE_REQUEST: u64 = 6;
+pub(crate) const DONE_REQUEST: u64 = 6;
 pub(crate) const DONE_RESPONSE: u64 = 7;
 
 /// A part of a payload that has a fixed size.
@@ -129,8 +129,8 @@ impl DeviceType {
 /// Response that is Pending.
 #[derive(Clone, Copy, Debug, PartialEq, Eq, Hash)]
 pub struct Exchange {
-    /// The nonce: random, and new for each request and for each response that is not sent again.
-    /// One that is sent again has the same nonce, X and Y.
+    /// The nonce: random, and new for each request and for each response. One that is sent again
+    /// has the same nonce, X and Y.
     pub nonce: [u8; 8],
     /// X of the sender's public key.
     pub x: [u8; 32],

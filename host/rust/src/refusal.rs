@@ -16,8 +16,10 @@ use core::fmt;
 /// assert_eq!(refusal.to_string(), "refused 1: fewer than 42 bytes");
 /// ```
 ///
-/// Most refusals of a step are harmless: a hub drops the message and goes on, for connection and
-/// report buffer are as they were.
+/// Most refusals of a step are harmless: hub and gateway drop the message and go on, for connection
+/// and report buffer are as they were. To a gateway 16 is another SessionID, in every state, and 15 a
+/// reply out of order, any message but a reply, and all that comes after
+/// [`Failed`](crate::GatewayAnswer::Failed).
 ///
 /// | Number | What it says to a hub |
 /// |---|---|
@@ -63,9 +65,9 @@ pub enum Refusal {
     WrongPadding = 13,
     /// Discovery or Connect payload not as document 01 says.
     WrongPayload = 14,
-    /// Message not allowed in this state.
+    /// Message not allowed in this state, by role.
     NotAllowed = 15,
-    /// State not 0 and another SessionID.
+    /// State not 0 and another SessionID; on the gateway's side another SessionID in every state.
     OtherSession = 16,
     /// SequenceNumber below the expected one.
     PastSequence = 17,
@@ -142,8 +144,8 @@ const SENTENCES: [&str; 25] = [
     "working buffer shorter than the sealed part",
     "size or padding not as the rule gives",
     "Discovery or Connect payload not as document 01 says",
-    "message not allowed in this state",
-    "state not 0 and another SessionID",
+    "message not allowed in this state, by role",
+    "state not 0 and another SessionID; on the gateway's side another SessionID in every state",
     "SequenceNumber below the expected one",
     "SequenceNumber above the expected one",
     "SequenceNumber is 2^32 - 1",
