@@ -1,20 +1,25 @@
 // SPDX-License-Identifier: MPL-2.0
-//! What libFuzzer calls: its bytes choose a call, or some steps of one connection, and the two
-//! implementations must agree. Messages are sealed here, since no fuzzer finds a tag.
+//! What libFuzzer calls: its bytes choose a call, some steps of one connection or of one gateway, or
+//! a conversation of both sides, and the two implementations must agree. Messages are sealed here,
+//! since no fuzzer finds a tag.
 
 #![allow(unsafe_code)]
 
 use std::cell::RefCell;
 
+use second::client::Client;
 use second::compare::{Comparison, Difference};
 use second::connection::{Answer, Connection};
 use second::draft::{Damage, Draft};
-use second::generate::{Case, CutCase, WriteCase};
+use second::generate::{Case, ClientCase, CutCase, WriteCase};
 use second::header::Header;
 
+use crate::gateways::{gateway_step_on, open};
 use crate::hub::BEFORE;
 use crate::hub_h::Hub;
 use crate::payloads::{Call, PresenceCall, Writer};
+use crate::state::{GATEWAY, decode_gateway, encode_gateway};
+use crate::sweeps::sides::any_conversation;
 
 /// The fuzzer's bytes, read from the front; after their end all is zero.
 struct Tape<'a>(&'a [u8]);
@@ -87,6 +92,15 @@ impl Tape<'_> {
         }
         draft
     }
+
+    /// What comes to a connection: message, keys, verdict.
+    fn arrival(&mut self) -> (Vec<u8>, Vec<u8>, u64) {
+        let choice = self.byte();
+        let message = if choice & 3 == 3 { self.bytes() } else { self.draft().bytes(&KEYS) };
+        let keys = if choice & 0xF0 == 0xF0 { self.bytes() } else { KEYS.to_vec() };
+        let wide = if choice & 0xE0 == 0xA0 { 1 << (self.byte() % 64) } else { 0 };
+        (message, keys, u64::from(choice >> 2 & 3) | wide)
+    }
 }
 
 const KEYS: [u8; 64] = [0x42; 64];
@@ -122,11 +136,7 @@ fn steps(
 ) -> Result<(), Difference> {
     let mut working = vec![0xAA; 300];
     while !tape.0.is_empty() {
-        let choice = tape.byte();
-        let message = if choice & 3 == 3 { tape.bytes() } else { tape.draft().bytes(&KEYS) };
-        let keys = if choice & 0xF0 == 0xF0 { tape.bytes() } else { KEYS.to_vec() };
-        let wide = if choice & 0xE0 == 0xA0 { 1 << (tape.byte() % 64) } else { 0 };
-        let verdict = u64::from(choice >> 2 & 3) | wide;
+        let (message, keys, verdict) = tape.arrival();
         let (kept, room) = (working.clone(), report.clone());
         let mut case = Case { connection, message, keys, working: kept, report: room, verdict };
         comparison.read(&case)?;
@@ -138,6 +148,30 @@ fn steps(
         (working, report) = (case.working, case.report);
     }
     Ok(())
+}
+
+/// A gateway that starts in any state, now and then with one byte made up.
+fn gateway(tape: &mut Tape<'_>) -> [u8; GATEWAY] {
+    let fragment_size = tape.byte().into();
+    let mut bytes = encode_gateway(&Client { fragment_size, state: tape.byte() % 6, session: 1 });
+    let place = usize::from(tape.byte());
+    if (1..=GATEWAY).contains(&place) {
+        bytes[place - 1] = tape.byte();
+    }
+    bytes
+}
+
+/// Some messages to a gateway.
+fn gateway_steps(comparison: &mut Comparison<Hub>, tape: &mut Tape<'_>) {
+    let (mut gateway, mut working) = (gateway(tape), vec![0xAA; 300]);
+    while !tape.0.is_empty() {
+        let (message, keys, verdict) = tape.arrival();
+        let client = decode_gateway(&gateway);
+        let case = ClientCase { client, message, keys, working, verdict };
+        let stepped = gateway_step_on(&mut comparison.other, &gateway, &case);
+        (gateway, working) = (stepped.gateway, stepped.working);
+        comparison.tally.gateway_steps += 1;
+    }
 }
 
 /// A call of a payload's writer, by words of any width and buffers of any size.
@@ -186,6 +220,19 @@ pub fn one(comparison: &mut Comparison<Hub>, data: &[u8]) -> Result<(), Differen
         }
         7 => {
             presence(&mut tape).judge(&mut comparison.other);
+            Ok(())
+        }
+        8 => {
+            gateway_steps(comparison, &mut tape);
+            Ok(())
+        }
+        9 => {
+            comparison.tally.meetings += 1;
+            any_conversation(tape.byte().into(), tape.0, comparison)
+        }
+        10 => {
+            let (fragment_size, session) = (tape.word(), tape.word());
+            open(&mut comparison.other, fragment_size, session, tape.0);
             Ok(())
         }
         other => of_four(comparison, tape, other % 4),
@@ -258,14 +305,50 @@ fn presence_seeds() -> Vec<Vec<u8>> {
     seeds
 }
 
+/// The payload of 86 bytes of this type, with this byte after it.
+fn offered(kind: u8, code: u8) -> [u8; 86] {
+    let mut payload = [0; 86];
+    payload[..20].copy_from_slice(b"\0\0\0\0\0\x20a nonce!\0\0\x40\0\0\x20");
+    payload[2..4].copy_from_slice(&[kind, code]);
+    payload[53] = 32;
+    payload
+}
+
+/// Tapes of gateways: an enrolment with each reply once more, then a piece of a report and a reply
+/// with another Status; each reply in the state that waits for it; a Result that is not Pending and
+/// a verdict of 0; both sides over a good link and over a bad one; openings that are right,
+/// refused, too wide and on a short buffer.
+fn gateway_seeds() -> Vec<Vec<u8>> {
+    let replies = [
+        spell(2, 0, 0, 1, &offered(1, 1)),
+        spell(2, 6, 0, 1, b"\0\x01\x03\0\x03abc\0\x02de"),
+        spell(2, 6, 0, 1, b"\0\x01\x07\0"),
+    ];
+    let others = [spell(4, 6, 0, 1, b"abcd"), spell(2, 6, 0, 1, b"\0\x01\x07\x01")];
+    let twice = replies.iter().flat_map(|reply| [reply.clone(), reply.clone()]);
+    let mut seeds = vec![[vec![8, 16, 0, 0], twice.chain(others).flatten().collect()].concat()];
+    let single = |state: u8, message: &[u8]| [&[8, 16, state, 0], message].concat();
+    seeds.extend((0..).zip(&replies).map(|(state, reply)| single(state, reply)));
+    let mut doubted = replies[1].clone();
+    doubted[0] = 0;
+    seeds.extend([single(0, &spell(2, 0, 0, 1, b"\0\x01\x01\x02")), single(3, &doubted)]);
+    seeds.extend([
+        vec![9, 0, 0, 1, 2, 3, 4, 5],
+        vec![9, 1, 0, 0, 1, 8, 9, 2, 6, 3, 1, 2, 4, 4, 0, 5],
+    ]);
+    let buffer = [7; GATEWAY];
+    let opening = |size: [u8; 3], bytes: &[u8]| [&[10][..], &size, &[0, 9, 63], bytes].concat();
+    seeds.extend([opening([0, 16, 0], &buffer), opening([0, 0, 0], &buffer)]);
+    seeds.extend([opening([0, 16, 32], &buffer), opening([0, 16, 0], &buffer[1..])]);
+    seeds
+}
+
 /// Tapes to start from: an enrolment and a report of two pieces, whole and each message by itself in
 /// the state that waits for it; a call of the writer and one of the cutter; a call of each payload's
 /// writer, one with a mode that is too wide, and each payload to be read; the last missing piece of a
-/// report, with a report buffer of its length and a short one; Presence Responses.
+/// report, with a report buffer of its length and a short one; Presence Responses; gateways.
 pub fn seeds() -> Vec<Vec<u8>> {
-    let mut request = [0; 86];
-    request[..20].copy_from_slice(b"\0\0\0\0\0\x20a nonce!\0\0\x40\0\0\x20");
-    request[53] = 32;
+    let (request, pending) = (offered(0, 0), offered(1, 1));
     let messages = [
         (0, spell(2, 0, 0, 1, &request)),
         (1, spell(2, 6, 0, 1, b"\0\0\x02\0\x03abc\0\0")),
@@ -283,8 +366,6 @@ pub fn seeds() -> Vec<Vec<u8>> {
     seeds.extend([write.concat(), [&[3, 0, 4, 0, 2][..], b"ten bytes."].concat()]);
     seeds.extend((0..6).map(|writer| spell_payload(writer, 2, [1, 0], 1)));
     seeds.extend([spell_payload(2, 2, [1, 0], 0), spell_payload(1, 2, [1, 16], 0)]);
-    let mut pending = request;
-    pending[2..4].copy_from_slice(&[1, 1]);
     let device = b"\0\x01\x02\0\x03abc\0\x02de";
     let read: [&[u8]; 6] =
         [&request, &pending, b"\0\0\x01\x03", device, b"\0\x02\x06", b"\0\x02\x07\x04"];
@@ -293,6 +374,7 @@ pub fn seeds() -> Vec<Vec<u8>> {
     let (_, first) = &messages[5];
     seeds.extend([12, 11].map(|room| [&[6, 0, room][..], &last_heard, first].concat()));
     seeds.extend(presence_seeds());
+    seeds.extend(gateway_seeds());
     seeds
 }
 

@@ -4,6 +4,7 @@
 //! that it hands out 0, and which buffer the words name. A short report buffer, of which document 01
 //! does not speak, is answered by the second implementation once the call has refused it.
 
+use second::client::{self, Client};
 use second::compare::{Implementation, Piece, Second};
 use second::connection::{Answer, Connection};
 use second::header::{Framed, Header, Kind};
@@ -12,8 +13,8 @@ use second::payload::{Connect, Credentials, DiscoveryParts, Offer, Parts, Presen
 use second::refusal::Refusal;
 
 use crate::hub_h::{Hub, WRONG_BUFFER, answer_words, connect_words, discovery_words};
-use crate::hub_h::{header_words, kinds, piece_words, place_words, sealed};
-use crate::state::{STATE, decode, encode};
+use crate::hub_h::{header_words, kinds, nothing_due, piece_words, place_words, sealed};
+use crate::state::{GATEWAY, STATE, decode, decode_gateway, encode, encode_gateway};
 
 /// What stands in an output before a call.
 pub const BEFORE: u64 = 0x5AA5_0FF0_C33C_9669;
@@ -121,7 +122,7 @@ fn discovery_parts_of(words: &[u64; 9]) -> DiscoveryParts {
 /// A step's answer.
 pub fn answer_of(words: &[u64; 3]) -> Answer {
     let [kind, value, length, status] = by_name(words, answer_words());
-    let [_, reply, again, failure, taken, repeat, complete] = kinds();
+    let [_, reply, again, failure, taken, repeat, complete, ..] = kinds();
     assert!(kind == complete || length == 0, "a length that is not used is {length}");
     assert!((kind != reply && kind != again) || status == 0, "the Status of a reply is {status}");
     match kind {
@@ -131,6 +132,25 @@ pub fn answer_of(words: &[u64; 3]) -> Answer {
         kind if kind == taken => Answer::Taken(fits(value)),
         kind if kind == repeat => Answer::Repeat(fits(value)),
         kind if kind == complete => Answer::Complete(fits(length), fits(value)),
+        _ => panic!("answer {words:?}"),
+    }
+}
+
+/// The type of a request that is due, if one is.
+fn request_of(word: u64) -> Option<u8> {
+    (word != nothing_due()).then(|| fits(word))
+}
+
+/// The answer of a gateway's step.
+fn gateway_answer_of(words: &[u64; 3]) -> client::Answer {
+    let [kind, value, unused, _] = by_name(words, answer_words());
+    let [_, _, again, .., next, ready, failed] = kinds();
+    assert_eq!(unused, 0, "a word that is not used");
+    match kind {
+        kind if kind == again => client::Answer::Again(request_of(value)),
+        kind if kind == next => client::Answer::Next(fits(value)),
+        kind if kind == ready && value == 0 => client::Answer::Ready,
+        kind if kind == failed && value == 0 => client::Answer::Failed,
         _ => panic!("answer {words:?}"),
     }
 }
@@ -292,6 +312,39 @@ impl Implementation for Hub {
             }
             Ok(words) => (decode(&state), answer_of(&words)),
         }
+    }
+
+    fn gateway_open(&mut self, fragment_size: u32, session: u64) -> (Client, Result<(), Refusal>) {
+        let mut gateway = [0xA5; GATEWAY];
+        let number = Hub::gateway_open(self, fragment_size.into(), session, &mut gateway);
+        (decode_gateway(&gateway), refusal(number))
+    }
+
+    fn gateway_step(
+        &mut self,
+        client: Client,
+        message: &[u8],
+        keys: &[u8],
+        working: &mut [u8],
+        verdict: u64,
+    ) -> (Client, client::Answer) {
+        let before = encode_gateway(&client);
+        let (mut gateway, mut words) = (before, [BEFORE; 3]);
+        let number =
+            Hub::gateway_step(self, &mut gateway, message, keys, working, verdict, &mut words);
+        match unless_refused(number, words) {
+            Err(refusal) => {
+                assert_eq!(gateway, before, "{refusal}, but the gateway was written");
+                (client, client::Answer::Refused(refusal))
+            }
+            Ok(words) => (decode_gateway(&gateway), gateway_answer_of(&words)),
+        }
+    }
+
+    fn gateway_due(&mut self, client: Client) -> Option<u8> {
+        let mut due = [BEFORE];
+        assert_eq!(Hub::gateway_due(self, &encode_gateway(&client), &mut due), 0);
+        request_of(due[0])
     }
 
     fn cut(&mut self, report: &[u8], fragment_size: u32, index: u32) -> Piece {

@@ -150,6 +150,21 @@ mod through {
             a: *mut u64,
             an: usize,
         ) -> u32;
+        pub fn through_gateway_open(f: u64, s: u64, g: *mut u8, gn: usize) -> u32;
+        pub fn through_gateway_step(
+            g: *mut u8,
+            gn: usize,
+            m: *const u8,
+            mn: usize,
+            k: *const u8,
+            kn: usize,
+            w: *mut u8,
+            wn: usize,
+            v: u64,
+            a: *mut u64,
+            an: usize,
+        ) -> u32;
+        pub fn through_gateway_due(g: *const u8, gn: usize, d: *mut u64, dn: usize) -> u32;
         pub fn through_cut(r: *const u8, rn: usize, f: u64, i: u64, p: *mut u64, pn: usize) -> u32;
         pub fn through_list(
             m: *const u8,
@@ -162,7 +177,7 @@ mod through {
         pub static through_version_here: u32;
         pub static through_refusals: [u32; 27];
         pub static through_no_entries_n: usize;
-        pub static through_sizes: [usize; 16];
+        pub static through_sizes: [usize; 18];
         pub static through_bounds: [usize; 11];
         pub static through_header_words: [usize; 11];
         pub static through_place_words: [usize; 3];
@@ -171,7 +186,8 @@ mod through {
         pub static through_connect_words: [usize; 13];
         pub static through_discovery_words: [usize; 9];
         pub static through_state_places: [usize; 13];
-        pub static through_kinds: [u64; 7];
+        pub static through_gateway_places: [usize; 4];
+        pub static through_kinds: [u64; 10];
         pub static through_sealed: [u64; 3];
         pub static through_types: [u64; 3];
         pub static through_flags: [u64; 5];
@@ -181,6 +197,8 @@ mod through {
         pub static through_discoveries: [u64; 2];
         pub static through_devices: [u64; 11];
         pub static through_states: [u64; 5];
+        pub static through_gateway_states: [u64; 5];
+        pub static through_nothing_due: u64;
     }
 }
 
@@ -198,7 +216,7 @@ constants! {
     version_here: u32 = through_version_here, "The header's version.";
     refusals: [u32; 27] = through_refusals, "Done, the refusals in document 01's order, wrong buffer.";
     no_entries_n: usize = through_no_entries_n, "Bytes of the chain without entries.";
-    sizes: [usize; 16] = through_sizes, "State, header, fields, place, answer, piece, length, digest, keys, line, connect, nonce, X and Y, discovery, salt, hash.";
+    sizes: [usize; 18] = through_sizes, "State, header, fields, place, answer, piece, length, digest, keys, line, connect, nonce, X and Y, discovery, salt, hash, gateway, due.";
     bounds: [usize; 11] = through_bounds, "Least and most message, most read, most sealed, pieces, F, certificate, thumbprint, payload, reply, name.";
     header_words: [usize; 11] = through_header_words, "Type to size.";
     place_words: [usize; 3] = through_place_words, "Buffer, from, size.";
@@ -207,7 +225,8 @@ constants! {
     connect_words: [usize; 13] = through_connect_words, "Type, mode, code; nonce, X, Y, certificate and thumbprint, each from and size.";
     discovery_words: [usize; 9] = through_discovery_words, "Type, mode, device; name, salt and hash, each from and size.";
     state_places: [usize; 13] = through_state_places, "Fragment size to last length, and the end.";
-    kinds: [u64; 7] = through_kinds, "Refused, Reply, Again, Failure, Taken, Repeat, Complete.";
+    gateway_places: [usize; 4] = through_gateway_places, "Fragment size, state, SessionID, and the end.";
+    kinds: [u64; 10] = through_kinds, "Refused, Reply, Again, Failure, Taken, Repeat, Complete; a gateway's Next, Ready, Failed.";
     sealed: [u64; 3] = through_sealed, "Plain, opened, still sealed.";
     types: [u64; 3] = through_types, "Discovery, Connect, Session.";
     flags: [u64; 5] = through_flags, "Acknowledge, HMAC, encrypted, both, wake.";
@@ -217,6 +236,8 @@ constants! {
     discoveries: [u64; 2] = through_discoveries, "DiscoveryType: Presence Request, Presence Response.";
     devices: [u64; 11] = through_devices, "DeviceType, in the order of the documents' table.";
     states: [u64; 5] = through_states, "Waiting for a request, for authentication, Passed, Ready, Failed.";
+    gateway_states: [u64; 5] = through_gateway_states, "A gateway's: waiting for type 1, for type 3, for type 7, Ready, Failed.";
+    nothing_due: u64 = through_nothing_due, "The type of no request.";
 }
 
 /// `hub_text`.
@@ -262,6 +283,10 @@ pub struct Hub {
     pub numbers: [u64; 256],
     /// How often a step that was done answered each word of `HUB_ANSWER_KIND`.
     pub kinds: [u64; 7],
+    /// How often a gateway's step answered each number.
+    pub gateway_numbers: [u64; 256],
+    /// How often a gateway's step that was done answered each word of `HUB_ANSWER_KIND`.
+    pub gateway_kinds: [u64; 10],
 }
 
 impl Default for Hub {
@@ -279,6 +304,8 @@ impl Default for Hub {
             more_words: Room::new(LONG),
             numbers: [0; 256],
             kinds: [0; 7],
+            gateway_numbers: [0; 256],
+            gateway_kinds: [0; 10],
         }
     }
 }
@@ -607,6 +634,65 @@ impl Hub {
                 "{length} bytes of {rn} are complete"
             );
         }
+        number
+    }
+
+    /// `hub_gateway_open`.
+    pub fn gateway_open(&mut self, fragment_size: u64, session: u64, gateway: &mut [u8]) -> u32 {
+        let g = self.state.lend(gateway);
+        let gn = gateway.len();
+        let number = unsafe { through::through_gateway_open(fragment_size, session, g, gn) };
+        self.state.give_back(gateway);
+        number
+    }
+
+    /// `hub_gateway_step`. A wrong buffer is answered exactly where the gateway or the answer has
+    /// another size, and then all is as it was.
+    pub fn gateway_step(
+        &mut self,
+        gateway: &mut [u8],
+        message: &[u8],
+        keys: &[u8],
+        working: &mut [u8],
+        verdict: u64,
+        answer: &mut [u64],
+    ) -> u32 {
+        let (g, a) = (self.state.lend(gateway), self.words.lend_words(answer));
+        let (m, k) = (self.message.lend(message), self.keys.lend(keys));
+        let w = self.working.lend(working);
+        let (gn, mn, kn, wn) = (gateway.len(), message.len(), keys.len(), working.len());
+        let an = answer.len();
+        let right = gn == sizes()[16] && an == sizes()[4];
+        let whole = |gateway: &[u8], working: &[u8], answer: &[u64]| {
+            (gateway.to_vec(), working.to_vec(), answer.to_vec())
+        };
+        let before = (!right).then(|| whole(gateway, working, answer));
+        let number =
+            unsafe { through::through_gateway_step(g, gn, m, mn, k, kn, w, wn, verdict, a, an) };
+        self.state.give_back(gateway);
+        self.message.unchanged(message);
+        self.keys.unchanged(keys);
+        self.working.give_back(working);
+        self.words.give_back_words(answer);
+        self.gateway_numbers[number as usize] += 1;
+        assert_eq!(number == WRONG_BUFFER, !right, "{number} was returned");
+        if let Some(before) = before {
+            assert!(before == whole(gateway, working, answer), "a wrong buffer, and a change");
+        }
+        if number == 0 {
+            let kind = answer[answer_words()[0]];
+            *self.gateway_kinds.get_mut(kind as usize).expect("a kind of hub.h") += 1;
+        }
+        number
+    }
+
+    /// `hub_gateway_due`.
+    pub fn gateway_due(&mut self, gateway: &[u8], due: &mut [u64]) -> u32 {
+        let (g, d) = (self.state.lend(gateway), self.words.lend_words(due));
+        let (gn, dn) = (gateway.len(), due.len());
+        let number = unsafe { through::through_gateway_due(g, gn, d, dn) };
+        self.state.unchanged(gateway);
+        self.words.give_back_words(due);
         number
     }
 

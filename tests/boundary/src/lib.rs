@@ -3,14 +3,16 @@
 //!
 //! [`hub_h`] has the calls of include/hub.h on guarded memory ([`guard`]), [`state`] the connection's
 //! bytes; [`hub`] gives them to the second implementation's comparison, [`wrapper`] does so for
-//! host/rust. [`sizes`] and [`payloads`] test what the comparison does not reach, [`samples`] a fault at
-//! every place, [`sweeps`] the boundary cases of CASES.md, [`fuzz`] whatever libFuzzer comes up with.
+//! host/rust. [`sizes`], [`payloads`] and [`gateways`] test what the comparison does not reach,
+//! [`samples`] a fault at every place, [`sweeps`] the boundary cases of CASES.md, [`fuzz`] whatever
+//! libFuzzer comes up with.
 
 #![deny(unsafe_code)]
 #![warn(missing_docs)]
 #![allow(clippy::too_many_arguments)]
 
 pub mod fuzz;
+pub mod gateways;
 pub mod guard;
 pub mod hub;
 pub mod hub_h;

@@ -13,18 +13,19 @@ use std::panic::{AssertUnwindSafe, catch_unwind};
 use std::process::exit;
 use std::time::{Duration, Instant};
 
+use boundary::gateways::any_gateway;
 use boundary::guard::Room;
 use boundary::hub_h::{self, Hub};
 use boundary::payloads::{any_payload, any_presence};
 use boundary::samples::{self, samples};
 use boundary::sizes::{any_place, any_state, any_tag, every_wrong_size, long_message};
 use boundary::sizes::{wide_fields, wide_numbers};
-use boundary::state::{decode, encode};
+use boundary::state::{decode, decode_gateway, encode, encode_gateway};
 use boundary::sweeps;
 use boundary::wrapper::Wrapper;
 use second::compare::{Comparison, Difference, Implementation, Tally};
 use second::connection::State;
-use second::generate::{case, write_case};
+use second::generate::{case, client_case, write_case};
 use second::prng::Prng;
 use second::writer::message_length;
 
@@ -68,6 +69,7 @@ fn beside(hub: &mut Hub, seed: u64, round: u64) {
             wide_numbers(hub, &mut prng);
             any_payload(hub, &mut prng);
             any_presence(hub, &mut prng);
+            any_gateway(hub, &mut prng.aside());
         }
         Ok(())
     });
@@ -79,14 +81,14 @@ fn constants(hub: &Hub) {
         assert_eq!(hub.version(), hub_h::version_here());
         let numbers: Vec<u32> = (0..=25).chain([255]).collect();
         assert_eq!(hub_h::refusals()[..], numbers);
-        assert_eq!(hub_h::sizes(), [151, 11, 8, 3, 3, 3, 1, 32, 64, 64, 13, 8, 32, 9, 4, 4]);
+        assert_eq!(hub_h::sizes(), [151, 11, 8, 3, 3, 3, 1, 32, 64, 64, 13, 8, 32, 9, 4, 4, 17, 1]);
         let bounds = [42, 18_530, 65_535, 65_456, 64, 16_384, 2_048, 512, 2_567, 2_650, 64];
         assert_eq!(hub_h::bounds(), bounds);
         let (chain, payload) = (8 * 257 + 2, 7 + 2_048 + 512);
         assert_eq!(message_length(true, chain, 16_384), bounds[1]);
         assert_eq!([payload, message_length(true, 2, payload)], bounds[8..10]);
         assert_eq!(hub_h::no_entries(), [0, 0]);
-        assert_eq!(hub_h::kinds(), [0, 1, 2, 3, 4, 5, 6]);
+        assert_eq!(hub_h::kinds(), [0, 1, 2, 3, 4, 5, 6, 7, 8, 9]);
         assert_eq!(hub_h::sealed(), [0, 1, 2]);
         assert_eq!(hub_h::types(), [1, 2, 4]);
         assert_eq!(hub_h::flags(), [1, 2, 4, 6, 8]);
@@ -96,6 +98,9 @@ fn constants(hub: &Hub) {
         assert_eq!(hub_h::discoveries(), [0, 1]);
         assert_eq!(hub_h::devices(), [1, 6, 7, 8, 9, 11, 12, 13, 14, 15, 16]);
         assert_eq!(hub_h::states(), State::ALL.map(|state| state as u64));
+        assert_eq!(hub_h::gateway_states(), [0, 1, 2, 3, 4]);
+        assert_eq!(hub_h::gateway_places(), [0, 8, 9, 17]);
+        assert_eq!(hub_h::nothing_due(), 256);
         assert_eq!(hub_h::connect_words(), std::array::from_fn(|place| place));
         assert_eq!(hub_h::discovery_words(), std::array::from_fn(|place| place));
         Ok(())
@@ -108,6 +113,8 @@ fn states(prng: &mut Prng) {
         for _ in 0..1_000 {
             let connection = case(prng).connection;
             assert_eq!(decode(&encode(&connection)), connection);
+            let client = client_case(prng).client;
+            assert_eq!(decode_gateway(&encode_gateway(&client)), client);
         }
         Ok(())
     });
@@ -124,11 +131,32 @@ fn wrong_sizes(hub: &mut Hub, times: u64) -> u64 {
 }
 
 fn say(tally: &Tally) -> String {
-    let Tally { steps, conversations, reads, writes, payloads, cuts, digests } = tally;
+    let Tally {
+        steps,
+        conversations,
+        gateway_steps,
+        meetings,
+        reads,
+        writes,
+        payloads,
+        cuts,
+        digests,
+    } = tally;
     format!(
-        "{steps} steps in {conversations} conversations and single, {reads} messages read, {writes} \
-         written, {payloads} payloads by themselves, {cuts} cut, {digests} digests with their tags"
+        "{steps} steps in {conversations} conversations and single, {gateway_steps} of gateways in \
+         {meetings} conversations of both sides and single, {reads} messages read, {writes} written, \
+         {payloads} payloads by themselves, {cuts} cut, {digests} digests with their tags"
     )
+}
+
+/// Each of these came; says how often the rarest of them did.
+fn rarest(counts: impl Iterator<Item = (u64, String)>) -> String {
+    let (times, rarest) = counts.min().expect("some");
+    agree(&rarest, || {
+        assert!(times > 0, "{rarest} never came");
+        Ok(())
+    });
+    format!("the rarest {times} times ({rarest})")
 }
 
 /// Every refusal of document 01, every kind of answer and a short report buffer came in the steps;
@@ -138,15 +166,20 @@ fn all_came(hub: &Hub) -> String {
     let kinds = (1..=6).map(|kind| (hub.kinds[kind], format!("kind {kind}")));
     let short = hub.numbers[hub_h::WRONG_BUFFER as usize];
     let all = refusals.chain(kinds).chain([(short, "short report buffer".into())]);
-    let (times, rarest) = all.min().expect("some");
-    agree(&rarest, || {
-        assert!(times > 0, "{rarest} never came");
-        Ok(())
-    });
+    let rarest = rarest(all);
     format!(
-        "all 25 refusals and 6 kinds of answers came, the rarest {times} times ({rarest}), and {short} \
-         times a report buffer was short"
+        "all 25 refusals and 6 kinds of answers came, {rarest}, and {short} times a report buffer was \
+         short"
     )
+}
+
+/// The same for the steps of gateways, which have fewer refusals and kinds.
+fn all_came_to_gateways(hub: &Hub) -> String {
+    let numbers = (1..=16).chain([24, 25]);
+    let refusals = numbers.map(|number| (hub.gateway_numbers[number], format!("refusal {number}")));
+    let kinds = [2, 7, 8, 9].map(|kind| (hub.gateway_kinds[kind], format!("kind {kind}")));
+    let rarest = rarest(refusals.chain(kinds));
+    format!("all 18 refusals and 4 kinds of answers came, {rarest}")
 }
 
 /// The boundary cases of CASES.md, a line for each sweep.
@@ -176,17 +209,19 @@ fn test(rounds: u64) {
     }
     println!("boundary: alike: {}", say(&comparison.tally));
     println!("boundary: in these steps {}", all_came(&comparison.other));
+    println!("boundary: in those of gateways {}", all_came_to_gateways(&comparison.other));
     println!(
         "boundary: alike: {} each of steps on states of any bytes, writes with wide words, places by \
          any words, tags compared, numbers of 64 bits, payloads of any words, Presence Responses of \
-         any words",
+         any words, gateways of any bytes",
         4 * rounds
     );
     let mut faults = Comparison::new(Hub::default());
     let messages = agree("a fault at every place", || samples::every_fault(&mut faults));
     println!(
-        "boundary: a fault at every place of {messages} sample messages: {} steps and {} writes alike",
-        faults.tally.steps, faults.tally.writes
+        "boundary: a fault at every place of {messages} sample messages: {} steps, {} of gateways and {} \
+         writes alike",
+        faults.tally.steps, faults.tally.gateway_steps, faults.tally.writes
     );
     every_sweep();
     let calls = wrong_sizes(&mut comparison.other, 1 + rounds / 1_000);

@@ -5,10 +5,11 @@
 use std::fs;
 use std::path::Path;
 
+use second::client::Client;
 use second::compare::{Comparison, Difference, Implementation};
 use second::connection::{Connection, State};
 use second::crypto::sha256;
-use second::generate::{Case, WriteCase};
+use second::generate::{Case, ClientCase, WriteCase};
 use second::header::{Kind, TAG, read_header};
 use second::message::{part, read_message};
 use second::payload::{Connect, Payload, read_payload};
@@ -63,13 +64,34 @@ pub fn cases(keys: &[u8], message: &[u8]) -> (Case, WriteCase) {
     (case, WriteCase { header, chain, payload, keys: keys.to_vec(), output })
 }
 
-/// Every fault of every sample message; answers how many messages there are.
+/// A gateway's step with the message, where it is a reply, on a gateway that waits for it.
+fn reply_case(keys: &[u8], message: &[u8]) -> Option<ClientCase> {
+    let mut working = vec![0xAA; message.len()];
+    let read = read_message(message, keys, &mut working).expect("a good message");
+    let payload = part(Some(&read.payload), message, &working);
+    let state = match read_payload(read.kind, read.header.sealed(), payload) {
+        Ok(Payload::Connect(_, Connect::ConnectionPending(_) | Connect::ConnectionResult(_))) => 0,
+        Ok(Payload::Connect(_, Connect::AuthenticationResponse(_))) => 1,
+        Ok(Payload::Connect(_, Connect::DoneResponse(_))) => 2,
+        _ => return None,
+    };
+    let client = Client { fragment_size: 16, state, session: read.header.session };
+    let sealed = read_header(message).expect("a good header").body.len();
+    let (keys, working) = (keys.to_vec(), vec![0xAA; sealed + 1]);
+    Some(ClientCase { client, message: message.to_vec(), keys, working, verdict: 1 })
+}
+
+/// Every fault of every sample message, of replies to a gateway too; answers how many messages
+/// there are.
 pub fn every_fault(comparison: &mut Comparison<impl Implementation>) -> Result<usize, Difference> {
     let (keys, messages) = samples();
     for (_, message) in &messages {
         let (case, write) = cases(&keys, message);
         comparison.every_fault(&case)?;
         comparison.every_output(&write)?;
+        if let Some(case) = reply_case(&keys, message) {
+            comparison.every_gateway_fault(&case)?;
+        }
     }
     Ok(messages.len())
 }

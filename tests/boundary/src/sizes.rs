@@ -13,7 +13,7 @@ use second::prng::Prng;
 use crate::hub::{BEFORE, answer_of, by_name, fields_of, number_of};
 use crate::hub_h::{Hub, WRONG_BUFFER, header_words, is_short};
 use crate::payloads::{Call, PresenceCall, Writer, read_into};
-use crate::state::{STATE, decode, encode, encode_next};
+use crate::state::{GATEWAY, STATE, decode, encode, encode_next};
 
 /// Every size from 0 to a little more than the right one, but for that.
 fn wrong(right: usize) -> impl Iterator<Item = usize> {
@@ -73,6 +73,7 @@ pub fn every_wrong_size(hub: &mut Hub, prng: &mut Prng, case: &Case, write: &Wri
         let number = hub.step(&mut state, message, keys, working, report, verdict, &mut words);
         call("step", number, state == before && words == [fill; 3] && after == *case);
     }
+    wrong_gateways(hub, prng, case, &mut call);
     let WriteCase { header, chain, payload, keys, output } = write;
     let fields = fields_of(header);
     for size in wrong(8) {
@@ -133,6 +134,44 @@ pub fn every_wrong_size(hub: &mut Hub, prng: &mut Prng, case: &Case, write: &Wri
         call("list", number, line == before && length == [fill]);
     }
     calls
+}
+
+/// The same for a gateway's calls, by the case's message, keys, working buffer and verdict.
+fn wrong_gateways(
+    hub: &mut Hub,
+    prng: &mut Prng,
+    case: &Case,
+    call: &mut impl FnMut(&str, u32, bool),
+) {
+    let fill = prng.word();
+    let mut step = |hub: &mut Hub, before: &[u8], answer: usize| {
+        let (mut gateway, mut words) = (before.to_vec(), vec![fill; answer]);
+        let Case { message, keys, verdict, mut working, .. } = case.clone();
+        let number =
+            hub.gateway_step(&mut gateway, &message, &keys, &mut working, verdict, &mut words);
+        let unchanged = gateway == before && words == vec![fill; answer];
+        call("gateway_step", number, unchanged && working == case.working);
+    };
+    for size in wrong(GATEWAY).chain([STATE]) {
+        let bytes = prng.bytes(size);
+        step(hub, &bytes, 3);
+        step(hub, &bytes, 2);
+    }
+    for size in wrong(3) {
+        step(hub, &prng.array::<GATEWAY>(), size);
+    }
+    for size in wrong(GATEWAY).chain([STATE]) {
+        let before = prng.bytes(size);
+        let (mut gateway, mut due) = (before.clone(), [fill]);
+        let number = hub.gateway_open(prng.word() >> prng.below(64), prng.word(), &mut gateway);
+        call("gateway_open", number, gateway == before);
+        call("gateway_due", hub.gateway_due(&before, &mut due), due == [fill]);
+    }
+    for size in wrong(1) {
+        let mut due = vec![fill; size];
+        let number = hub.gateway_due(&prng.array::<GATEWAY>(), &mut due);
+        call("gateway_due", number, due == vec![fill; size]);
+    }
 }
 
 /// A step on a state of any bytes, by the case's other parts, against the second implementation on

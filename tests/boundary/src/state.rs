@@ -1,12 +1,15 @@
 // SPDX-License-Identifier: MPL-2.0
-//! A connection as the 151 bytes that include/hub.h describes.
+//! A connection as the bytes that include/hub.h describes: the hub's 151, a gateway's 17.
 
+use second::client::Client;
 use second::connection::Connection;
 
-use crate::hub_h::state_places;
+use crate::hub_h::{gateway_places, state_places};
 
 /// Bytes of a connection.
 pub const STATE: usize = 151;
+/// Bytes of a gateway's connection.
+pub const GATEWAY: usize = 17;
 
 /// The bytes of a field, by its number in the header's order.
 fn field(bytes: &[u8; STATE], field: usize) -> &[u8] {
@@ -81,5 +84,26 @@ pub fn encode_next(before: &[u8; STATE], next: &Connection) -> [u8; STATE] {
             bytes[range.clone()].copy_from_slice(&before[range]);
         }
     }
+    bytes
+}
+
+/// Any bytes as a gateway of the second implementation, which holds a narrower fragment size; one
+/// that does not fit becomes the widest.
+pub fn decode_gateway(bytes: &[u8; GATEWAY]) -> Client {
+    let [size, state, session, end] = gateway_places();
+    Client {
+        fragment_size: number(&bytes[size..state]).try_into().unwrap_or(u32::MAX),
+        state: bytes[state],
+        session: number(&bytes[session..end]),
+    }
+}
+
+/// The bytes of a gateway.
+pub fn encode_gateway(gateway: &Client) -> [u8; GATEWAY] {
+    let [size, state, session, end] = gateway_places();
+    let mut bytes = [0; GATEWAY];
+    bytes[size..state].copy_from_slice(&u64::from(gateway.fragment_size).to_be_bytes());
+    bytes[state] = gateway.state;
+    bytes[session..end].copy_from_slice(&gateway.session.to_be_bytes());
     bytes
 }

@@ -5,13 +5,17 @@
 
 pub mod conversations;
 pub mod described;
+pub mod gateway;
 pub mod header;
+pub mod heard;
 pub mod made_up;
 pub mod parts;
 pub mod payload;
 pub mod presence;
+pub mod replies;
 pub mod sealed;
 pub mod short;
+pub mod sides;
 pub mod streams;
 pub mod texts;
 pub mod trial;
@@ -90,7 +94,7 @@ pub fn all<I: Implementation>() -> Vec<Sweep<I>> {
 }
 
 /// The sweeps of what include/hub.h alone says: what its calls leave in their words, payloads,
-/// streams, short report buffers, texts, Presence Responses.
+/// streams, short report buffers, texts, Presence Responses, the gateway's side, both sides.
 pub fn of_header() -> Vec<Sweep<Hub>> {
     vec![
         Sweep::new(
@@ -141,6 +145,25 @@ pub fn of_header() -> Vec<Sweep<Hub>> {
         Sweep::new("a step on a Presence Response, every state", 3_900, presence::steps),
         Sweep::new("a sealed Presence Response", 390, presence::sealed),
         Sweep::new("Discovery as Connect, Connect as Discovery", 477, presence::exchanged),
+        Sweep::new("a gateway opened, each F and SessionID", 840, gateway::opening),
+        Sweep::new("the request that is due, every state byte", 2_304, gateway::requests_due),
+        Sweep::new("replies in every order up to six", 16_716, gateway::orders),
+        Sweep::new(
+            "every kind of message in every order up to three",
+            18_464,
+            gateway::orders_of_all,
+        ),
+        Sweep::new("a gateway's step, every state byte", 57_344, gateway::states),
+        Sweep::new("a gateway's step, each F and SessionID", 5_600, gateway::sizes),
+        Sweep::new("a gateway's step, every byte that is stored", 4_352, gateway::stored),
+        Sweep::new("every Result and Status in every state", 728, gateway::codes),
+        Sweep::new("25, 24, 1 to 14, 16, 15, up to four at once", 5_141, replies::several),
+        Sweep::new("a gateway's working buffer", 3_800, replies::working),
+        Sweep::new("replies cut at every length", 1_684, replies::cuts),
+        Sweep::new("replies with each bit flipped", 6_576, replies::flips),
+        Sweep::new("replies, what is not looked at", 1_200, replies::not_looked_at),
+        Sweep::new("both sides, every moment", 61, sides::every_moment),
+        Sweep::new("both sides over bad links", 2_000, sides::bad_links),
     ]
 }
 
@@ -160,11 +183,15 @@ fn each<I, T>(
 ) -> Tried {
     let mut tried = 0;
     for case in cases {
-        judge(&case, comparison)
-            .map_err(|Difference(text)| Difference(format!("case {tried}: {text}")))?;
+        numbered(tried, judge(&case, comparison))?;
         tried += 1;
     }
     Ok(tried)
+}
+
+/// What came of a case; a difference tells the case's number.
+fn numbered<T>(case: u64, outcome: Result<T, Difference>) -> Result<T, Difference> {
+    outcome.map_err(|Difference(text)| Difference(format!("case {case}: {text}")))
 }
 
 /// The library's answer is the one that the sweep reckons.

@@ -30,6 +30,9 @@ uint32_t through_wanted(const uint8_t *, size_t);
 uint32_t through_open(uint64_t, uint8_t *, size_t);
 uint32_t through_step(uint8_t *, size_t, const uint8_t *, size_t, const uint8_t *, size_t, uint8_t *, size_t, uint8_t *, size_t, uint64_t,
                       uint64_t *, size_t);
+uint32_t through_gateway_open(uint64_t, uint64_t, uint8_t *, size_t);
+uint32_t through_gateway_step(uint8_t *, size_t, const uint8_t *, size_t, const uint8_t *, size_t, uint8_t *, size_t, uint64_t, uint64_t *, size_t);
+uint32_t through_gateway_due(const uint8_t *, size_t, uint64_t *, size_t);
 uint32_t through_cut(const uint8_t *, size_t, uint64_t, uint64_t, uint64_t *, size_t);
 uint32_t through_list(const uint8_t *, size_t, uint8_t *, size_t, uint64_t *, size_t);
 
@@ -152,6 +155,22 @@ uint32_t through_step(uint8_t *state, size_t state_n, const uint8_t *message, si
     return hub_step(state, state_n, message, message_n, keys, keys_n, working, working_n, report, report_n, verdict, answer, answer_n);
 }
 
+uint32_t through_gateway_open(uint64_t fragment_size, uint64_t session, uint8_t *gateway, size_t gateway_n)
+{
+    return hub_gateway_open(fragment_size, session, gateway, gateway_n);
+}
+
+uint32_t through_gateway_step(uint8_t *gateway, size_t gateway_n, const uint8_t *message, size_t message_n, const uint8_t *keys, size_t keys_n,
+                              uint8_t *working, size_t working_n, uint64_t verdict, uint64_t *answer, size_t answer_n)
+{
+    return hub_gateway_step(gateway, gateway_n, message, message_n, keys, keys_n, working, working_n, verdict, answer, answer_n);
+}
+
+uint32_t through_gateway_due(const uint8_t *gateway, size_t gateway_n, uint64_t *due, size_t due_n)
+{
+    return hub_gateway_due(gateway, gateway_n, due, due_n);
+}
+
 uint32_t through_cut(const uint8_t *report, size_t report_n, uint64_t fragment_size, uint64_t index, uint64_t *piece, size_t piece_n)
 {
     return hub_cut(report, report_n, fragment_size, index, piece, piece_n);
@@ -164,10 +183,11 @@ uint32_t through_list(const uint8_t *message, size_t message_n, uint8_t *line, s
 
 /* The constants of hub.h, in the order in which src/hub_h.rs names them. */
 extern const uint32_t through_version_here, through_refusals[27];
-extern const size_t through_no_entries_n, through_sizes[16], through_bounds[11], through_header_words[11], through_place_words[3],
-    through_answer_words[4], through_piece_words[3], through_connect_words[13], through_discovery_words[9], through_state_places[13];
-extern const uint64_t through_kinds[7], through_sealed[3], through_types[3], through_flags[5], through_connects[7], through_modes[3],
-    through_codes[5], through_discoveries[2], through_devices[11], through_states[5];
+extern const size_t through_no_entries_n, through_sizes[18], through_bounds[11], through_header_words[11], through_place_words[3],
+    through_answer_words[4], through_piece_words[3], through_connect_words[13], through_discovery_words[9], through_state_places[13],
+    through_gateway_places[4];
+extern const uint64_t through_kinds[10], through_sealed[3], through_types[3], through_flags[5], through_connects[7], through_modes[3],
+    through_codes[5], through_discoveries[2], through_devices[11], through_states[5], through_gateway_states[5], through_nothing_due;
 
 const uint32_t through_version_here = HUB_VERSION;
 const uint32_t through_refusals[27] = {
@@ -178,9 +198,10 @@ const uint32_t through_refusals[27] = {
     HUB_WRONG_PIECE_SIZE, HUB_UNLIKE_FIRST_PIECE, HUB_NO_ROOM,         HUB_UNLIKE_REPEAT,   HUB_WRONG_FRAGMENT_SIZE,
     HUB_WRONG_VERDICT,    HUB_WRONG_BUFFER};
 const size_t through_no_entries_n = HUB_NO_ENTRIES_N;
-const size_t through_sizes[16] = {
+const size_t through_sizes[18] = {
     HUB_STATE_BYTES, HUB_HEADER_WORDS, HUB_FIELDS_WORDS, HUB_PLACE_WORDS, HUB_ANSWER_WORDS, HUB_PIECE_WORDS, HUB_LENGTH_WORDS, HUB_DIGEST_BYTES,
-    HUB_KEYS_BYTES, HUB_LINE_BYTES, HUB_CONNECT_WORDS, HUB_NONCE_BYTES, HUB_COORDINATE_BYTES, HUB_DISCOVERY_WORDS, HUB_SALT_BYTES, HUB_HASH_BYTES};
+    HUB_KEYS_BYTES, HUB_LINE_BYTES, HUB_CONNECT_WORDS, HUB_NONCE_BYTES, HUB_COORDINATE_BYTES, HUB_DISCOVERY_WORDS, HUB_SALT_BYTES, HUB_HASH_BYTES,
+    HUB_GATEWAY_BYTES, HUB_DUE_WORDS};
 const size_t through_bounds[11] = {HUB_LEAST_MESSAGE,      HUB_MOST_WRITTEN,     HUB_MOST_READ,       HUB_MOST_SEALED,  HUB_MOST_PIECES,
                                    HUB_MOST_FRAGMENT_SIZE, HUB_MOST_CERTIFICATE, HUB_MOST_THUMBPRINT, HUB_MOST_PAYLOAD, HUB_MOST_REPLY,
                                    HUB_MOST_NAME};
@@ -200,8 +221,9 @@ const size_t through_discovery_words[9] = {
 const size_t through_state_places[13] = {HUB_STATE_FRAGMENT_SIZE, HUB_STATE_STATE,       HUB_STATE_SESSION,  HUB_STATE_NONCE, HUB_STATE_X,
                                          HUB_STATE_Y,             HUB_STATE_CERTIFICATE, HUB_STATE_EXPECTED, HUB_STATE_HEARD, HUB_STATE_COUNT,
                                          HUB_STATE_CHANNEL,       HUB_STATE_LAST,        HUB_STATE_BYTES};
-const uint64_t through_kinds[7] = {
-    HUB_KIND_REFUSED, HUB_KIND_REPLY, HUB_KIND_AGAIN, HUB_KIND_FAILURE, HUB_KIND_TAKEN, HUB_KIND_REPEAT, HUB_KIND_COMPLETE};
+const size_t through_gateway_places[4] = {HUB_GATEWAY_SIZE, HUB_GATEWAY_STATE, HUB_GATEWAY_SESSION, HUB_GATEWAY_BYTES};
+const uint64_t through_kinds[10] = {HUB_KIND_REFUSED, HUB_KIND_REPLY,    HUB_KIND_AGAIN, HUB_KIND_FAILURE, HUB_KIND_TAKEN,
+                                    HUB_KIND_REPEAT,  HUB_KIND_COMPLETE, HUB_KIND_NEXT,  HUB_KIND_READY,   HUB_KIND_FAILED};
 const uint64_t through_sealed[3] = {HUB_PLAIN, HUB_OPENED, HUB_STILL_SEALED};
 const uint64_t through_types[3] = {HUB_TYPE_DISCOVERY, HUB_TYPE_CONNECT, HUB_TYPE_SESSION};
 const uint64_t through_flags[5] = {HUB_FLAG_ACKNOWLEDGE, HUB_FLAG_HMAC, HUB_FLAG_ENCRYPTED, HUB_FLAGS_SEALED, HUB_FLAG_WAKE};
@@ -214,3 +236,6 @@ const uint64_t through_devices[11] = {
     HUB_DEVICE_XBOX_ONE, HUB_DEVICE_IPHONE, HUB_DEVICE_IPAD, HUB_DEVICE_ANDROID, HUB_DEVICE_WINDOWS_DESKTOP, HUB_DEVICE_WINDOWS_PHONE,
     HUB_DEVICE_LINUX, HUB_DEVICE_WINDOWS_IOT, HUB_DEVICE_SURFACE_HUB, HUB_DEVICE_WINDOWS_LAPTOP, HUB_DEVICE_WINDOWS_TABLET};
 const uint64_t through_states[5] = {HUB_WAITING_FOR_REQUEST, HUB_WAITING_FOR_AUTHENTICATION, HUB_PASSED, HUB_READY, HUB_FAILED};
+const uint64_t through_gateway_states[5] = {HUB_GATEWAY_WAITING_FOR_RESPONSE, HUB_GATEWAY_WAITING_FOR_AUTHENTICATION, HUB_GATEWAY_WAITING_FOR_DONE,
+                                            HUB_GATEWAY_READY, HUB_GATEWAY_FAILED};
+const uint64_t through_nothing_due = HUB_NOTHING_DUE;

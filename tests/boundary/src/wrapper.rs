@@ -5,6 +5,7 @@
 
 use hlidunsk as h;
 use hlidunsk::payload as p;
+use second::client::{self, Client};
 use second::compare::{Implementation, Piece, Second};
 use second::connection::{Answer, Connection};
 use second::header::{Framed, Header, Kind};
@@ -13,7 +14,7 @@ use second::payload::{Connect, Credentials, DiscoveryParts, Offer, Parts, Presen
 use second::refusal::Refusal;
 
 use crate::hub::refusal;
-use crate::state::{decode, encode};
+use crate::state::{decode, decode_gateway, encode, encode_gateway};
 
 /// The wrapper.
 pub struct Wrapper;
@@ -51,6 +52,23 @@ fn type_of(reply: h::Reply) -> u8 {
         h::Reply::DoneResponse(p::Status::Success) => 7,
         h::Reply::DoneResponse(status) => panic!("{status:?}"),
     }
+}
+
+/// The type of a request.
+fn type_of_request(request: h::Request) -> u8 {
+    match request {
+        h::Request::ConnectionRequest => 0,
+        h::Request::DeviceAuthenticationRequest => 2,
+        h::Request::DoneRequest => 6,
+    }
+}
+
+/// A gateway's connection, by its bytes and by what it says of itself.
+fn client_of(gateway: &h::Gateway) -> Client {
+    let client = decode_gateway(gateway.as_bytes());
+    let said = (gateway.fragment_size(), gateway.state().number(), gateway.session());
+    assert_eq!(said, (client.fragment_size as usize, client.state, client.session));
+    client
 }
 
 /// A Connect payload in the wrapper's types, where they have it.
@@ -289,6 +307,41 @@ impl Implementation for Wrapper {
             }
         };
         (decode(hub.as_bytes()), answer)
+    }
+
+    fn gateway_open(&mut self, fragment_size: u32, session: u64) -> (Client, Result<(), Refusal>) {
+        match h::Gateway::open(fragment_size as usize, session) {
+            Ok(opened) => (client_of(&opened), Ok(())),
+            Err(by) => (Client::default(), Err(refused(by))),
+        }
+    }
+
+    fn gateway_step(
+        &mut self,
+        client: Client,
+        message: &[u8],
+        keys: &[u8],
+        working: &mut [u8],
+        verdict: u64,
+    ) -> (Client, client::Answer) {
+        let (Some(typed), 0..=1) = (keys_of(keys), verdict) else {
+            return Second.gateway_step(client, message, keys, working, verdict);
+        };
+        let mut gateway = h::Gateway::from_bytes(encode_gateway(&client));
+        let answer = match gateway.step(message, typed, working, verdict == 1) {
+            Err(by) => client::Answer::Refused(refused(by)),
+            Ok(h::GatewayAnswer::Next(request)) => client::Answer::Next(type_of_request(request)),
+            Ok(h::GatewayAnswer::Ready) => client::Answer::Ready,
+            Ok(h::GatewayAnswer::Failed) => client::Answer::Failed,
+            Ok(h::GatewayAnswer::Again(request)) => {
+                client::Answer::Again(request.map(type_of_request))
+            }
+        };
+        (client_of(&gateway), answer)
+    }
+
+    fn gateway_due(&mut self, client: Client) -> Option<u8> {
+        h::Gateway::from_bytes(encode_gateway(&client)).due().map(type_of_request)
     }
 
     fn cut(&mut self, report: &[u8], fragment_size: u32, index: u32) -> Piece {
