@@ -1,8 +1,7 @@
 -- SPDX-License-Identifier: MPL-2.0
 -- A step of the gateway whose message is read hears it, and the first line of "Gateway states" that applies is the one of the sentence.
 use Rattle.laws.proofs.Kit.{ℕ, _≤_, _<_, _≡_, refl, _∙_, ap, Bool, true, false, List, cond, eqb, ltb, eqb-true, eqb-false, eq-eqb, ne-eqb, lt-ltb}
-use Rattle.laws.proofs.Kit.{le-ltb, inl, inr, arith}
-use Rattle.laws.proofs.Kit.{_+_}
+use Rattle.laws.proofs.Kit.{le-ltb, inl, inr, arith, _+_}
 use Rattle.wire.specs.declared.header.Header.{Header}
 use Rattle.payloads.specs.Reading.{connectType, codeOf}
 use Rattle.joining.specs.declared.answer.Said.{Said}
@@ -21,7 +20,7 @@ use Rattle.gateway.specs.Client.{stepped, refuse, inState, fails, replied, take
 use Rattle.gateway.specs.Step.{hear, step}
 use Rattle.gateway.specs.Calls.{after}
 use Rattle.gateway.proofs.Ways.{step-has}
-use Rattle.promises.specs.Gateway.{Admitted, Does, ByGatewayStates, GatewayLeavesAlone, DueNames}
+use Rattle.promises.specs.Gateway.{Admitted, Does, ByGatewayStates, GatewayLeavesAlone, GatewayKeeps, DueNames}
 use Rattle.promises.proofs.Admitting.{role-hears}
 
 -- The lines of "Gateway states", each where its sentence says.
@@ -164,6 +163,11 @@ gateway-leaves-alone g x =
     ((λ n. apart _ _ refl), (λ d. apart _ _ refl)) (λ s. ((λ n. apart _ _ refl), (λ d. apart _ _ refl)))
     (λ s. ((λ n. apart _ _ refl), (λ d. apart _ _ refl))) (λ s. ((λ n. apart _ _ refl), (λ d. apart _ _ refl)))
     (λ n. ((λ k e. refl), (λ d e. refl))) (x .message) (x .keys) (x .working) (x .verdict)
+
+pub gateway-keeps : GatewayKeeps
+gateway-keeps g x =
+    step-has g (λ s. (s .gateway .size ≡ g .size) × (s .gateway .session ≡ g .session)) (refl, refl) (λ d. (refl, refl)) (refl, refl)
+    (λ s. (refl, refl)) (λ s. (refl, refl)) (λ s. (refl, refl)) (λ n. (refl, refl)) (x .message) (x .keys) (x .working) (x .verdict)
 
 pub due-names : DueNames
 due-names =

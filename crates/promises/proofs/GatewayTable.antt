@@ -1,8 +1,7 @@
 -- SPDX-License-Identifier: MPL-2.0
 -- Demand 1 for the gateway: its opener, and its step, whose rows after 14 are 16 and 15; and what is sent again is what was sent.
 use Rattle.laws.proofs.Kit.{ℕ, _≡_, refl, sym, _∙_, ap, Bool, true, false, true≢false, not, cond, List, eqb, ltb, leb, eqb-true, eqb-false, ne-eqb}
-use Rattle.laws.proofs.Kit.{arith}
-use Rattle.laws.proofs.Kit.{le-leb, lt-leb, ltb-true, ltb-false}
+use Rattle.laws.proofs.Kit.{arith, le-leb, lt-leb, ltb-true, ltb-false}
 use Rattle.laws.specs.Rows.{first}
 use Rattle.laws.proofs.Bools.{or-none}
 use Rattle.laws.proofs.Cases.{on}

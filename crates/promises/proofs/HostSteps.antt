@@ -19,8 +19,8 @@ use Rattle.hub.specs.Hear.{certificate, connect, pieceIn, joined, isForeign, he
 use Rattle.admission.specs.Calls.{Call}
 use Rattle.hub.specs.Calls.{Standing}
 use Rattle.hub.proofs.Telling.{said-of}
-use Rattle.promises.specs.Enrolment.{Content}
-use Rattle.promises.specs.HostStates.{Admitted, Does, IsConnect, ByHostStates}
+use Rattle.promises.specs.Enrolment.{Content, IsConnect}
+use Rattle.promises.specs.HostStates.{Admitted, Does, ByHostStates}
 use Rattle.promises.proofs.ReadBack.{step-hears}
 
 -- A test that does not hold.

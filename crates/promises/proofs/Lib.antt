@@ -27,6 +27,10 @@ pub mod PresenceBack
 pub mod DiscoverySteps
 pub mod GatewaySteps
 pub mod GatewayTable
-pub mod SidesHear
+pub mod SidesSay
+pub mod HubHears
+pub mod GatewayHears
 pub mod TwoSides
+pub mod OneSession
+pub mod SidesWrite
 pub mod SidesReady

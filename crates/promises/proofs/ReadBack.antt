@@ -62,6 +62,18 @@ reads-back h chain bytes keys message w working room =
     (read-plain h chain bytes keys (length working) (length (w .output)) good s) refl
     (handed-plain h chain bytes keys working (length (w .output)) good s)))
 
+-- A plain message with any keys: it looks at none.
+pub reads-plain : (h : Header) (chain bytes keys message : List ℕ) → Wrote h chain bytes keys message → (others working : List ℕ)
+    → isSealed (h .flags) ≡ false → ReadAs h bytes message others working
+unfolding writeRefusal messageBytes
+reads-plain h chain bytes keys message w others working s =
+    let room = length (w .output) in
+    let good : writeRefusal h chain bytes (length others) room ≡ 0 = rw s (rw s at (passed h chain bytes keys message w)) in
+    let same : message ≡ messageBytes h chain bytes others = is-message h chain bytes keys message w ∙ rw s in
+    rw same
+    (as-read h bytes (messageBytes h chain bytes others) others working (inMessage (foundAt h (40 + length chain) (length bytes)))
+    (read-plain h chain bytes others (length working) room good s) refl (handed-plain h chain bytes others working room good s))
+
 -- A step whose message is read hears it.
 pub step-hears : (c : Connection) (h : Header) (bytes m keys working report : List ℕ) (v : ℕ) → badSize (c .size) ≡ false → v ≤ 1
     → ReadAs h bytes m keys working

@@ -1,24 +1,21 @@
 -- SPDX-License-Identifier: MPL-2.0
 -- At every moment of a run the hub has taken as many requests as the gateway has replies, or one more; all that either has written is of a place
 -- that it has come to; and so neither hears anything out of order.
-use Rattle.laws.proofs.Kit.{ℕ, _+_, _≤_, _<_, _≡_, refl, sym, _∙_, ap, subst, _-_, false, List, eqb, eqb-true, eqb-false, [], _∷_, _++_, inl, inr}
+use Rattle.laws.proofs.Kit.{ℕ, _+_, _≤_, _<_, _≡_, refl, sym, subst, _-_, List, eqb, eqb-true, eqb-false, [], _∷_, _++_, inl, inr}
 use Rattle.laws.proofs.Kit.{⊎-elim, arith}
+use mathlib.Core.Logic.{_⊎_}
 use Rattle.laws.proofs.Order.{lt-or-ge}
 use Rattle.laws.proofs.Cases.{on}
-use Rattle.joining.specs.Cut.{badSize}
 use Rattle.admission.specs.Calls.{Call}
-use Rattle.hub.specs.declared.Connection.{Connection}
-use Rattle.hub.specs.declared.Opened.{Opened}
-use Rattle.hub.specs.Opening.{blank, opened}
 use Rattle.hub.specs.Calls.{after, says}
 use Rattle.gateway.specs.declared.Gateway.{Gateway}
-use Rattle.gateway.specs.declared.Opened as gateway
-use Rattle.gateway.specs.Opening as opening
 use Rattle.gateway.specs.Answers.{dueIn, dueNumber}
 use Rattle.gateway.specs.Calls as client
-use Rattle.promises.specs.TwoSides.{Sides, Letter, IsRequest, IsReply, Each, named, dueTypes, asked, Moment, Begins, OneOf, Given}
-use Rattle.promises.specs.TwoSides.{Event, hub-hears, gateway-hears, Run, stays, goes, OneSession}
-use Rattle.promises.proofs.SidesHear.{requestType, replyType, three, HubAt, hub-went, GatewayAt, gateway-went}
+use Rattle.promises.specs.TwoSides.{Sides, Letter, IsRequest, IsReply, Each, named, dueTypes, asked, Moment, OneOf, Given}
+use Rattle.promises.specs.TwoSides.{Happens, hub-hears, gateway-hears, gateway-writes, Run, stays, goes}
+use Rattle.promises.proofs.SidesSay.{requestType, replyType, three}
+use Rattle.promises.proofs.HubHears.{HubAt, hub-went}
+use Rattle.promises.proofs.GatewayHears.{GatewayAt, gateway-went}
 
 module _ (s : Sides) where
   -- A letter of a list with a property.
@@ -105,8 +102,8 @@ module _ (s : Sides) where
       new new-is
 
   -- Letters for the request at place j, if there is one.
-  for-due : (G : List (Letter s) → Type 0) (j : ℕ) → (j < 3 → (l : Letter s) → IsRequest s (requestType j) l → G (l ∷ [])) → (3 ≤ j → G []) → j ≤ 3
-      → (new : List (Letter s)) → Each (IsRequest s) (dueTypes (dueNumber (dueIn j))) new → G new
+  pub for-due : (G : List (Letter s) → Type 0) (j : ℕ) → (j < 3 → (l : Letter s) → IsRequest s (requestType j) l → G (l ∷ []))
+      → (3 ≤ j → G []) → j ≤ 3 → (new : List (Letter s)) → Each (IsRequest s) (dueTypes (dueNumber (dueIn j))) new → G new
   for-due G j f g low new =
       on (eqb j 3)
       (λ e.
@@ -121,6 +118,41 @@ module _ (s : Sides) where
       (λ f. for-one (IsRequest s) G 0 (f (omega arith)) new) (λ f. for-one (IsRequest s) G 2 (f (omega arith)) new)
       (λ f. for-one (IsRequest s) G 6 (f (omega arith)) new) j (omega arith) f)
 
+  -- The gateway's side writes the request at a place j that it has come to, if there is one; all requests at places up to its state are then written.
+  more-requests : (p : Moment s) → Steady p → (g : Gateway) → GatewayAt s g → p .gateway .state ≤ g .state → g .state ≤ p .hub .connection .state
+      → (j : ℕ) → j ≤ g .state → ((i : ℕ) → i < 3 → i ≤ g .state → (i ≡ j) ⊎ (i ≤ p .gateway .state))
+      → (new : List (Letter s)) → Each (IsRequest s) (dueTypes (dueNumber (dueIn j))) new
+      → Steady (record { hub = p .hub; gateway = g; requests = new ++ p .requests; replies = p .replies })
+  more-requests p i g at up behind j come covers =
+      let still : (m : Letter s) → OneOf m (p .requests) → Requested (g .state) m =
+      λ m o.
+      let q = i .requests m o in
+      record { place = q .place; few = q .few; low = omega (arith, q .low); is = q .is } in
+      let with-new : (ls : List (Letter s)) → ((m : Letter s) → OneOf m (ls ++ p .requests) → Requested (g .state) m)
+      → ((k : ℕ) → k < 3 → k ≤ g .state → Has (IsRequest s (requestType k)) (ls ++ p .requests))
+      → Steady (record { hub = p .hub; gateway = g; requests = ls ++ p .requests; replies = p .replies }) =
+      λ ls requests due.
+      record {
+        hub = i .hub;
+        gateway = at;
+        behind = behind;
+        ahead = omega (arith, i .ahead);
+        requests = requests;
+        replies = i .replies;
+        due = due;
+        named = i .named;
+      } in
+      for-due (λ ls. Steady (record { hub = p .hub; gateway = g; requests = ls ++ p .requests; replies = p .replies })) j
+      (λ few m is.
+      with-new (m ∷ []) (λ n. ⊎-elim (λ e. record { place = j; few = few; low = come; is = subst (IsRequest s (requestType j)) e is }) (still n))
+      (λ k small low.
+      ⊎-elim (λ e. record { letter = m; one = inl refl; is = subst (λ (k : ℕ). IsRequest s (requestType k) m) (sym e) is })
+      (λ h. older m (i .due k small h)) (covers k small low)))
+      (λ full.
+      with-new [] still
+      (λ k small low. ⊎-elim (λ e. absurd (omega arith)) (λ h. i .due k small h) (covers k small low)))
+      (omega (arith, at .low))
+
   -- The gateway hears a letter: it goes on or stays, and its new letter is the request at the place after the letter's, if there is one.
   pub gateway-steady : (p : Moment s) → Steady p → (l : Letter s) (x : Call) (new : List (Letter s)) → OneOf l (p .replies) → Given s l x
       → Each (IsRequest s) (asked (client.says (p .gateway) x)) new
@@ -128,114 +160,30 @@ module _ (s : Sides) where
   gateway-steady p i l x new one given each =
       let r = i .replies l one in
       let k = r .place in
-      let w = gateway-went s (p .gateway) (i .gateway) l x given (r .is .0) k (r .few) (omega (arith, r .low, i .ahead)) (r .is .1) in
-      let still : (m : Letter s) → OneOf m (p .requests) → Requested (client.after (p .gateway) x .state) m =
-      λ m o.
-      let q = i .requests m o in
-      record { place = q .place; few = q .few; low = omega (arith, q .low, w .past .up); is = q .is } in
-      let with-new : (ls : List (Letter s)) → ((m : Letter s) → OneOf m (ls ++ p .requests) → Requested (client.after (p .gateway) x .state) m)
-      → ((j : ℕ) → j < 3 → j ≤ client.after (p .gateway) x .state → Has (IsRequest s (requestType j)) (ls ++ p .requests))
-      → Steady (record { hub = p .hub; gateway = client.after (p .gateway) x; requests = ls ++ p .requests; replies = p .replies }) =
-      λ ls requests due.
-      record {
-        hub = i .hub;
-        gateway = w .at;
-        behind = w .past .bound _ (i .behind) (r .low);
-        ahead = omega (arith, i .ahead, w .past .up);
-        requests = requests;
-        replies = i .replies;
-        due = due;
-        named = i .named;
-      } in
-      for-due
-      (λ ls. Steady (record { hub = p .hub; gateway = client.after (p .gateway) x; requests = ls ++ p .requests; replies = p .replies })) (k + 1)
-      (λ few m is.
-      with-new (m ∷ [])
-      (λ n.
-      ⊎-elim (λ e. record { place = k + 1; few = few; low = omega (arith, w .past .past); is = subst (IsRequest s (requestType (k + 1))) e is })
-      (still n))
-      (λ j small low.
-      on (eqb j (k + 1))
-      (λ e. record { letter = m; one = inl refl; is = subst (λ (k : ℕ). IsRequest s (requestType k) m) (sym (eqb-true j (k + 1) e)) is })
+      let come : k ≤ p .gateway .state = omega (arith, r .low, i .ahead) in
+      let w = gateway-went s (p .gateway) (i .gateway) l x given (r .is .0) k (r .few) come (r .is .1) in
+      more-requests p i (client.after (p .gateway) x) (w .at) (w .past .up) (w .past .bound _ (i .behind) (r .low)) (k + 1)
+      (omega (arith, w .past .past))
+      (λ j few low.
+      on (eqb j (k + 1)) (λ e. inl (eqb-true j (k + 1) e))
       (λ e.
       let n = eqb-false j (k + 1) e in
-      ⊎-elim
-      (λ (h : p .gateway .state < j).
-      absurd (omega (arith, low, r .low, i .ahead, w .past .bound (j - 1) (omega arith) (omega (arith, r .low, i .ahead)))))
-      (λ (h : j ≤ p .gateway .state). older m (i .due j small h)) (lt-or-ge (p .gateway .state) j))))
-      (λ full. with-new [] still (λ j small low. i .due j small (omega (arith, r .low, i .ahead, r .few))))
-      (omega (arith, r .few)) new (subst (λ (ts : List ℕ). Each (IsRequest s) ts new) (w .told) each)
+      ⊎-elim (λ (h : p .gateway .state < j). absurd (omega (arith, low, w .past .bound (j - 1) (omega arith) (omega arith))))
+      (λ (h : j ≤ p .gateway .state). inr h) (lt-or-ge (p .gateway .state) j)))
+      new (subst (λ (ts : List ℕ). Each (IsRequest s) ts new) (w .told) each)
 
-  -- So each event keeps it.
-  steady : {p q : Moment s} → Event s p q → Steady p → Steady q
+  -- It writes the request that is due once more.
+  due-steady : (p : Moment s) → Steady p → (new : List (Letter s)) → Each (IsRequest s) (dueTypes (dueNumber (dueIn (p .gateway .state)))) new
+      → Steady (record { hub = p .hub; gateway = p .gateway; requests = new ++ p .requests; replies = p .replies })
+  due-steady p i new each =
+      more-requests p i (p .gateway) (i .gateway) (omega arith) (i .behind) (p .gateway .state) (omega arith) (λ j few low. inr low) new each
+
+  -- So whatever happens keeps it.
+  steady : {p q : Moment s} → Happens s p q → Steady p → Steady q
   steady {p} (hub-hears l x new one given each) i = hub-steady p i l x new one given each
   steady {p} (gateway-hears l x new one given each) i = gateway-steady p i l x new one given each
+  steady {p} (gateway-writes new each) i = due-steady p i new each
 
   pub always : {n : ℕ} {p q : Moment s} → Run s n p q → Steady p → Steady q
   always stays i = i
   always (goes e r) i = always r (steady e i)
-
--- What was opened and not refused.
-opened-hub : (F : ℕ) (c : Connection) → opened F ≡ record { refusal = 0; connection = c } → (badSize F ≡ false) × (blank F ≡ c)
-unfolding opened
-opened-hub F c e =
-    on (badSize F) (λ b. let z : 24 ≡ 0 = ap (λ (o : Opened). o .refusal) (rw b at e) in absurd (omega arith))
-    (λ b. (b, ap (λ (o : Opened). o .connection) (rw b at e)))
-
-opened-gateway : (F session : ℕ) (g : Gateway) → opening.opened F session ≡ record { refusal = 0; gateway = g }
-    → (badSize F ≡ false) × (opening.waiting F session ≡ g)
-unfolding opening.opened
-opened-gateway F session g e =
-    on (badSize F) (λ b. let z : 24 ≡ 0 = ap (λ (o : gateway.Opened). o .refusal) (rw b at e) in absurd (omega arith))
-    (λ b. (b, ap (λ (o : gateway.Opened). o .gateway) (rw b at e)))
-
-module _ (s : Sides) (p : Moment s) (b : Begins s p) where
-  -- Both wait, and the gateway's first request is written.
-  abbrev FirstWritten : List (Letter s) → Type 0
-  FirstWritten ls = ((l : Letter s) → OneOf l ls → Requested s 0 l) × Has s (IsRequest s 0) ls
-
-  pub begins-steady : Steady s p
-  begins-steady =
-      let h = opened-hub (s .hubSize) (p .hub .connection) (b .hub) in
-      let g = opened-gateway (s .gatewaySize) (s .session) (p .gateway) (b .gateway) in
-      let h0 : p .hub .connection .state ≡ 0 = sym (ap (λ (c : Connection). c .state) (h .1)) in
-      let g0 : p .gateway .state ≡ 0 = sym (ap (λ (g : Gateway). g .state) (g .1)) in
-      let written : FirstWritten (p .requests) =
-      for-due s FirstWritten 0
-      (λ few l is. (
-        λ m. ⊎-elim (λ e. record { place = 0; few = few; low = omega arith; is = subst (IsRequest s 0) e is }) (λ o. absurd o),
-        record { letter = l; one = inl refl; is = is },
-      ))
-      (λ full. absurd (omega arith)) (omega arith) (p .requests)
-      (subst (λ (n : ℕ). Each (IsRequest s) (dueTypes (dueNumber (dueIn n))) (p .requests)) g0 (b .requests)) in
-      record {
-        hub = subst (HubAt s) (h .1)
-            (record {
-              size = h .0;
-              low = omega arith;
-              session = λ o. absurd (omega arith);
-              nonce = λ o. absurd (omega arith);
-              x = λ o. absurd (omega arith);
-              y = λ o. absurd (omega arith);
-              digest = λ o. absurd (omega arith);
-            });
-        gateway = subst (GatewayAt s) (g .1) (record { size = g .0; low = omega arith; session = refl });
-        behind = omega arith;
-        ahead = omega arith;
-        requests = λ l o. subst (λ (n : ℕ). Requested s n l) (sym g0) (written .0 l o);
-        replies = λ l o. absurd (subst (OneOf l) (b .replies) o);
-        due = λ k few low. let z : k ≡ 0 = omega arith in subst (λ (k : ℕ). Has s (IsRequest s (requestType k)) (p .requests)) (sym z) (written .1);
-        named = λ k few low. absurd (omega arith);
-      }
-
-pub one-session : OneSession
-one-session s n p q b r =
-    let i = always s r (begins-steady s p b) in
-    let c = q .hub .connection in
-    record {
-      one-session = on (eqb (c .state) 0) (λ e. inl (eqb-true (c .state) 0 e))
-          (λ e. let z = eqb-false (c .state) 0 e in inr (i .hub .session (omega arith) ∙ sym (i .gateway .session)));
-      keeps = i .gateway .session;
-      no-stranger = λ o. (i .hub .nonce o, i .hub .x o, i .hub .y o);
-      going = (i .hub .low, i .gateway .low);
-    }

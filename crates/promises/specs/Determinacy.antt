@@ -26,4 +26,4 @@ ToldApart = (a b : Answer) → said a ≡ said b → a ≡ b
 
 -- So is an answer of the gateway's step, in which a request's type is a byte.
 abbrev pub ToldApartByGateway : Type 0
-ToldApartByGateway = (a b : client.Answer) → gateway.OfBytes a → gateway.OfBytes b → gateway.said a ≡ gateway.said b → a ≡ b
+ToldApartByGateway = (a b : client.Answer) → gateway.HasTypeByte a → gateway.HasTypeByte b → gateway.said a ≡ gateway.said b → a ≡ b

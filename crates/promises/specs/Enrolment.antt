@@ -42,6 +42,10 @@ pub record Content (x : Call) : Type 0 where
   pub payload : List ℕ
   pub reads : ReadAs header payload (x .message) (x .keys) (x .working)
 
+-- The message is a Connect message of this type.
+abbrev pub IsConnect : {x : Call} → Content x → ℕ → Type 0
+IsConnect k type = (k .header .kind ≡ 2) × (connectType (k .payload) ≡ type)
+
 -- The call y asks for the step of x again: its message is a Connect message of the same session, and asks for the same step. RequestID,
 -- SequenceNumber, mode, flags, chain, thumbprint and keys may be others; the verdict is 0 or 1.
 pub record AskedAgain (x y : Call) : Type 0 where

@@ -31,9 +31,9 @@ use Rattle.gateway.specs.Calls.{after, says}
 use Rattle.promises.specs.Refusals.{_⇔_, openTable, readyTable, readerTable, handedOut}
 use Rattle.promises.specs.Written.{Wrote}
 use Rattle.promises.specs.Fields.{WrotePayload}
-use Rattle.promises.specs.Enrolment.{Content}
+use Rattle.promises.specs.Enrolment.{Content, IsConnect}
 
--- What the opener answers where it refuses with n: "the connection answered is then all zero, F too, on the gateway's side also the SessionID".
+-- What the opener answers where it refuses with n: "the connection answered is then all zero, F too, on the gateway's side also the SessionID (A2)".
 abbrev pub notOpened : ℕ → Opened
 notOpened n = record { refusal = n; gateway = waiting 0 0 }
 
@@ -82,10 +82,7 @@ pub record Admitted (g : Gateway) (x : Call) : Type 0 where
 abbrev pub Does : Gateway → Call → Said → Gateway → Type 0
 Does g x s next = (says g x ≡ s) × (after g x ≡ next)
 
--- The message is a Connect message of this type; of this type and Result or Status.
-abbrev pub IsConnect : {x : Call} → Content x → ℕ → Type 0
-IsConnect k type = (k .header .kind ≡ 2) × (connectType (k .payload) ≡ type)
-
+-- The message is a Connect message of this type and Result or Status.
 abbrev pub IsCoded : {x : Call} → Content x → (type code : ℕ) → Type 0
 IsCoded k type code = IsConnect k type × (codeOf (k .payload) ≡ code)
 
@@ -134,6 +131,10 @@ ByGatewayStates = (g : Gateway) (x : Call) (h : Admitted g x) → GatewayStates 
 -- "Every refusal leaves connection … alone", and so does Again.
 abbrev pub GatewayLeavesAlone : Type 0
 GatewayLeavesAlone = (g : Gateway) (x : Call) → ((n : ℕ) → says g x ≡ refused n → after g x ≡ g) × ((d : Due) → says g x ≡ again d → after g x ≡ g)
+
+-- "and keeps both": no call changes F or the SessionID.
+abbrev pub GatewayKeeps : Type 0
+GatewayKeeps = (g : Gateway) (x : Call) → (after g x .size ≡ g .size) × (after g x .session ≡ g .session)
 
 -- The request that is due: type 0 in state 0, 2 in state 1, 6 in state 2, none in any other. It is the same until its reply is taken, or all has
 -- failed; and what an answer names next is then due.

@@ -4,7 +4,7 @@
 use Prim.Native.Nat.{ℕ, _≤_}
 use mathlib.Core.Path.{_≡_}
 use mathlib.Core.Bool.{false}
-use Rattle.payloads.specs.Reading.{connectType, readRequest}
+use Rattle.payloads.specs.Reading.{readRequest}
 use Rattle.sha256.specs.Digests.{digest}
 use Rattle.joining.specs.declared.answer.Said.{Said}
 use Rattle.joining.specs.Answers.{refused, arrived}
@@ -16,7 +16,7 @@ use Rattle.hub.specs.Host.{requested, withDigestAndState}
 use Rattle.hub.specs.Hear.{certificate, pieceIn, withProgress, isForeign}
 use Rattle.admission.specs.Calls.{Call}
 use Rattle.hub.specs.Calls.{Standing, says, after}
-use Rattle.promises.specs.Enrolment.{Content}
+use Rattle.promises.specs.Enrolment.{Content, IsConnect}
 
 -- A call that comes as far as the states: the reader reads its message, and neither 25 nor 24 nor 16 applies.
 pub record Admitted (p : Standing) (x : Call) : Type 0 where
@@ -28,10 +28,6 @@ pub record Admitted (p : Standing) (x : Call) : Type 0 where
 -- The step says this, and leaves this connection.
 abbrev pub Does : Standing → Call → Said → Connection → Type 0
 Does p x s c = (says p x ≡ s) × (after p x .connection ≡ c)
-
--- The message is a Connect message of this type.
-abbrev pub IsConnect : {x : Call} → Content x → ℕ → Type 0
-IsConnect k type = (k .header .kind ≡ 2) × (connectType (k .payload) ≡ type)
 
 -- What the step does, one field a sentence.
 pub record HostStates (p : Standing) (x : Call) (k : Content x) : Type 0 where

@@ -129,7 +129,7 @@ module _ (c : Connection) (h : Header) (payload report : List ℕ) (verdict : �
   hostTable =
       -- state not 0 and another SessionID
       (16, isForeign c h)
-      -- message not allowed in this state
+      -- message not allowed in this state, by role
       ∷ (15, not (joins c h) && not enrols)
       -- SequenceNumber is 2^32 − 1
       ∷ (19, joins c h && eqb (h .sequence) 4294967295)

@@ -4,12 +4,15 @@
 use Prim.Native.Nat.{ℕ, _+_, _≤_, _<_}
 use mathlib.Core.Path.{_≡_}
 use mathlib.Core.List.{List, [], _∷_, _++_}
-use mathlib.Core.Bool.{false, cond, _||_}
+use mathlib.Core.Bool.{true, false, cond, _||_}
 use mathlib.Core.Logic.{_⊎_}
 use lib.ListN.{length, replicate}
 use lib.Dec.{eqb}
 use Rattle.laws.specs.Bytes.{AreBytes}
+use Rattle.wire.specs.Fields.{isSealed}
 use Rattle.wire.specs.declared.header.Header.{Header}
+use Rattle.sha256.specs.Digests.{digest}
+use Rattle.payloads.specs.Reading.{connectType}
 use Rattle.payloads.specs.Format.{_and_}
 use Rattle.payloads.specs.Shapes.{connectionRequest, pendingResponse, deviceAuthentication, doneRequest, doneResponse}
 use Rattle.payloads.specs.declared.reading.Request.{Request}
@@ -104,27 +107,31 @@ abbrev pub OneOf : {s : Sides} → Letter s → List (Letter s) → Type 0
 OneOf l [] = ⊥
 OneOf l (k ∷ ks) = (k ≡ l) ⊎ OneOf l ks
 
--- A call that gives a step the message of a letter, the keys, a working buffer that is long enough, "and with verdict 1 always".
+-- A call that gives a step the message of a letter and a working buffer that is long enough; the keys, if the letter is sealed (a plain one looks at
+-- none, and none need be agreed on yet); "and with verdict 1 always" on a certificate that is shown, types 2 and 3 (no other letter looks at it).
 pub record Given (s : Sides) (l : Letter s) (x : Call) : Type 0 where
   pub message : x .message ≡ l .message
-  pub keys : x .keys ≡ s .keys
   pub room : LongEnough (l .header) (l .payload) (x .working)
-  pub verdict : x .verdict ≡ 1
+  pub keys : isSealed (l .header .flags) ≡ true → x .keys ≡ s .keys
+  pub verdict : x .verdict ≤ 1
+  pub accepted : (connectType (l .payload) ≡ 2) ⊎ (connectType (l .payload) ≡ 3) → x .verdict ≡ 1
 
--- What happens: one side hears a letter that the other has written so far, old or new, and writes what its answer names. A letter that no event names
--- is lost, one that two events name is repeated.
-pub data Event (s : Sides) : Moment s → Moment s → Type 0 where
+-- What happens: one side hears a letter that the other has written so far, old or new, and writes what its answer names; or the gateway's side
+-- writes the request that is due once more. A letter that is not heard is lost, one that is heard twice is repeated.
+pub data Happens (s : Sides) : Moment s → Moment s → Type 0 where
   hub-hears : {p : Moment s} (l : Letter s) (x : Call) (new : List (Letter s)) → OneOf l (p .requests) → Given s l x
       → Each (IsReply s (after (p .hub) x .connection .session)) (named (says (p .hub) x)) new
-      → Event s p (record { hub = after (p .hub) x; gateway = p .gateway; requests = p .requests; replies = new ++ p .replies })
+      → Happens s p (record { hub = after (p .hub) x; gateway = p .gateway; requests = p .requests; replies = new ++ p .replies })
   gateway-hears : {p : Moment s} (l : Letter s) (x : Call) (new : List (Letter s)) → OneOf l (p .replies) → Given s l x
       → Each (IsRequest s) (asked (gateway.says (p .gateway) x)) new
-      → Event s p (record { hub = p .hub; gateway = gateway.after (p .gateway) x; requests = new ++ p .requests; replies = p .replies })
+      → Happens s p (record { hub = p .hub; gateway = gateway.after (p .gateway) x; requests = new ++ p .requests; replies = p .replies })
+  gateway-writes : {p : Moment s} (new : List (Letter s)) → Each (IsRequest s) (dueTypes (dueNumber (dueIn (p .gateway .state)))) new
+      → Happens s p (record { hub = p .hub; gateway = p .gateway; requests = new ++ p .requests; replies = p .replies })
 
 -- n events, one after the other.
 pub data Run (s : Sides) : ℕ → Moment s → Moment s → Type 0 where
   stays : {p : Moment s} → Run s 0 p p
-  goes : {n : ℕ} {p q r : Moment s} → Event s p q → Run s n q r → Run s (n + 1) p r
+  goes : {n : ℕ} {p q r : Moment s} → Happens s p q → Run s n q r → Run s (n + 1) p r
 
 -- What holds at a moment.
 pub record Agreed (s : Sides) (p : Moment s) : Type 0 where
@@ -135,8 +142,13 @@ pub record Agreed (s : Sides) (p : Moment s) : Type 0 where
   -- From state 1 on nonce, X and Y are the gateway's: the hub takes no second request for a stranger.
   pub no-stranger : 1 ≤ p .hub .connection .state
       → (p .hub .connection .nonce ≡ s .exchange .nonce) × (p .hub .connection .x ≡ s .exchange .x) × (p .hub .connection .y ≡ s .exchange .y)
-  -- Neither side is Failed.
+  -- From state 2 on the certificate's digest is that of the gateway's.
+  pub certified : 2 ≤ p .hub .connection .state → p .hub .connection .digest ≡ digest (s .certificate)
+  -- Neither side is Failed,
   pub going : (p .hub .connection .state ≤ 3) × (p .gateway .state ≤ 3)
+  -- and neither would refuse anything that the other has written.
+  pub hub-takes : (l : Letter s) (x : Call) → OneOf l (p .requests) → Given s l x → says (p .hub) x .refusal ≡ 0
+  pub gateway-takes : (l : Letter s) (x : Call) → OneOf l (p .replies) → Given s l x → gateway.says (p .gateway) x .refusal ≡ 0
 
 -- At every moment of every run.
 abbrev pub OneSession : Type 0
