@@ -32,7 +32,7 @@ pub fn admit(
     message::reading::read(message, keys, working)
 }
 
-// 16 has another SessionID than this before it. Discovery skips 16.
+// What 16 asks in either role: another SessionID than this one. Discovery skips 16.
 pub fn another_session(header: Header, session: u64) -> bool
     ensures { λ r. ⌜ r ≡ anotherSession header session ⌝ }
 {

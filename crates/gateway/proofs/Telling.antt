@@ -5,7 +5,7 @@ use Rattle.joining.specs.declared.answer.Said.{Said}
 use Rattle.gateway.specs.declared.Due.the-variants.{Request, Nothing}
 use Rattle.gateway.specs.declared.Answer.{Answer}
 use Rattle.gateway.specs.declared.Answer.the-variants.{Refused, Next, Ready, Failed, Again}
-use Rattle.gateway.specs.Answers.{said, OfBytes}
+use Rattle.gateway.specs.Answers.{said, HasTypeByte}
 
 -- The answer that says this.
 abbrev meant : Said → Answer
@@ -15,7 +15,7 @@ meant s =
     (cond (eqb (s .kind) 8) Ready
     (cond (eqb (s .kind) 9) Failed (Again (cond (eqb (s .value) 256) Nothing (Request (s .value)))))))
 
-meant-said : (a : Answer) → OfBytes a → meant (said a) ≡ a
+meant-said : (a : Answer) → HasTypeByte a → meant (said a) ≡ a
 meant-said (Refused n) b = refl
 meant-said (Next t) b = refl
 meant-said Ready b = refl
@@ -23,5 +23,5 @@ meant-said Failed b = refl
 meant-said (Again (Request t)) b = rw (ne-eqb t 256 (λ e. omega arith))
 meant-said (Again Nothing) b = refl
 
-pub said-apart : (a b : Answer) → OfBytes a → OfBytes b → said a ≡ said b → a ≡ b
+pub said-apart : (a b : Answer) → HasTypeByte a → HasTypeByte b → said a ≡ said b → a ≡ b
 said-apart a b x y e = sym (meant-said a x) ∙ ap meant e ∙ meant-said b y

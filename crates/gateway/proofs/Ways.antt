@@ -1,5 +1,5 @@
 -- SPDX-License-Identifier: MPL-2.0
--- A property of what a step of the gateway answers and leaves, by the way that it went: "Gateway states" are gone through here, and nowhere else.
+-- A property of what a step of the gateway answers and leaves, by the way that it went: a law of all its steps is one of these cases.
 use Rattle.laws.proofs.Kit.{ℕ, _+_, _≡_, List, eqb-true}
 use Rattle.laws.proofs.Firsts.{_also_, first-row}
 use Rattle.wire.specs.declared.header.Header.{Header}

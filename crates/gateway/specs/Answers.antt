@@ -52,10 +52,10 @@ said Failed = nowFailed
 said (Again d) = again d
 
 -- The request that Again names has a type byte, as an answer of the code has.
-abbrev pub OfBytes : Answer → Type 0
-OfBytes (Refused n) = Unit {0}
-OfBytes (Next t) = Unit {0}
-OfBytes Ready = Unit {0}
-OfBytes Failed = Unit {0}
-OfBytes (Again (Request t)) = t < 256
-OfBytes (Again Nothing) = Unit {0}
+abbrev pub HasTypeByte : Answer → Type 0
+HasTypeByte (Refused n) = Unit {0}
+HasTypeByte (Next t) = Unit {0}
+HasTypeByte Ready = Unit {0}
+HasTypeByte Failed = Unit {0}
+HasTypeByte (Again (Request t)) = t < 256
+HasTypeByte (Again Nothing) = Unit {0}

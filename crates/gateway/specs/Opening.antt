@@ -11,8 +11,8 @@ use Rattle.gateway.specs.declared.Opened.{Opened}
 abbrev pub waiting : (F session : ℕ) → Gateway
 waiting F session = record { size = F; state = 0; session = session }
 
--- 24: "F outside 1 to 16,384 at opening (the connection answered is then all zero, F too, on the gateway's side also the SessionID)"; 0 is no
--- refusal.
+-- 24: "F outside 1 to 16,384 at opening (the connection answered is then all zero, F too, on the gateway's side also the SessionID (A2))"; 0
+-- is no refusal.
 unfoldable pub opened : (F session : ℕ) → Opened
 opened F session =
     cond (badSize F) (record { refusal = wrongFragmentSize; gateway = waiting 0 0 }) (record { refusal = 0; gateway = waiting F session })

@@ -66,7 +66,7 @@ pub enum Answer {
     Complete { length: usize, heard: usize },
 }
 
-// The kinds of a step's answers that neither a piece's have nor the other role's.
+// The kinds of a step's answers that neither a piece has nor the other role.
 pub const REPLY: u64 = 1;
 
 pub const FAILURE: u64 = 3;

@@ -7,6 +7,7 @@ use mathlib.Core.Bool.{Bool, false, cond, not, _&&_, _||_}
 use lib.Dec.{eqb, ltb}
 use lib.ListN.{length}
 use Rattle.joining.specs.Cut.{badSize}
+use Rattle.joining.specs.declared.answer.Said.{Said}
 use Rattle.joining.specs.Heard.{most, has}
 use Rattle.joining.specs.Join.{expecting}
 use Rattle.hub.specs.declared.Connection.{Connection}
@@ -21,9 +22,12 @@ use Rattle.hub_c.specs.Sizes.{answerSize}
 unfoldable pub stateAfter : Stepped → List ℕ → List ℕ
 stateAfter s state = cond (eqb (said (s .answer) .refusal) 0) (stateBytes (s .connection)) state
 
--- The answer's three words: its kind and values, all 0 beside a refusal.
+-- The three words of an answer, in either role: its kind and values, all 0 beside a refusal.
+abbrev pub saidWords : Said → List ℕ
+saidWords s = s .kind ∷ s .value ∷ s .detail ∷ []
+
 abbrev pub answerAfter : Stepped → List ℕ
-answerAfter s = said (s .answer) .kind ∷ said (s .answer) .value ∷ said (s .answer) .detail ∷ []
+answerAfter s = saidWords (said (s .answer))
 
 -- The verdict of a word: 25 refuses every one but 0 and 1, and 2 stands for them.
 abbrev pub verdictOf : ℕ → ℕ

@@ -5,7 +5,7 @@ use super::words::ANSWER;
 use super::words::WRONG_BUFFER;
 use super::words::fill;
 use super::words::put_length;
-use super::words::put_triple;
+use super::words::put_said;
 use gateway::Gateway;
 use gateway::Stepped;
 use state::client::GATEWAY;
@@ -22,7 +22,7 @@ ghost use Rattle.gateway.specs.Step.{step};
 ghost use Rattle.state.specs.Client.{gatewaySize, gatewayAt, gatewayBytes};
 ghost use Rattle.hub_c.specs.Sizes.{wrongBuffer, answerSize, sized, kept};
 ghost use Rattle.hub_c.specs.Answered.{verdictOf};
-ghost use Rattle.hub_c.specs.Client.{gatewayAfter, answerAfter, wrongCall, wrongDue};
+ghost use Rattle.hub_c.specs.Client.{gatewayAfter, gatewayAnswer, wrongGatewayStep, wrongGatewayDue};
 
 // The words of the request that is due.
 const DUE: usize = 1;
@@ -67,11 +67,11 @@ fn settle_gateway(stepped: Stepped, state: &mut [u8], answer: &mut [u64]) -> u32
     requires { ⌜ (length (now state) ≡ gatewaySize) × (length (now answer) ≡ answerSize) ⌝ }
     ensures { λ r. ⌜ r ≡ said (stepped .answer) .refusal ⌝ }
     ensures { λ _. ⌜ now (state .exit) ≡ gatewayAfter stepped (now (state .entry)) ⌝ }
-    ensures { λ _. ⌜ now (answer .exit) ≡ answerAfter stepped ⌝ }
+    ensures { λ _. ⌜ now (answer .exit) ≡ gatewayAnswer stepped ⌝ }
 {
     let given = stepped.answer;
     let said = given.said();
-    put_triple(answer, said.kind, said.value, said.detail);
+    put_said(answer, said);
     if said.refusal != 0 {
         return said.refusal as u32;
     }
@@ -91,17 +91,17 @@ pub extern "C" fn hub_gateway_step(
     verdict: u64,
     answer: &mut [u64],
 ) -> u32
-    ensures { λ r. ⌜ r ≡ cond (wrongCall (now (gateway .entry)) (now (answer .entry))) wrongBuffer
+    ensures { λ r. ⌜ r ≡ cond (wrongGatewayStep (now (gateway .entry)) (now (answer .entry))) wrongBuffer
         (said (step (gatewayAt (now (gateway .entry))) (now (message .entry)) (now (keys .entry)) (now (working .entry))
         (verdictOf verdict) .answer) .refusal) ⌝ }
-    ensures { λ _. ⌜ now (gateway .exit) ≡ cond (wrongCall (now (gateway .entry)) (now (answer .entry))) (now (gateway .entry))
+    ensures { λ _. ⌜ now (gateway .exit) ≡ cond (wrongGatewayStep (now (gateway .entry)) (now (answer .entry))) (now (gateway .entry))
         (gatewayAfter (step (gatewayAt (now (gateway .entry))) (now (message .entry)) (now (keys .entry)) (now (working .entry))
         (verdictOf verdict)) (now (gateway .entry))) ⌝ }
-    ensures { λ _. ⌜ now (working .exit) ≡ cond (wrongCall (now (gateway .entry)) (now (answer .entry))) (now (working .entry))
+    ensures { λ _. ⌜ now (working .exit) ≡ cond (wrongGatewayStep (now (gateway .entry)) (now (answer .entry))) (now (working .entry))
         (workingAdmitted (gatewayAt (now (gateway .entry)) .size) (verdictOf verdict) (now (message .entry)) (now (keys .entry))
         (now (working .entry))) ⌝ }
-    ensures { λ _. ⌜ now (answer .exit) ≡ cond (wrongCall (now (gateway .entry)) (now (answer .entry))) (now (answer .entry))
-        (answerAfter (step (gatewayAt (now (gateway .entry))) (now (message .entry)) (now (keys .entry)) (now (working .entry))
+    ensures { λ _. ⌜ now (answer .exit) ≡ cond (wrongGatewayStep (now (gateway .entry)) (now (answer .entry))) (now (answer .entry))
+        (gatewayAnswer (step (gatewayAt (now (gateway .entry))) (now (message .entry)) (now (keys .entry)) (now (working .entry))
         (verdictOf verdict))) ⌝ }
 {
     if (gateway.len() != GATEWAY) | (answer.len() != ANSWER) {
@@ -115,8 +115,8 @@ pub extern "C" fn hub_gateway_step(
 // The request that is due on the gateway's connection in a state buffer: its type, or 256 where none is.
 #[no_mangle]
 pub extern "C" fn hub_gateway_due(gateway: &[u8], due: &mut [u64]) -> u32
-    ensures { λ r. ⌜ r ≡ cond (wrongDue (now (gateway .entry)) (now (due .entry))) wrongBuffer 0 ⌝ }
-    ensures { λ _. ⌜ now (due .exit) ≡ cond (wrongDue (now (gateway .entry)) (now (due .entry))) (now (due .entry))
+    ensures { λ r. ⌜ r ≡ cond (wrongGatewayDue (now (gateway .entry)) (now (due .entry))) wrongBuffer 0 ⌝ }
+    ensures { λ _. ⌜ now (due .exit) ≡ cond (wrongGatewayDue (now (gateway .entry)) (now (due .entry))) (now (due .entry))
         (dueNumber (dueIn (gatewayAt (now (gateway .entry)) .state)) ∷ []) ⌝ }
 {
     if (gateway.len() != GATEWAY) | (due.len() != DUE) {

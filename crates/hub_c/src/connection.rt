@@ -3,7 +3,7 @@
 use super::words::ANSWER;
 use super::words::WRONG_BUFFER;
 use super::words::fill;
-use super::words::put_triple;
+use super::words::put_said;
 use hub::Connection;
 use hub::Stepped;
 use joining::cut::bad_size;
@@ -70,7 +70,7 @@ fn settle(stepped: Stepped, state: &mut [u8], answer: &mut [u64]) -> u32
 {
     let given = stepped.answer;
     let said = given.said();
-    put_triple(answer, said.kind, said.value, said.detail);
+    put_said(answer, said);
     if said.refusal != 0 {
         return said.refusal as u32;
     }

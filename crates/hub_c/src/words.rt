@@ -1,11 +1,13 @@
 // SPDX-License-Identifier: MPL-2.0
 // Answers of several numbers, written as words of 64 bits.
+use joining::answer::Said;
 use writer::Written;
 ghost use mathlib.Core.Path.{_≡_};
 ghost use mathlib.Core.List.{_∷_, []};
 ghost use lib.ListN.{getD, length};
 ghost use lib.Seq.{sets};
 ghost use Rattle.writer.specs.Answers.{wrote};
+ghost use Rattle.hub_c.specs.Answered.{saidWords};
 
 // The number of a call that was lent a buffer of the wrong size, or given a word too wide for its field.
 pub(crate) const WRONG_BUFFER: u32 = 255;
@@ -90,4 +92,12 @@ pub(crate) fn put_triple(out: &mut [u64], a: u64, b: u64, c: u64)
     ensures { λ _. ⌜ now (out .exit) ≡ a ∷ b ∷ c ∷ [] ⌝ }
 {
     put_three(out, 0, a, b, c);
+}
+
+// Puts the words of what a step answers, in either role: kind, value, detail.
+pub(crate) fn put_said(out: &mut [u64], said: Said)
+    requires { ⌜ length (now out) ≡ 3 ⌝ }
+    ensures { λ _. ⌜ now (out .exit) ≡ saidWords said ⌝ }
+{
+    put_triple(out, said.kind, said.value, said.detail);
 }

@@ -59,11 +59,11 @@ wrongPadding = 13
 abbrev pub wrongPayload : ℕ
 wrongPayload = 14
 
--- message not allowed in this state
+-- message not allowed in this state, by role
 abbrev pub notAllowed : ℕ
 notAllowed = 15
 
--- state not 0 and another SessionID
+-- state not 0 and another SessionID; on the gateway's side another SessionID in every state
 abbrev pub otherSession : ℕ
 otherSession = 16
 

@@ -30,9 +30,9 @@ pub const SHORT_WORKING: u8 = 12;
 pub const WRONG_PADDING: u8 = 13;
 // Discovery or Connect payload not as above.
 pub const WRONG_PAYLOAD: u8 = 14;
-// Message not allowed in this state.
+// Message not allowed in this state, by role.
 pub const NOT_ALLOWED: u8 = 15;
-// State not 0 and another SessionID.
+// State not 0 and another SessionID; on the gateway's side another SessionID in every state.
 pub const OTHER_SESSION: u8 = 16;
 // SequenceNumber below the expected one.
 pub const PAST_SEQUENCE: u8 = 17;

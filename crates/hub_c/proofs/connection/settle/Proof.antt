@@ -9,17 +9,17 @@ returns : tie.Need-returns
 unfolding stateAfter
 returns c =
     let at-said : tie.After-said = search in
-    let at-put : tie.After-put-triple = search in
+    let at-put : tie.After-put-said = search in
     let refused : tie.Then1 = search in
-    rw (← at-said .said .ensures, ne-eqb _ _ (refused .if1 .taken)) (refl, (refl, at-put .put-triple .ensures))
+    rw (← at-said .said .ensures, ne-eqb _ _ (refused .if1 .taken)) (refl, (refl, at-put .put-said .ensures))
 
 returns-2 : tie.Need-returns-2
 unfolding stateAfter
 returns-2 c =
     let at-said : tie.After-said = search in
-    let at-put : tie.After-put-triple = search in
+    let at-put : tie.After-put-said = search in
     let good : tie.Else1 = search in
-    rw (← at-said .said .ensures, eq-eqb _ _ (good .if1 .left)) (sym (good .if1 .left), (search, at-put .put-triple .ensures))
+    rw (← at-said .said .ensures, eq-eqb _ _ (good .if1 .left)) (sym (good .if1 .left), (search, at-put .put-said .ensures))
 
 pub settle-spec : {M : Type 1} → statement M
 settle-spec =
