@@ -65,7 +65,7 @@
  * Vectors and numbers. A sealed message's vector is made of SessionID, SequenceNumber, FragmentIndex and FragmentCount. Under one set of keys two
  * sealed messages of different content must never have the same four, whichever side sends them. Reports are numbered from 0 on, one number each.
  * Once one piece of a number was sent, the number belongs to those bytes for good. A gateway that has lost them (it was restarted) starts over with
- * new keys, for otherwise the hub joins a mixture, and vectors repeat. The hub does not look at the SequenceNumber of a Connect message, so give
+ * new keys, for otherwise the hub joins a mixture, and vectors repeat. Neither side looks at the SequenceNumber of a Connect message, so give
  * those numbers that no report has, and hub and gateway a range each: host/c counts the gateway's Connect messages from 0x80000000 on, the hub's
  * from 0xC0000000. Then open a new connection, with new keys, before report 0x80000000.
  *
@@ -88,8 +88,8 @@
  * message, hub_read opens it, hub_payload says where its payload lies, and hub_read_connect where in that its certificate. For every other message
  * any verdict of 0 or 1 gives the same. A certificate alone proves nothing: it is public, and anybody can show a copy. Give verdict 1 only where the
  * sender has proved that he holds its key: verify the thumbprint as a signature over both nonces and both public keys, or derive the 64 key bytes
- * from a secret that only this gateway has. Where certificates are compared, compare their lengths as well as their bytes. Verdict 0 is final: where
- * you cannot judge yet, hold the message back and do not step.
+ * from a secret that only the sender and you have. Where certificates are compared, compare their lengths as well as their bytes. Verdict 0 is final:
+ * where you cannot judge yet, hold the message back and do not step.
  *
  * Failure. On HUB_KIND_FAILURE the verdict was 0. MS-CDP (2.2.2.3.10) says: "If the authentication process itself fails to complete, an empty
  * payload is returned", and gives this message the type number 8, HUB_AUTHENTICATION_FAILURE. How it is sent is the caller's: hub_write refuses it
@@ -960,9 +960,9 @@ uint32_t hub_gateway_open(uint64_t fragment_size, uint64_t session, uint8_t *gat
  *           The first bytes of working hold the opened sealed part of a sealed message.
  * On refusal answer is 0, 0, 0 (HUB_KIND_REFUSED); gateway is as it was. So is working for 1 to 13, 24 and 25; for the others its first bytes hold
  *           the opened sealed part of a sealed message.
- * Proved    GatewayExact, GatewayLeavesAlone, WorkingBuffer, ByGatewayStates. OneSession: a gateway and a new hub that hear only what the other
- *           wrote, lost and repeated at will, and with verdict 1 always, never differ in the SessionID of a request. NeverWedged: and whatever was
- *           lost, both can still become ready.
+ * Proved    GatewayExact, GatewayLeavesAlone, GatewayKeeps, WorkingBuffer, ByGatewayStates. OneSession: a gateway and a new hub that hear only
+ *           what the other wrote, lost and repeated at will, with the same keys, working buffers that are long enough and verdict 1 always, never
+ *           differ in the SessionID of a request. NeverWedged: and whatever was lost, both can still become ready.
  */
 HUB_ANSWER_MATTERS
 uint32_t hub_gateway_step(uint8_t *gateway, size_t gateway_n, const uint8_t *message, size_t message_n, const uint8_t *keys, size_t keys_n,

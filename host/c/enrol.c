@@ -146,5 +146,5 @@ int main(void)
     }
     if (gateway_state[HUB_GATEWAY_STATE] == HUB_GATEWAY_READY)
         send_report();
-    return 0;
+    return gateway_state[HUB_GATEWAY_STATE] != HUB_GATEWAY_READY;
 }

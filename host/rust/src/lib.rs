@@ -242,7 +242,7 @@
 //! belongs to those bytes for good. A gateway that has lost them (it was restarted) starts over
 //! with new keys, for else the hub joins a mixture and vectors repeat.
 //!
-//! The hub does not look at the SequenceNumber of a Connect message, so give those numbers that no
+//! Neither side looks at the SequenceNumber of a Connect message, so give those numbers that no
 //! report has, and hub and gateway a range each: the page above counts the gateway's from
 //! 0x8000_0000 on, the hub's from 0xC000_0000. Then open a new connection, with new keys, before
 //! report 0x8000_0000, and not only after 2^32 - 2, the last number that a report may have.
@@ -287,7 +287,7 @@
 //! A certificate alone proves nothing: it is public, and anybody can show a copy. Give the verdict
 //! `true` only where the sender has proved that he holds its key: verify the thumbprint as a
 //! signature over both nonces and both public keys, or derive the 64 key bytes from a secret that
-//! only this gateway has.
+//! only the sender and you have.
 //!
 //! The verdict `false` is final ([`State::Failed`]): where you cannot judge yet, hold the message
 //! back and do not step.
