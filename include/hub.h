@@ -112,9 +112,10 @@
  *
  * Lost replies. Where no reply comes in its time, send the bytes of the request that is due once more: the same bytes, never with a new nonce, for a
  * hub that has taken the first one refuses the other with 15. Nothing in the library makes a nonce, and the 17 bytes of a gateway's connection have
- * none. On HUB_KIND_AGAIN a reply has come that was taken before: send the request that answer names, the one that follows this reply, once more,
- * the same bytes too; after an Authentication Done Response it is HUB_NOTHING_DUE, and there is nothing to send. Only the type of such a reply is
- * looked at, and its Result, its Status or the verdict: so keep the keys, whatever nonce, X and Y a second Connection Response has.
+ * none. On HUB_KIND_AGAIN a reply has come that was taken before: send the request that answer names, the one that follows this reply, once more, the
+ * same bytes too; after an Authentication Done Response it is HUB_NOTHING_DUE, and there is nothing to send. Bound how often: a plain Connection
+ * Response that was copied or forged brings this about too. Only the type of such a reply is looked at, and its Result, its Status or the verdict: so
+ * keep the keys, whatever nonce, X and Y a second Connection Response has.
  *
  * Turned away. A Connection Response of another Result than HUB_PENDING, an Authentication Done Response of another Status than HUB_SUCCESS, and a
  * Device Authentication Response with verdict 0 are answered HUB_KIND_FAILED, whenever they come, in Ready too. The verdict is on the hub's
@@ -123,7 +124,8 @@
  * is plain: whoever has seen the SessionID can make one of another Result, and throw a gateway out, at the start and when it is Ready. To be spared
  * that, look at plain Connection Responses before the step once the state is not HUB_GATEWAY_WAITING_FOR_RESPONSE any longer, and drop those whose
  * Result is not HUB_PENDING (host/c/gateway.c); or start over. One that is HUB_PENDING and was forged, or damaged, leads to keys that the hub does
- * not have: no sealed request is replied to, and after some tries the gateway starts over, with all of these new.
+ * not have: the hub replies to no sealed request, and after some tries the gateway starts over, with all of these new. A forger who has these keys
+ * can reply: only the verdict stands against him (see Verdicts above).
  *
  * Presence. A presence call asks who is there. It is a plain message: hub_read needs neither keys nor working for it. Its type is HUB_TYPE_DISCOVERY,
  * hub_payload says where its payload lies, and hub_read_discovery that this is a HUB_PRESENCE_REQUEST. The answer's payload is made by
@@ -148,16 +150,17 @@
  * of its requests, and the number that its next report has: store them together, or enrol anew.
  *
  * Refusals. Most are harmless, and a hub drops the message and goes on: connection and report buffer are as they were. 17 is what late copies of a
- * report that is complete get, 11 what damaged or foreign bytes do, 15 and 16 what strangers do and a gateway that starts over; 15 is also what
- * every well-formed Discovery message gets (see Presence). 18 is a report that comes too early: it is sent again, or lost; where 18 comes again and
- * again the expected report will never be finished, and nothing later is taken: open anew, with new keys. 11 of every sealed message says that the
- * two sides have different keys, 20 that they have a different F; 13, 14, 21 and 23 of a sealed message say that the gateway is wrong or has used a
+ * report that is complete get, 11 what damaged or foreign bytes do, 15 and 16 what strangers do and a gateway that starts over; 15 is also what every
+ * well-formed Discovery message gets (see Presence). 18 is a report that comes too early: it is sent again, or lost; where 18 comes again and again
+ * the expected report will never be finished, and nothing later is taken: open anew, with new keys. 11 of every sealed message says that the two
+ * sides have different keys, 20 that they have a different F; 13, 14, 21 and 23 of a sealed message say that the gateway is wrong or has used a
  * number twice, or, 23, that the report buffer was touched. In a stream 2 and 3 mean that the framing is lost: close it. 19 is for a number that no
  * report has, 2^32 - 1. 10, 12, 22, 24, 25 and 255 are the caller's own: keys, a buffer, F or a verdict are not as they should be. But until there
  * are keys 10 is a sealed message that comes too early; and a gateway can bring about 12 and 22 where working is shorter than HUB_MOST_SEALED, or
- * report than 64 times F. A gateway drops what is refused too: its connection is as it was. 16 is another SessionID there, in every state, and 15 a
- * reply out of order, a request, a Session or a Discovery message, and all that comes after HUB_KIND_FAILED; 11 of every sealed message says there
- * too that the two sides have different keys. hub_text has a sentence for each.
+ * report than 64 times F. A gateway drops what is refused too: its connection is as it was. 12 there is what a hub brings about where working is
+ * shorter than HUB_MOST_SEALED, 16 is another SessionID there, in every state, and 15 a reply out of order, a request, a Session or a Discovery
+ * message, and all that comes after HUB_KIND_FAILED; 11 of every sealed message says there too that the two sides have different keys. hub_text has a
+ * sentence for each.
  *
  *
  * WHO OWNS WHICH MEMORY
@@ -961,8 +964,9 @@ uint32_t hub_gateway_open(uint64_t fragment_size, uint64_t session, uint8_t *gat
  * On refusal answer is 0, 0, 0 (HUB_KIND_REFUSED); gateway is as it was. So is working for 1 to 13, 24 and 25; for the others its first bytes hold
  *           the opened sealed part of a sealed message.
  * Proved    GatewayExact, GatewayLeavesAlone, GatewayKeeps, WorkingBuffer, ByGatewayStates. OneSession: a gateway and a new hub that hear only
- *           what the other wrote, lost and repeated at will, with the same keys, working buffers that are long enough and verdict 1 always, never
- *           differ in the SessionID of a request. NeverWedged: and whatever was lost, both can still become ready.
+ *           what the other wrote of one enrolment (one nonce, X, Y and certificate of the gateway), lost and repeated at will, with the same keys,
+ *           working buffers that are long enough and verdict 1 always, never differ in the SessionID of a request. NeverWedged: and whatever was
+ *           lost, both can still become ready.
  */
 HUB_ANSWER_MATTERS
 uint32_t hub_gateway_step(uint8_t *gateway, size_t gateway_n, const uint8_t *message, size_t message_n, const uint8_t *keys, size_t keys_n,

@@ -17,7 +17,7 @@ pub struct Said {
     pub refusal: u8,
     // Which case it is: 0 Refused, 1 Reply, 2 Again, 3 Failure, 4 Taken, 5 Repeat, 6 Complete; on the gateway's side 7 Next, 8 Ready, 9 Failed.
     pub kind: u64,
-    // How many different pieces have come; of a reply, and of a request, its Connect type.
+    // How many different pieces have come; of a reply, and of a request, its Connect type, and 256 for no request.
     pub value: u64,
     // Of Complete the report's length; of a reply its Status.
     pub detail: u64,

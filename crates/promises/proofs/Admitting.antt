@@ -1,9 +1,9 @@
 -- SPDX-License-Identifier: MPL-2.0
 -- Demand 1 for a step of either role: its table is that of 25 and 24, the reader's, and the role's own.
 use Rattle.laws.proofs.Kit.{ℕ, _≡_, sym, _∙_, ap, true, false, List, _++_, length, eqb, eqb-true, eqb-false, le-ltb, refl, _≤_, arith}
+use mathlib.Core.Bool.{Bool}
 use Rattle.laws.specs.Bytes.{AreBytes}
 use Rattle.laws.specs.Rows.{first, orElse, numbered, leads}
-use mathlib.Core.Bool.{Bool}
 use Rattle.laws.proofs.Cases.{on}
 use Rattle.laws.proofs.Firsts.{first-append, neither}
 use Rattle.wire.specs.Reader.{headerOf, refusalOf}

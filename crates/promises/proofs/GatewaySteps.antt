@@ -2,6 +2,7 @@
 -- A step of the gateway whose message is read hears it, and the first line of "Gateway states" that applies is the one of the sentence.
 use Rattle.laws.proofs.Kit.{ℕ, _≤_, _<_, _≡_, refl, _∙_, ap, Bool, true, false, List, cond, eqb, ltb, eqb-true, eqb-false, eq-eqb, ne-eqb, lt-ltb}
 use Rattle.laws.proofs.Kit.{le-ltb, inl, inr, arith, _+_}
+use mathlib.Core.Logic.{_⊎_}
 use Rattle.wire.specs.declared.header.Header.{Header}
 use Rattle.payloads.specs.Reading.{connectType, codeOf}
 use Rattle.joining.specs.declared.answer.Said.{Said}
@@ -15,7 +16,6 @@ use Rattle.gateway.specs.declared.Due.the-variants.{Request, Nothing}
 use Rattle.gateway.specs.declared.Answer.{Answer}
 use Rattle.gateway.specs.declared.Answer.the-variants.{Next, Ready, Failed, Again}
 use Rattle.gateway.specs.Answers.{said, dueIn, next, again, nowReady, nowFailed}
-use mathlib.Core.Logic.{_⊎_}
 use Rattle.gateway.specs.Client.{stepped, refuse, inState, fails, replied, take, client}
 use Rattle.gateway.specs.Step.{hear, step}
 use Rattle.gateway.specs.Calls.{after}

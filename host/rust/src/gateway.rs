@@ -99,8 +99,8 @@ pub enum GatewayAnswer {
     Next(Request),
     /// The last reply was taken: reports may be sent.
     Ready,
-    /// The hub turns the gateway away, or its certificate was not accepted. From here on every
-    /// message is refused: start over, by [`Gateway::open`].
+    /// The hub turns the gateway away, or the hub's certificate was not accepted. From here on
+    /// every message is refused: start over, by [`Gateway::open`].
     Failed,
     /// A reply has come that was taken before, and nothing has changed. Send the same bytes of this
     /// request again, the one that follows this reply; after the last reply there is none.

@@ -341,9 +341,9 @@
 //!
 //! On [`GatewayAnswer::Again`] a reply has come that was taken before: send the request that it
 //! names, the one that follows this reply, once more, the same bytes too. After an Authentication
-//! Done Response there is none to send. Only the type of such a reply is looked at, and its Result,
-//! its Status or the verdict: so keep the keys, whatever nonce, X and Y a second Connection Response
-//! has.
+//! Done Response there is none to send. Bound how often: a plain Connection Response that was copied
+//! or forged brings this about too. Only the type of such a reply is looked at, and its Result, its
+//! Status or the verdict: so keep the keys, whatever nonce, X and Y a second Connection Response has.
 //!
 //! ## Turned away
 //!
@@ -360,8 +360,9 @@
 //! Connection Responses before the step once the state is not
 //! [`WaitingForResponse`](GatewayState::WaitingForResponse) any longer, and drop those whose Result
 //! is not Pending; or start over. One that is Pending and was forged, or damaged, leads to keys that
-//! the hub does not have: no sealed request is replied to, and after some tries the gateway starts
-//! over, with all of these new.
+//! the hub does not have: the hub replies to no sealed request, and after some tries the gateway
+//! starts over, with all of these new. A forger who has these keys can reply: only the verdict
+//! stands against him ([Verdicts](#verdicts)).
 //!
 //! ## Presence
 //!

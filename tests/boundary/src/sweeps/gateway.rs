@@ -13,9 +13,9 @@ use crate::gateways::{due, open};
 use crate::hub_h::{Hub, WRONG_BUFFER};
 use crate::state::GATEWAY;
 
-/// Every word of up to so many letters, each heard in the state that the word before it has led to;
-/// a letter is a message with a verdict, by its number and by how often it came. A word ends with
-/// the first letter after Failed, which no message leaves.
+/// Every order of up to so many of these, each heard in the state that those before it have led to;
+/// each is a message with a verdict, by its number and by how often it came. An order ends with the
+/// first after Failed, which no message leaves.
 fn all_words<'a>(
     comparison: &mut Comparison<Hub>,
     longest: usize,
