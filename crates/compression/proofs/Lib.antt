@@ -1,4 +1,4 @@
 -- SPDX-License-Identifier: MPL-2.0
 pub mod Bitwise
-pub mod Schedules
-pub mod Constants
+pub mod Rings
+pub mod Turns

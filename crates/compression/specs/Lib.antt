@@ -2,3 +2,4 @@
 pub mod Words
 pub mod Constants
 pub mod Compression
+pub mod Ring

@@ -1,5 +1,6 @@
 // SPDX-License-Identifier: MPL-2.0
 // FIPS 180-4 §6.2.2 for SHA-256: one block into the hash value.
+mod constants;
 mod rounds;
 mod schedule;
 mod word;
@@ -7,7 +8,6 @@ mod word;
 use rounds::added;
 use rounds::all_rounds;
 ghost use mathlib.Core.Path.{_≡_};
-ghost use lib.ListN.{take};
 ghost use Rattle.compression.specs.Compression as fips;
 
 // A hash value, and the working variables: eight words.
@@ -22,10 +22,10 @@ pub struct Vars {
     pub h: u32,
 }
 
-// The hash value after a block, whose sixteen words are the first of w. The others are room for the schedule, whatever they are.
-pub fn compress(v: Vars, w: [u32; 64]) -> Vars
-    ensures { λ r. ⌜ r ≡ fips.compress v (take 16 w) ⌝ }
+// The hash value after a block of sixteen words.
+pub fn compress(v: Vars, block: [u32; 16]) -> Vars
+    ensures { λ r. ⌜ r ≡ fips.compress v block ⌝ }
 {
-    let mut schedule = w;
-    added(v, all_rounds(v, &mut schedule))
+    let mut ring = block;
+    added(v, all_rounds(v, &mut ring))
 }

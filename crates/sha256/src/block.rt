@@ -4,7 +4,7 @@ use compression::Vars;
 use compression::compress;
 ghost use mathlib.Core.Path.{_≡_};
 ghost use Prim.Native.Nat.{_<_, _≤_, _+_};
-ghost use lib.ListN.{length, take};
+ghost use lib.ListN.{length};
 ghost use Rattle.laws.specs.Bytes.{be16, be32};
 ghost use Rattle.sha256.specs.Digests.{words, afterBlock};
 
@@ -28,12 +28,12 @@ fn word_at(m: &[u8], at: usize) -> u32
     half_at(m, at) * 65536 + half_at(m, at + 2)
 }
 
-// The block's sixteen words, with room after them for the schedule.
-fn load(block: &[u8]) -> [u32; 64]
+// The block's sixteen words.
+fn load(block: &[u8]) -> [u32; 16]
     requires { ⌜ length (now block) ≡ 64 ⌝ }
-    ensures { λ r. ⌜ take 16 r ≡ words (now (block .entry)) 16 ⌝ }
+    ensures { λ r. ⌜ r ≡ words (now (block .entry)) 16 ⌝ }
 {
-    let mut w = [0u32; 64];
+    let mut w = [0u32; 16];
     let mut n: usize = 0;
     while n < 16 {
         w[n] = word_at(block, 4 * n);

@@ -1,13 +1,13 @@
 -- SPDX-License-Identifier: MPL-2.0
 -- The invariant: the first n words are loaded.
-use Rattle.laws.proofs.Kit.{_-_, _≤_, _≡_, length, take, arith, needs}
+use Rattle.laws.proofs.Kit.{_-_, _≤_, _≡_, length, take, take-all, arith, needs}
 use Rattle.sha256.specs.Digests.{words}
 use Rattle.sha256.proofs.Hashing.{words-more}
 use Rattle.sha256.proofs.block.load.Statement.{statement}
 use Rattle.sha256.proofs.block.load.Tie as tie
 
 abbrev Inv-loop : tie.InvT-loop
-Inv-loop block w₀ n₀ w n = (n ≤ 16) × (length w ≡ 64) × (take n w ≡ words block n)
+Inv-loop block w₀ n₀ w n = (n ≤ 16) × (length w ≡ 16) × (take n w ≡ words block n)
 
 abbrev μ-loop : tie.MeasureT-loop
 μ-loop block w₀ n₀ w n = 16 - n
@@ -21,4 +21,7 @@ load-spec =
     (λ c.
     let l = c .before .before .loop in
     (search needs, search needs, words-more _ (l .w) (l .n) _ (omega arith) (l .inv .2) (c .word-at .ensures)))
-    λ c. let e : c .before .loop .n ≡ 16 = omega arith in rw e at (c .before .loop .inv .2))
+    λ c.
+    let l = c .before .loop in
+    let e : l .n ≡ 16 = omega arith in
+    rw (e, take-all 16 (l .w) (omega arith)) at (l .inv .2))
