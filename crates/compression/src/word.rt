@@ -32,26 +32,30 @@ pub(crate) fn maj(x: u32, y: u32, z: u32) -> u32
     ((x ^ y) & (y ^ z)) ^ y
 }
 
+// By 2, by 2 + 11 and by 2 + 11 + 9. Nested, the rotations take one copy of x for three: a rotation overwrites what it turns.
 pub(crate) fn big_sigma0(x: u32) -> u32
     ensures { λ r. ⌜ r ≡ Σ0 x ⌝ }
 {
-    rotr(x, 2) ^ rotr(x, 13) ^ rotr(x, 22)
+    rotr(x ^ rotr(x ^ rotr(x, 9), 11), 2)
 }
 
+// As the standard writes it, side by side: the next round waits for this one.
 pub(crate) fn big_sigma1(x: u32) -> u32
     ensures { λ r. ⌜ r ≡ Σ1 x ⌝ }
 {
     rotr(x, 6) ^ rotr(x, 11) ^ rotr(x, 25)
 }
 
+// The rotations by 7 and by 7 + 11.
 pub(crate) fn small_sigma0(x: u32) -> u32
     ensures { λ r. ⌜ r ≡ σ0 x ⌝ }
 {
-    rotr(x, 7) ^ rotr(x, 18) ^ (x >> 3)
+    rotr(x ^ rotr(x, 11), 7) ^ (x >> 3)
 }
 
+// The rotations by 17 and by 17 + 2.
 pub(crate) fn small_sigma1(x: u32) -> u32
     ensures { λ r. ⌜ r ≡ σ1 x ⌝ }
 {
-    rotr(x, 17) ^ rotr(x, 19) ^ (x >> 10)
+    rotr(x ^ rotr(x, 2), 17) ^ (x >> 10)
 }
