@@ -3,7 +3,7 @@
 use crate::block::absorb_block;
 use crate::parts::hash;
 use crate::store::bytes_of;
-use crate::store::padding_of;
+use crate::store::put_padding;
 use crate::store::zeros_of;
 use compression::Vars;
 ghost use mathlib.Core.Path.{_≡_};
@@ -56,7 +56,8 @@ fn finish(v: Vars, done: usize, first: &[u8], second: &[u8], third: &[u8]) -> [u
         ++ padding (done + (length (now (first .entry)) + (length (now (second .entry)) + length (now (third .entry))))))) ⌝ }
 {
     let total = done + (first.len() + (second.len() + third.len()));
-    let tail = padding_of(total);
+    let mut tail = [0u8; 72];
+    put_padding(&mut tail, total);
     let count = 9 + zeros_of(total);
     bytes_of(hash(v, first, second, third, &tail[0..count]))
 }

@@ -3,7 +3,7 @@
 use compression::Vars;
 ghost use mathlib.Core.Path.{_≡_};
 ghost use Prim.Native.Nat.{_<_, _≤_, _+_, _^_};
-ghost use lib.ListN.{length, take};
+ghost use lib.ListN.{length, replicate, take};
 ghost use lib.Seq.{sets};
 ghost use Rattle.laws.specs.Bytes.{bytes32, bytes64};
 ghost use Rattle.sha256.specs.Digests.{zeros, padding, bytesOf};
@@ -44,15 +44,13 @@ pub(crate) fn zeros_of(total: usize) -> usize
     (119 - total % 64) % 64
 }
 
-// The padding of a message of `total` bytes, with room after it: it is the first 9 + zeros_of(total) bytes.
-pub(crate) fn padding_of(total: usize) -> [u8; 72]
-    requires { ⌜ total < 2 ^ 61 ⌝ }
-    ensures { λ r. ⌜ take (9 + zeros total) r ≡ padding total ⌝ }
+// The padding of a message of `total` bytes, put over zeros: the first 9 + zeros_of(total) bytes. A lent array is not copied on its way back.
+pub(crate) fn put_padding(p: &mut [u8; 72], total: usize)
+    requires { ⌜ (now p ≡ replicate 72 0) × (total < 2 ^ 61) ⌝ }
+    ensures { λ _. ⌜ (length (now (p .exit)) ≡ 72) × (take (9 + zeros total) (now (p .exit)) ≡ padding total) ⌝ }
 {
-    let mut p = [0u8; 72];
     p[0] = 0x80;
-    put64(&mut p, 1 + zeros_of(total), (8 * total) as u64);
-    p
+    put64(p, 1 + zeros_of(total), (8 * total) as u64);
 }
 
 // The thirty-two bytes of a hash value.

@@ -1,6 +1,6 @@
 -- SPDX-License-Identifier: MPL-2.0
 -- The padding is a fourth part after the three.
-use Rattle.laws.proofs.Kit.{_-_, append-assoc, needs}
+use Rattle.laws.proofs.Kit.{append-assoc, needs}
 use native.Mathlib.Nat.{sub-zero}
 use Rattle.sha256.proofs.message.finish.Statement.{statement}
 use Rattle.sha256.proofs.message.finish.Tie as tie
@@ -11,4 +11,4 @@ finish-spec =
     (λ c. search needs) (λ c. search needs) (λ c. search needs) (λ c κs. search needs) _
     (λ c. search needs) (λ c. search needs) (λ c. search needs) (λ c. search needs) (λ c κs. search needs) _ λ c.
     let z = c .before .before .before .before in
-    simp append-assoc (rw (c .bytes-of .ensures, c .before .hash .ensures, sub-zero, z .zeros-of .ensures .0, z .before .padding-of .ensures)))
+    simp append-assoc (rw (c .bytes-of .ensures, c .before .hash .ensures, sub-zero, z .zeros-of .ensures .0, z .before .put-padding .ensures .1)))
