@@ -436,7 +436,7 @@
 //! hold what was opened.
 //!
 //! The stack that each call takes stands in a table in include/hub.h. The largest is hub_step,
-//! which [`Connection::step`] calls, with some 3,600 bytes. This is measured and not proved; what
+//! which [`Connection::step`] calls, with some 3,300 bytes. This is measured and not proved; what
 //! the code of this crate takes comes on top.
 //!
 //! # Secrets and time
