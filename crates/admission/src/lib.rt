@@ -1,5 +1,7 @@
 // SPDX-License-Identifier: MPL-2.0
 // What a step does in either role before its states are asked: 25, 24, then the reader (1 to 14); and the test of 16.
+#![tactic(auto)]
+
 ghost use Rattle.std.specs.Prelude.{◌≡◌, length};
 ghost use Rattle.admission.specs.Admission.{admit, working_admitted, another_session};
 

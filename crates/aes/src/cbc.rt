@@ -147,7 +147,7 @@ fn sum(a: [u8; 16], b: [u8; 16]) -> [u8; 16]
 }
 
 // Two blocks of plain text.
-#[derive(Drop)]
+#[derive(Clone, Copy)]
 pub struct Ends {
     pub first: [u8; 16],
     pub last: [u8; 16],

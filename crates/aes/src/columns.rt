@@ -5,7 +5,7 @@ ghost use Rattle.field.specs.Words.{word, byte_at};
 ghost use Rattle.aes.specs.State.{add_round_key};
 ghost use Rattle.aes.specs.Words.{bytes_of};
 
-#[derive(Drop)]
+#[derive(Clone, Copy)]
 pub struct State {
     pub a: u32,
     pub b: u32,

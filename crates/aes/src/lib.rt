@@ -3,6 +3,8 @@
 // rounds, key, roundkeys, block, cbc.
 //
 // NOT constant-time: tables are read at places that depend on key and data, which whoever shares the processor's cache can observe.
+#![tactic(auto)]
+
 pub mod block;
 pub mod cbc;
 mod columns;

@@ -4,11 +4,11 @@ ghost use Rattle.std.specs.Prelude.{◌≡◌, ◌+◌, ◌%◌, ◌≤◌, [], 
 ghost use Rattle.compression.specs.Constants.{K256};
 
 // The constants of four rounds.
-#[derive(Drop)]
+#[derive(Clone, Copy)]
 pub(crate) struct Four(pub u32, pub u32, pub u32, pub u32);
 
 // The constants of a turn. Declared from the last to the first, they make the code nine instructions shorter a block.
-#[derive(Drop)]
+#[derive(Clone, Copy)]
 pub(crate) struct Sixteen {
     pub d: Four,
     pub c: Four,

@@ -1,5 +1,7 @@
 // SPDX-License-Identifier: MPL-2.0
 // FIPS 180-4 §6.2.2 for SHA-256: one block into the hash value.
+#![tactic(auto)]
+
 mod constants;
 mod rounds;
 mod schedule;
@@ -11,7 +13,7 @@ ghost use Rattle.compression.specs.Compression as fips;
 use rounds::{added, all_rounds};
 
 // A hash value, and the working variables: eight words.
-#[derive(Drop)]
+#[derive(Clone, Copy)]
 pub struct Vars {
     pub a: u32,
     pub b: u32,

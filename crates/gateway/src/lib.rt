@@ -1,5 +1,7 @@
 // SPDX-License-Identifier: MPL-2.0
 // A connection of the gateway: opening it, the request that is due, and what each message does to it (document 01, "Gateway states").
+#![tactic(auto)]
+
 mod hear;
 mod numbers;
 mod step;
@@ -13,7 +15,7 @@ use payloads::{CONNECTION_REQUEST, DEVICE_REQUEST, DONE_REQUEST};
 use wire::refusals;
 
 // What a gateway remembers of its enrolment. It goes through a step as a value and comes back as one.
-#[derive(Drop)]
+#[derive(Clone, Copy)]
 pub struct Gateway {
     // The fragment size.
     pub size: usize,
@@ -39,7 +41,7 @@ pub const READY: u8 = 3;
 pub const FAILED: u8 = 4;
 
 // The request that is due.
-#[derive(Drop)]
+#[derive(Clone, Copy)]
 pub enum Due {
     // The Connect type of the request that the caller has the writer make, or sends again as it was made.
     Request(u8),
@@ -48,7 +50,7 @@ pub enum Due {
 }
 
 // What a step answers.
-#[derive(Drop)]
+#[derive(Clone, Copy)]
 pub enum Answer {
     // The refusal's number in document 01; the connection is as it was.
     Refused(u8),
@@ -63,14 +65,14 @@ pub enum Answer {
 }
 
 // A connection that was opened; the refusal is 0 where there is none.
-#[derive(Drop)]
+#[derive(Clone, Copy)]
 pub struct Opened {
     pub refusal: u8,
     pub gateway: Gateway,
 }
 
 // The next connection, with the answer beside it.
-#[derive(Drop)]
+#[derive(Clone, Copy)]
 pub struct Stepped {
     pub gateway: Gateway,
     pub answer: Answer,

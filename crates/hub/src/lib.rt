@@ -1,5 +1,7 @@
 // SPDX-License-Identifier: MPL-2.0
 // A connection of the hub: opening it, and what each message does to it (document 01, "Host states").
+#![tactic(auto)]
+
 mod enrol;
 mod hear;
 mod step;
@@ -14,7 +16,7 @@ use joining::{Arrival, Progress};
 use wire::refusals;
 
 // What the hub remembers of a gateway. It goes through a step as a value and comes back as one.
-#[derive(Drop)]
+#[derive(Clone, Copy)]
 pub struct Connection {
     // The fragment size.
     pub size: usize,
@@ -47,7 +49,7 @@ pub const READY: u8 = 3;
 pub const FAILED: u8 = 4;
 
 // What a step answers.
-#[derive(Drop)]
+#[derive(Clone, Copy)]
 pub enum Answer {
     // The refusal's number in document 01; connection and report buffer are as they were.
     Refused(u8),
@@ -74,14 +76,14 @@ pub const FAILURE: u64 = 3;
 const DONE_STATUS: u64 = 0;
 
 // A connection that was opened; the refusal is 0 where there is none.
-#[derive(Drop)]
+#[derive(Clone, Copy)]
 pub struct Opened {
     pub refusal: u8,
     pub connection: Connection,
 }
 
 // The next connection, with the answer beside it.
-#[derive(Drop)]
+#[derive(Clone, Copy)]
 pub struct Stepped {
     pub connection: Connection,
     pub answer: Answer,

@@ -3,6 +3,8 @@
 // document 01's refusal where it refuses, and 255, a number that document 01 does not use, where a buffer of fixed size has another size,
 // a word no room in its field, or the report buffer none for the report. That is judged first, and then nothing is changed. In C a slice is
 // a pointer and a length.
+#![tactic(auto)]
+
 pub mod client;
 pub mod connect;
 pub mod connection;

@@ -1,6 +1,8 @@
 // SPDX-License-Identifier: MPL-2.0
 // A program's standard input, a part of it at a time in a buffer that is read into, taken from at the front and read into again. And what else the
 // programs share: the lines of a text.
+#![tactic(auto)]
+
 ghost use Rattle.std.specs.Prelude.{◌≡◌, false, ◌-◌, ◌≤◌, length, take};
 ghost use Rattle.intake.specs.Buffer.{after_mark, between, fronted, Refilled};
 
@@ -8,7 +10,7 @@ use libc::STDIN_FILENO;
 use octets::bounds::lesser;
 
 // What of the input is in the buffer: the first `held` bytes of it. Whether the input has ended, and whether the run is over.
-#[derive(Drop)]
+#[derive(Clone, Copy)]
 pub struct Held {
     pub held: usize,
     pub ended: bool,

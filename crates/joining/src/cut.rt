@@ -12,7 +12,7 @@ use wire::refusals::{WRONG_FRAGMENT_SIZE, WRONG_PIECE};
 pub const LARGEST: usize = 16384;
 
 // What the cutter answers beside the piece: the refusal's number or 0, and how many pieces the report makes, 0 where it refuses.
-#[derive(Drop)]
+#[derive(Clone, Copy)]
 pub struct Cutting {
     pub refusal: u8,
     pub count: usize,

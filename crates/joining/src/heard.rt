@@ -10,7 +10,7 @@ pub const PIECES: usize = wire::header::MOST_PIECES as usize;
 const TURN: u8 = 128;
 
 // A heard set, and how many of the indexes under a count are in it.
-#[derive(Drop)]
+#[derive(Clone, Copy)]
 pub struct Marked {
     pub heard: [bool; PIECES],
     pub told: u8,

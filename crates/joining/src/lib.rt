@@ -1,5 +1,7 @@
 // SPDX-License-Identifier: MPL-2.0
 // Cutting a report into pieces and joining them again: document 01, "Cutting and joining".
+#![tactic(auto)]
+
 pub mod answer;
 pub mod cut;
 mod heard;
@@ -23,7 +25,7 @@ use wire::refusals::{
 const UNUSED: u32 = 4294967295;
 
 // What a connection remembers of the message that it expects.
-#[derive(Drop)]
+#[derive(Clone, Copy)]
 pub struct Progress {
     // The SequenceNumber that is expected.
     pub expected: u32,
@@ -37,7 +39,7 @@ pub struct Progress {
 }
 
 // What a Session message's header says of the piece that it brings.
-#[derive(Drop)]
+#[derive(Clone, Copy)]
 pub struct Piece {
     pub sequence: u32,
     pub channel: u64,
@@ -46,7 +48,7 @@ pub struct Piece {
 }
 
 // What the arrival of a piece is answered. Taken, Repeat and `heard` tell how many different pieces of its message have come.
-#[derive(Drop)]
+#[derive(Clone, Copy)]
 pub enum Arrival {
     // The refusal's number in document 01.
     Refused(u8),
@@ -56,7 +58,7 @@ pub enum Arrival {
 }
 
 // What is remembered after a piece, and the answer to it.
-#[derive(Drop)]
+#[derive(Clone, Copy)]
 pub struct Joined {
     pub progress: Progress,
     pub answer: Arrival,

@@ -1,5 +1,5 @@
 -- SPDX-License-Identifier: MPL-2.0
--- The words of the kit that most proofs use: numbers, equality, truth values, lists and their laws, tests, arithmetic, the needs of a call.
+-- The words of the kit that most proofs use: numbers, equality, truth values, lists and their laws, tests, arithmetic.
 pub use Prim.Native.Nat.{ℕ, zero, suc, ◌+◌, ◌-◌, ◌*◌, ◌/◌, ◌%◌, ◌^◌, min, ◌≤◌, ◌<◌}
 pub use mathlib.Core.Path.{◌≡◌, refl, sym, ◌∙◌, ap, ap₂, subst}
 pub use mathlib.Core.Bool.{Bool, true, false, true≢false, not, ◌&&◌, ◌||◌, cond, and-false}

@@ -53,7 +53,7 @@ pub fn is_refused(answer: HeaderRead) -> bool
 }
 
 // How far a listing has come.
-#[derive(Drop)]
+#[derive(Clone, Copy)]
 pub struct Listed {
     // The bytes of the stream that were taken.
     pub read: usize,

@@ -6,7 +6,7 @@ ghost use Rattle.lines.specs.Stream.{ahead};
 use wire::header::wanted;
 
 // What a stream begins with.
-#[derive(Drop)]
+#[derive(Clone, Copy)]
 pub enum Next {
     // A message of n bytes; where the input has ended, also what is left of one.
     Message(u16),

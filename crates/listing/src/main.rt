@@ -1,5 +1,7 @@
 // SPDX-License-Identifier: MPL-2.0
 // The listing program of document 01: lists the messages that come back to back on standard input, a line each.
+#![tactic(auto)]
+
 ghost use Rattle.std.specs.Prelude.{◌≡◌, ◌≤◌, length, take};
 ghost use Rattle.std.proofs.lemmas.List.Edits.{sets};
 ghost use Rattle.intake.specs.Buffer.{between};
@@ -11,14 +13,14 @@ use lines::listing::{Listed, list};
 use octets::bounds::lesser;
 
 // What a turn leaves: what is held, and whether all that it listed was written.
-#[derive(Drop)]
+#[derive(Clone, Copy)]
 struct Went {
     held: Held,
     whole: bool,
 }
 
 // What a run comes to: what its last turn left, and the turns that its counter has left.
-#[derive(Drop)]
+#[derive(Clone, Copy)]
 struct Finish {
     last: Went,
     turns: u64,

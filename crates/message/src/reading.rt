@@ -12,7 +12,7 @@ use wire::header::{FoundHeader, Header, HeaderRead, is_sealed, read_header};
 use wire::refusals::WRONG_PAYLOAD;
 
 // What is found in a message: the header, and where the payload lies, in the message or, if it was sealed, in the working buffer.
-#[derive(Drop)]
+#[derive(Clone, Copy)]
 pub struct FoundMessage {
     pub header: Header,
     pub sealed: bool,
@@ -21,7 +21,7 @@ pub struct FoundMessage {
 }
 
 // What reading answers: a refusal by its number, or what was found.
-#[derive(Drop)]
+#[derive(Clone, Copy)]
 pub enum MessageRead {
     Refused(u8),
     Read(FoundMessage),

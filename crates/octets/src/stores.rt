@@ -50,8 +50,8 @@ pub fn store_bytes(out: &mut [u8], at: usize, bytes: &[u8])
     }
     let room = out.len() - at;
     if room < bytes.len() {
-        bytes::copy(&bytes[0..room], &mut out[at..]);
+        out[at..].copy_from_slice(&bytes[0..room]);
         return;
     }
-    bytes::copy(bytes, &mut out[at..]);
+    out[at..at + bytes.len()].copy_from_slice(bytes);
 }

@@ -19,7 +19,7 @@ const COORDINATE: usize = KEY_SIZE as usize;
 
 // What a Connect payload says: its type and mode, its Result or Status, and the places of its parts. What its type has not is 0, and so is
 // everything beside a refusal.
-#[derive(Drop)]
+#[derive(Clone, Copy)]
 pub struct FoundConnect {
     pub refusal: u8,
     pub connect: u8,

@@ -12,7 +12,7 @@ use wire::refusals::WRONG_PAYLOAD;
 
 // What a Discovery payload says: its type, and of a Presence Response mode, device type and the places of its parts. Of a Presence Request all
 // else is 0, and so is everything beside a refusal.
-#[derive(Drop)]
+#[derive(Clone, Copy)]
 pub struct FoundDiscovery {
     pub refusal: u8,
     pub discovery: u8,

@@ -13,6 +13,8 @@
 //
 //     0               1      3             5   7      7 + n  11 + n 15 + n
 //     | DiscoveryType | mode | device type | n | name | salt | hash |
+#![tactic(auto)]
+
 pub mod connect;
 pub mod discovery;
 pub mod reading;

@@ -35,7 +35,7 @@ pub fn connection_mode(payload: &[u8]) -> u16
 }
 
 // Nonce, X and Y, of a Connection Request or of a Connection Response that is Pending.
-#[derive(Drop)]
+#[derive(Clone, Copy)]
 pub struct Request {
     pub nonce: [u8; 8],
     pub x: [u8; 32],
@@ -68,7 +68,7 @@ pub fn read_request(payload: &[u8]) -> Request
 }
 
 // A part of a payload: where it begins and how many bytes it has.
-#[derive(Drop)]
+#[derive(Clone, Copy)]
 pub struct Span {
     pub from: usize,
     pub size: usize,

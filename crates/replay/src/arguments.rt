@@ -5,7 +5,7 @@
 pub(crate) const KEY_ROOM: usize = 65;
 
 // What the command line asks for. Where it is no good, a line on standard error has said what is wrong.
-#[derive(Drop)]
+#[derive(Clone, Copy)]
 pub(crate) struct Asked {
     pub good: bool,
     pub size: usize,

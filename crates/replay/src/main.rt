@@ -1,6 +1,8 @@
 // SPDX-License-Identifier: MPL-2.0
 // The hub's main job, on files: a capture of messages on standard input is played through a connection, message by message, and each
 // report that is complete is written to a file.
+#![tactic(auto)]
+
 mod answer;
 mod arguments;
 mod report;
@@ -31,7 +33,7 @@ fn input_room() -> [u8; 262144]
 const LONGEST: usize = 1048576;
 
 // Where the play stands: the connection, what the input's buffer holds and how much of it has been played.
-#[derive(Drop)]
+#[derive(Clone, Copy)]
 struct Play {
     connection: Connection,
     held: usize,

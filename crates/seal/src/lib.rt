@@ -1,5 +1,7 @@
 // SPDX-License-Identifier: MPL-2.0
 // The sealed part of a message, as document 01's 'Sealing' states it.
+#![tactic(auto)]
+
 mod key;
 pub mod opening;
 pub mod padding;

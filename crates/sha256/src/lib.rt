@@ -1,6 +1,8 @@
 // SPDX-License-Identifier: MPL-2.0
 // SHA-256 (FIPS 180-4) and HMAC on it (RFC 2104), of bytes wherever they stand: no call copies a message or keeps a state between calls.
 // A message may come in three parts, which are hashed one after the other as if they stood so in memory.
+#![tactic(auto)]
+
 mod block;
 mod key;
 mod message;

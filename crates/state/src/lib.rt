@@ -6,6 +6,8 @@
 //
 // Index i of the heard set is bit i % 8, of the value 2^(i % 8), of its byte i / 8. The places from 133 on move with the number of pieces that a
 // report may have, here 64. Any bytes of this number are a connection, and any connection is this number of bytes.
+#![tactic(auto)]
+
 pub mod client;
 
 ghost use Rattle.std.specs.Prelude.{◌≡◌, ◌≤◌, ◌<◌, ◌+◌, ◌*◌, ◌/◌, ◌%◌, ◌^◌, eqb, length};

@@ -3,7 +3,7 @@
 ghost use Rattle.std.specs.Prelude.{◌<◌, ◌≤◌, ◌+◌, length};
 
 // How many bytes a field gave, and where the next field starts.
-#[derive(Drop)]
+#[derive(Clone, Copy)]
 pub struct Decoded {
     pub count: usize,
     pub next: usize,

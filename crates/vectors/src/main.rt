@@ -1,5 +1,7 @@
 // SPDX-License-Identifier: MPL-2.0
 // Published vectors of the ciphers and hashes, run through the library: for each source, how many agree of how many.
+#![tactic(auto)]
+
 mod ciphers;
 mod hashes;
 mod hexes;
@@ -24,7 +26,7 @@ const DIGEST: u8 = 3;
 const TAG: u8 = 4;
 
 // What a line of a file says of the library, and where the next line starts.
-#[derive(Drop)]
+#[derive(Clone, Copy)]
 pub(crate) struct Said {
     pub tried: bool,
     pub agreed: bool,

@@ -13,7 +13,7 @@ pub const OPENED: u8 = 1;
 pub const SEALED: u8 = 2;
 
 // What was read of a message: the refusal's number, 0 where there is none; the header; and the part: what it is, from where, how many bytes.
-#[derive(Drop)]
+#[derive(Clone, Copy)]
 pub struct Found {
     pub refusal: u8,
     pub header: Header,

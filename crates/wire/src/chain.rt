@@ -11,20 +11,20 @@ ghost use Rattle.wire.specs.Chain.{entry_of, chain, read_chain, leaves, is_broke
 pub const MOST_ENTRIES: u8 = 8;
 
 // What is found of a chain: how many bytes it leaves after it.
-#[derive(Drop)]
+#[derive(Clone, Copy)]
 pub struct FoundChain {
     pub leaves: usize,
 }
 
 // What a chain is: a whole one, or none.
-#[derive(Drop)]
+#[derive(Clone, Copy)]
 pub enum Chain {
     Whole(FoundChain),
     Broken,
 }
 
 // What stands at the start of a chain: its end, an entry of n bytes in all, or neither.
-#[derive(Drop)]
+#[derive(Clone, Copy)]
 pub enum Entry {
     End,
     Spans(usize),

@@ -35,7 +35,7 @@ pub const TAG: usize = 32;
 pub const SHORTEST: usize = Header::LENGTH + 2;
 
 // The fields that a sender chooses. `kind` is MessageType, here and everywhere.
-#[derive(Drop)]
+#[derive(Clone, Copy)]
 pub struct Header {
     pub kind: u8,
     pub flags: u16,
@@ -205,7 +205,7 @@ fn refusal(message: &[u8], header: Header, chain: Chain) -> u8
 }
 
 // What is found in a message without keys: the header, and where the payload or the sealed part lies: after the chain and before the tag.
-#[derive(Drop)]
+#[derive(Clone, Copy)]
 pub struct FoundHeader {
     pub header: Header,
     pub start: usize,
@@ -213,7 +213,7 @@ pub struct FoundHeader {
 }
 
 // What the reader of headers answers: the number of a refusal, or what it found.
-#[derive(Drop)]
+#[derive(Clone, Copy)]
 pub enum HeaderRead {
     Refused(u8),
     Read(FoundHeader),

@@ -1,6 +1,8 @@
 // SPDX-License-Identifier: MPL-2.0
 // Writing what may stand on the wire: the common header, the payloads of Discovery and Connect. Each writer puts its bytes
 // at the start of an output, or refuses and leaves it as it was.
+#![tactic(auto)]
+
 pub mod header;
 pub mod payload;
 
@@ -11,14 +13,14 @@ ghost use Rattle.writer.specs.Answers.{wrote};
 use wire::refusals::{NO_ROOM, WRONG_PAYLOAD};
 
 // What a writer answers: the number of a refusal, or how many bytes it wrote.
-#[derive(Drop)]
+#[derive(Clone, Copy)]
 pub enum Written {
     Refused(u8),
     Bytes(usize),
 }
 
 // The answer in numbers: the refusal's, 0 for none, and how many bytes were written, 0 where there is one.
-#[derive(Drop)]
+#[derive(Clone, Copy)]
 pub struct Wrote {
     pub refusal: u8,
     pub size: usize,

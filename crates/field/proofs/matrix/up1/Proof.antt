@@ -1,9 +1,0 @@
--- SPDX-License-Identifier: MPL-2.0
--- By the law of it.
-use Rattle.laws.proofs.Kit.{needs}
-use Rattle.field.proofs.Each as each
-use Rattle.field.proofs.matrix.up1.Statement.{statement}
-use Rattle.field.proofs.matrix.up1.Tie as tie
-
-pub up1-spec : {M : Type 1} → statement M
-up1-spec = tie.close (tie.spec (λ c. search needs) λ c. each.up1 c.args.x c.ranges.x.fits)

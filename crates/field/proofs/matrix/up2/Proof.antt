@@ -1,9 +1,0 @@
--- SPDX-License-Identifier: MPL-2.0
--- By the law of it.
-use Rattle.laws.proofs.Kit.{needs}
-use Rattle.field.proofs.Each as each
-use Rattle.field.proofs.matrix.up2.Statement.{statement}
-use Rattle.field.proofs.matrix.up2.Tie as tie
-
-pub up2-spec : {M : Type 1} → statement M
-up2-spec = tie.close (tie.spec (λ c. search needs) λ c. each.up2 c.args.x c.ranges.x.fits)
