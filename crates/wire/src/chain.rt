@@ -31,6 +31,7 @@ pub enum Entry {
     Wrong,
 }
 
+#[tactic(auto, unfolding(crate::specs::Chain::entry_of))]
 fn read_entry(room: &[u8]) -> Entry
     ensures { result ≡ entry_of room.now }
 {
@@ -73,6 +74,7 @@ fn walk(room: &[u8], left: u8) -> Chain
 }
 
 // The chain at the start of its room.
+#[tactic(auto, unfolding(crate::specs::Chain::read_chain, crate::specs::Chain::most_entries))]
 pub fn read_chain(room: &[u8]) -> Chain
     ensures { result ≡ read_chain room.now }
 {
@@ -100,6 +102,7 @@ pub fn leaves(chain: Chain) -> usize
 }
 
 // Refusal 8 in the writer, which is given the chain with its end: no chain, or bytes after its end.
+#[tactic(auto, unfolding(crate::specs::Chain::bad_chain))]
 pub fn bad_chain(given: &[u8]) -> bool
     ensures { result ≡ bad_chain given.now }
 {

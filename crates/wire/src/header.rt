@@ -98,6 +98,7 @@ impl Header {
 }
 
 // Refusal 5.
+#[tactic(auto, unfolding(crate::specs::Fields::bad_type))]
 pub fn bad_type(kind: u8) -> bool
     ensures { result ≡ bad_type kind }
 {
@@ -105,6 +106,7 @@ pub fn bad_type(kind: u8) -> bool
 }
 
 // Whether flags 2 (HMAC present) and 4 (encrypted) are both set.
+#[tactic(auto, unfolding(crate::specs::Fields::is_sealed))]
 pub fn is_sealed(flags: u16) -> bool
     ensures { result ≡ is_sealed flags }
 {
@@ -112,6 +114,7 @@ pub fn is_sealed(flags: u16) -> bool
 }
 
 // Refusal 6.
+#[tactic(auto, unfolding(crate::specs::Fields::bad_flags))]
 pub fn bad_flags(kind: u8, flags: u16) -> bool
     ensures { result ≡ bad_flags kind flags }
 {
@@ -123,6 +126,7 @@ pub fn bad_flags(kind: u8, flags: u16) -> bool
 }
 
 // Refusal 7.
+#[tactic(auto, unfolding(crate::specs::Fields::bad_piece, crate::specs::Fields::most_pieces))]
 pub fn bad_piece(kind: u8, index: u16, count: u16) -> bool
     ensures { result ≡ bad_piece kind index count }
 {
@@ -130,6 +134,7 @@ pub fn bad_piece(kind: u8, index: u16, count: u16) -> bool
 }
 
 // The tag's bytes, which are there where flag 2 is set.
+#[tactic(auto, unfolding(crate::specs::Fields::tag_size))]
 pub fn tag_size(flags: u16) -> usize
     ensures { result ≡ tag_size flags }
 {
@@ -153,6 +158,7 @@ fn fields(message: &[u8]) -> Header
 }
 
 // The chain's room is the message after the fixed header, less the tag. Where the tag reaches into the header there is none.
+#[tactic(auto, using(crate::proofs::Chains::no_room), unfolding(crate::specs::Reader::room_of))]
 fn chain_of(message: &[u8], tag: usize) -> Chain
     requires { tag ≤ 32 }
     ensures { result ≡ read_chain (room_of tag message.now) }
@@ -190,6 +196,7 @@ fn judge(
 }
 
 // The first refusal of 1 to 9 that applies, given the header and the chain as they were read.
+#[tactic(auto, unfolding(crate::specs::Reader::refusal_with, crate::specs::Reader::rows_of))]
 fn refusal(message: &[u8], header: Header, chain: Chain) -> u8
     ensures { result ≡ refusal_with message.now header chain }
 {
@@ -239,6 +246,7 @@ pub fn read_header(message: &[u8]) -> HeaderRead
 }
 
 // How many bytes of a stream its first message takes: what MessageLength says, and at least 42.
+#[tactic(auto, unfolding(crate::specs::Reader::wanted))]
 pub fn wanted(stream: &[u8]) -> usize
     ensures { result ≡ wanted stream.now }
 {
