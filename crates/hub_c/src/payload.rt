@@ -89,11 +89,11 @@ pub extern "C" fn hub_write_presence_response(
     size: &mut [u64],
 ) -> u32
     ensures value { result ≡ number_given (wrong_presence_response mode device salt.now hash.now size.old)
-        presence_response (mode and device and (λ x. x.now) name.entry and (λ x. x.now) salt.entry and (λ x. x.now) hash.entry and tt) out.old }
+        presence_response (mode and device and name.now and salt.now and hash.now and tt) out.old }
     ensures new_out { out.new ≡ bytes_given (wrong_presence_response mode device salt.now hash.now size.old)
-        presence_response (mode and device and (λ x. x.now) name.entry and (λ x. x.now) salt.entry and (λ x. x.now) hash.entry and tt) out.old }
+        presence_response (mode and device and name.now and salt.now and hash.now and tt) out.old }
     ensures new_size { size.new ≡ length_given (wrong_presence_response mode device salt.now hash.now size.old)
-        presence_response (mode and device and (λ x. x.now) name.entry and (λ x. x.now) salt.entry and (λ x. x.now) hash.entry and tt) out.old
+        presence_response (mode and device and name.now and salt.now and hash.now and tt) out.old
         size.old }
 {
     if wrong_words(size.len(), mode, 0) | wrong_presence(device, salt.len(), hash.len()) {
@@ -190,11 +190,11 @@ pub extern "C" fn hub_write_device_authentication(
     size: &mut [u64],
 ) -> u32
     ensures value { result ≡ number_given (wrong_words (length size.old) mode connect) device_authentication
-        (mode and connect and (λ x. x.now) certificate.entry and (λ x. x.now) thumbprint.entry and tt) out.old }
+        (mode and connect and certificate.now and thumbprint.now and tt) out.old }
     ensures new_out { out.new ≡ bytes_given (wrong_words (length size.old) mode connect) device_authentication
-        (mode and connect and (λ x. x.now) certificate.entry and (λ x. x.now) thumbprint.entry and tt) out.old }
+        (mode and connect and certificate.now and thumbprint.now and tt) out.old }
     ensures new_size { size.new ≡ length_given (wrong_words (length size.old) mode connect) device_authentication
-        (mode and connect and (λ x. x.now) certificate.entry and (λ x. x.now) thumbprint.entry and tt) out.old size.old }
+        (mode and connect and certificate.now and thumbprint.now and tt) out.old size.old }
 {
     if wrong_words(size.len(), mode, connect) {
         return WRONG_BUFFER;

@@ -172,7 +172,7 @@ pub fn write_done_response(mode: u16, status: u8, out: &mut [u8]) -> Written
 fn put_device(out: &mut [u8], mode: u16, connect: u8, certificate: &[u8], thumbprint: &[u8])
     requires { (length certificate.now ≤ 2048) × (length thumbprint.now ≤ 512) }
     ensures { out.new ≡ sets out.old 0 (write device_authentication
-        (mode and connect and (λ x. x.now) certificate.entry and (λ x. x.now) thumbprint.entry and tt)) }
+        (mode and connect and certificate.now and thumbprint.now and tt)) }
 {
     let n = certificate.len();
     store16(out, 0, mode);
@@ -192,9 +192,9 @@ pub fn write_device_authentication(
     out: &mut [u8],
 ) -> Written
     ensures answer { result ≡ payload_written device_authentication
-        (mode and connect and (λ x. x.now) certificate.entry and (λ x. x.now) thumbprint.entry and tt) out.old }
+        (mode and connect and certificate.now and thumbprint.now and tt) out.old }
     ensures bytes { out.new ≡ payload_output device_authentication
-        (mode and connect and (λ x. x.now) certificate.entry and (λ x. x.now) thumbprint.entry and tt) out.old }
+        (mode and connect and certificate.now and thumbprint.now and tt) out.old }
 {
     let c = certificate.len();
     let t = thumbprint.len();
@@ -218,7 +218,7 @@ pub fn write_device_authentication(
 fn put_name(out: &mut [u8], name: &[u8], salt: &[u8], hash: &[u8])
     requires { (length name.now ≤ 64) × (length salt.now ≡ 4) × (length hash.now ≡ 4) }
     ensures { out.new ≡ sets out.old 5 (write (sized two 0 64 then array 4 then array 4 then end)
-        (name.now and (λ x. x.now) salt.entry and (λ x. x.now) hash.entry and tt)) }
+        (name.now and salt.now and hash.now and tt)) }
 {
     let n = name.len();
     store16(out, 5, n as u16);
@@ -230,7 +230,7 @@ fn put_name(out: &mut [u8], name: &[u8], salt: &[u8], hash: &[u8])
 fn put_presence(out: &mut [u8], mode: u16, device: u16, name: &[u8], salt: &[u8], hash: &[u8])
     requires { (length name.now ≤ 64) × (length salt.now ≡ 4) × (length hash.now ≡ 4) }
     ensures { out.new ≡ sets out.old 0 (write presence_response
-        (mode and device and (λ x. x.now) name.entry and (λ x. x.now) salt.entry and (λ x. x.now) hash.entry and tt)) }
+        (mode and device and name.now and salt.now and hash.now and tt)) }
 {
     store8(out, 0, PRESENCE_RESPONSE);
     store16(out, 1, mode);
@@ -248,9 +248,9 @@ pub fn write_presence_response(
     out: &mut [u8],
 ) -> Written
     ensures answer { result ≡ payload_written presence_response
-        (mode and device and (λ x. x.now) name.entry and (λ x. x.now) salt.entry and (λ x. x.now) hash.entry and tt) out.old }
+        (mode and device and name.now and salt.now and hash.now and tt) out.old }
     ensures bytes { out.new ≡ payload_output presence_response
-        (mode and device and (λ x. x.now) name.entry and (λ x. x.now) salt.entry and (λ x. x.now) hash.entry and tt) out.old }
+        (mode and device and name.now and salt.now and hash.now and tt) out.old }
 {
     let n = name.len();
     let fits = (mode <= 2)
