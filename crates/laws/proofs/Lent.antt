@@ -1,6 +1,6 @@
 -- SPDX-License-Identifier: MPL-2.0
 -- A part of a list is lent and comes back as other bytes: what the whole then is.
-use Rattle.laws.proofs.Kit.{ℕ, ◌+◌, ◌≤◌, ◌≡◌, sym, ◌∙◌, List, ◌++◌, append_assoc, length, take, drop, drop-drop, sets}
+use Rattle.laws.proofs.Kit.{ℕ, ◌+◌, ◌≤◌, ◌≡◌, sym, ◌∙◌, List, append_assoc, length, take, drop, drop-drop, sets}
 use borrow.Rule.Slice.PartMut.{put_mid}
 use lib.Seq.{sets-eq}
 

@@ -9,7 +9,7 @@ pub(crate) fn block_at(bytes: &[u8], at: usize) -> [u8; 16]
     ensures { result ≡ take 16 (drop at bytes.now) }
 {
     let mut block = [0u8; 16];
-    bytes::copy(&bytes[at..at + 16], &mut block);
+    block.copy_from_slice(&bytes[at..at + 16]);
     block
 }
 

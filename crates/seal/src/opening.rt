@@ -101,7 +101,7 @@ fn open_small(keys: [[u8; 16]; 11], vector: [u8; 16], sealed: &[u8], working: &m
     if bad_blocks(size, block_at(&plain, 0), block_at(&plain, size - 16)) {
         return true;
     }
-    bytes::copy(&plain[0..size], working);
+    working[0..size].copy_from_slice(&plain[0..size]);
     false
 }
 

@@ -1,7 +1,7 @@
 -- SPDX-License-Identifier: MPL-2.0
 -- One byte more is the same of both or is not.
-use Rattle.laws.proofs.Kit.{ℕ, ◌+◌, ◌≤◌, ◌<◌, ◌≡◌, sym, ◌∙◌, Bool, ◌&&◌, List, length, take, get_or, take_all, take-suc, length-take-le, eqb}
-use Rattle.laws.proofs.Kit.{add-one, arith, rules}
+use Rattle.laws.proofs.Kit.{ℕ, ◌+◌, ◌<◌, ◌≡◌, sym, ◌∙◌, Bool, ◌&&◌, List, length, take, get_or, take-suc, length-take-le, eqb}
+use Rattle.laws.proofs.Kit.{add-one, arith}
 use Rattle.laws.specs.Same.{same}
 use Rattle.laws.proofs.Sames.{same_length, same-snoc}
 use Rattle.octets.proofs.compare.alike.Goals as goal
