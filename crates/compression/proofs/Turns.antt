@@ -1,7 +1,6 @@
 -- SPDX-License-Identifier: MPL-2.0
 -- A turn of sixteen rounds: its constants, which the code finds by a match over t / 16, and each of its rounds.
-use Rattle.laws.proofs.Kit.{ℕ, suc, ◌+◌, ◌*◌, ◌/◌, ◌%◌, ◌≤◌, ◌<◌, ◌≡◌, List, take, drop, get_or, get_or-take, arith}
-use Rattle.laws.proofs.Arms.{NoneOf, none_of}
+use Rattle.laws.proofs.Kit.{ℕ, suc, ◌+◌, ◌*◌, ◌/◌, ◌%◌, ◌<◌, ◌≡◌, List, take, drop, get_or, get_or-take, arith}
 use Rattle.std.proofs.Common.{get_or-drop}
 use Rattle.compression.specs.declared.Vars.{Vars}
 use Rattle.compression.specs.Constants.{K256}
@@ -12,12 +11,6 @@ pub constants-at : (t i : ℕ) (k : List ℕ) → t % 16 ≡ 0 → t / 16 ≡ i 
 constants-at t i k h q p =
     let e : t ≡ 16 * i = omega arith in
     rw e p
-
-last : (t : ℕ) → t + 16 ≤ 64 → 3 ≤ t / 16 → t / 16 ≡ 3
-last t h l = omega arith
-
-pub last_turn : (t : ℕ) → t + 16 ≤ 64 → NoneOf 3 (t / 16) → t / 16 ≡ 3
-last_turn t h p = last t h (none_of 3 (t / 16) p)
 
 -- round t + i, by the turn's constants k and the words w of the ring
 pub turn-round : (start : Vars) (s k w : List ℕ) (t : ℕ) → k ≡ take 16 (drop t K256) → ((i : ℕ) → i < 16 → get_or w i 0 ≡ get_or s (t + i) 0)

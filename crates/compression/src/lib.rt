@@ -26,6 +26,7 @@ pub struct Vars {
 }
 
 // The hash value after a block of sixteen words.
+#[tactic(auto, unfolding(crate::specs::Compression::compress))]
 pub fn compress(v: Vars, block: [u32; 16]) -> Vars
     ensures { result ≡ fips.compress v block }
 {

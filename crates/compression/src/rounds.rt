@@ -9,18 +9,21 @@ use crate::constants::constants;
 use crate::schedule::put_next;
 use crate::word::{add, big_sigma0, big_sigma1, ch, maj};
 
+#[tactic(auto, unfolding(crate::specs::Compression::T1))]
 fn t1(v: Vars, k: u32, w: u32) -> u32
     ensures { result ≡ fips.T1 v k w }
 {
     add(add(add(add(v.h, big_sigma1(v.e)), ch(v.e, v.f, v.g)), k), w)
 }
 
+#[tactic(auto, unfolding(crate::specs::Compression::T2))]
 fn t2(v: Vars) -> u32
     ensures { result ≡ fips.T2 v }
 {
     add(big_sigma0(v.a), maj(v.a, v.b, v.c))
 }
 
+#[tactic(auto, unfolding(crate::specs::Compression::round))]
 fn round(v: Vars, k: u32, w: u32) -> Vars
     ensures { result ≡ fips.round v k w }
 {
@@ -85,6 +88,7 @@ pub(crate) fn all_rounds(v: Vars, w: &mut [u32; 16]) -> Vars
     x
 }
 
+#[tactic(auto, unfolding(crate::specs::Compression::added))]
 pub(crate) fn added(x: Vars, y: Vars) -> Vars
     ensures { result ≡ fips.added x y }
 {

@@ -6,6 +6,7 @@ ghost use Rattle.compression.specs.Ring.{put_word, ring};
 
 use crate::word::{add, small_sigma0, small_sigma1};
 
+#[tactic(auto, unfolding(crate::specs::Compression::mixed))]
 fn mixed(a: u32, b: u32, c: u32, d: u32) -> u32
     ensures { result ≡ fips.mixed a b c d }
 {
@@ -13,6 +14,7 @@ fn mixed(a: u32, b: u32, c: u32, d: u32) -> u32
 }
 
 // W_t in the place of W_(t-16), which is i = t mod 16.
+#[tactic(auto, unfolding(crate::specs::Ring::put_word))]
 fn put_word(w: &mut [u32; 16], i: usize)
     requires { i < 16 }
     ensures { w.new ≡ put_word w.old i }

@@ -4,12 +4,14 @@ ghost use Rattle.std.specs.Prelude.{◌≡◌, ◌<◌};
 ghost use Rattle.compression.specs.Words.{plus, ROTR, Ch, Maj, Σ0, Σ1, σ0, σ1};
 
 // The sum of two words wraps at 2^32.
+#[tactic(auto, unfolding(crate::specs::Words::plus))]
 pub(crate) fn add(x: u32, y: u32) -> u32
     ensures { result ≡ plus x y }
 {
     std::num::wrapping_add_u32(x, y)
 }
 
+#[tactic(auto, unfolding(crate::specs::Words::ROTR))]
 fn rotr(x: u32, n: u32) -> u32
     requires { (0 < n) × (n < 32) }
     ensures { result ≡ ROTR n x }
