@@ -1,0 +1,12 @@
+-- SPDX-License-Identifier: MPL-2.0
+-- The multiples of the column, turned and added.
+use Rattle.field.specs.Xor.{xor}
+use Rattle.field.specs.Words.{unmixed_word}
+use Rattle.field.proofs.Each.{column-by}
+use Rattle.field.proofs.matrix.unmix.Goals as goal
+
+pub returns : goal.returns
+unfolding xor unmixed_word
+returns c =
+    column-by c.args.x _ _ _ c.ranges.x.fits c.double-x2.ensures c.double-x4.ensures c.double-x8.ensures _ _ _
+    c.up1.ensures c.up2.ensures c.up3.ensures
