@@ -14,6 +14,7 @@ use super::rounds::{inv_last_round, inv_round, last_round, round};
 use field::tables::{inverse_substitution, substitution};
 
 // The sixteen bytes at the front of a slice that has them.
+#[tactic(auto, unfolding(crate::specs::State::load_block, crate::specs::State::block, laws::specs::Runs::run))]
 pub(crate) fn front(s: &[u8]) -> [u8; 16]
     requires { 16 ≤ length s.now }
     ensures { result ≡ load_block s.now }

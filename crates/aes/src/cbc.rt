@@ -91,7 +91,7 @@ pub fn cbc_encrypt(keys: [[u8; 16]; 11], vector: [u8; 16], source: &[u8], target
         return false;
     }
     let n = source.len();
-    bytes::copy(source, target);
+    target[0..n].copy_from_slice(source);
     encrypt_whole(keys, vector, &mut target[0..n])
 }
 

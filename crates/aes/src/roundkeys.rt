@@ -11,6 +11,7 @@ use super::columns::{State, words};
 use field::matrix::unmix;
 
 // Round key i.
+#[tactic(auto, unfolding(crate::specs::Words::key_at))]
 pub(crate) fn key_at(w: &[u32; 44], i: usize) -> State
     requires { i < 11 }
     ensures { result ≡ key_at w.now i }
@@ -24,6 +25,7 @@ pub(crate) fn key_at(w: &[u32; 44], i: usize) -> State
 }
 
 // Puts round key i among the words.
+#[tactic(auto, unfolding(crate::specs::Words::put_key))]
 fn put_key(w: &mut [u32; 44], i: usize, k: State)
     requires { i < 11 }
     ensures { w.new ≡ put_key w.old i k }

@@ -95,6 +95,7 @@ pub(crate) fn inv_round(s: State, k: State) -> State
 }
 
 // A column by one table of bytes.
+#[tactic(auto, unfolding(crate::specs::Words::looked_up_bytes))]
 pub(crate) fn look_bytes(t: &[u8; 256], a: u32, b: u32, c: u32, d: u32) -> u32
     ensures { result ≡ looked_up_bytes t.now a b c d }
 {
