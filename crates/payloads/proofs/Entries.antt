@@ -47,8 +47,8 @@ module _ {A : Type 0} (write : A → List ℕ) (fits : A → Bool) (holds : List
       Back (each (λ i. holds p (place i)) (length vs)) (place (length vs)) (gathered (λ i. says p (place i)) (length vs)) at (flat_map write vs) vs
 
   pub entries-back : (vs : List A) (a b : List ℕ) (at : ℕ) → length a ≡ at → all fits vs ≡ true → AllBack vs ((a ++ flat_map write vs) ++ b) at
-  unfolding all flat_map each gathered entry_at
-  entries-back [] a b at e h = record { holds = refl; place = omega arith; value = refl }
+  unfolding all flat_map
+  entries-back [] a b at e h = unfold each gathered entry_at in record { holds = refl; place = omega arith; value = refl }
   entries-back (v ∷ vs) a b at e h =
       let k = and-true (fits v) (all fits vs) h in
       let x = write v in

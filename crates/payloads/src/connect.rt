@@ -127,6 +127,7 @@ fn said_connect(
 }
 
 // Takes a Connect payload apart, or refuses with 14 what is none.
+#[tactic(auto, unfolding(crate::specs::Connect::read_connect))]
 pub fn read_connect(payload: &[u8]) -> FoundConnect
     ensures { result ≡ read_connect payload.now }
 {

@@ -65,6 +65,7 @@ fn said_response(mode: u16, device: u16, size: u16) -> FoundDiscovery
 }
 
 // Takes a Discovery payload apart, or refuses with 14 what is none.
+#[tactic(auto, unfolding(crate::specs::Discovery::read_discovery))]
 pub fn read_discovery(payload: &[u8]) -> FoundDiscovery
     ensures { result ≡ read_discovery payload.now }
 {

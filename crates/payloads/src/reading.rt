@@ -55,6 +55,7 @@ fn fill(s: &[u8], at: usize, out: &mut [u8])
 }
 
 // What a payload has at the places of nonce, X and Y; a byte past its end counts as 0.
+#[tactic(auto, unfolding(crate::specs::Reading::read_request, crate::specs::Format::read_from))]
 pub fn read_request(payload: &[u8]) -> Request
     ensures { result ≡ read_request payload.now }
 {
@@ -87,6 +88,7 @@ fn sized_at(p: &[u8], at: u32) -> Span
 }
 
 // Where the certificate of a Device Authentication payload lies; where it does not lie in the payload, the empty place at its start.
+#[tactic(auto, unfolding(crate::specs::Reading::certificate_of))]
 pub fn certificate_of(payload: &[u8]) -> Span
     ensures { result ≡ certificate_of payload.now }
 {
@@ -94,6 +96,7 @@ pub fn certificate_of(payload: &[u8]) -> Span
 }
 
 // Where its thumbprint lies, after the certificate; where it does not lie in the payload, the empty place at its start.
+#[tactic(auto, unfolding(crate::specs::Reading::thumbprint_of))]
 pub fn thumbprint_of(payload: &[u8]) -> Span
     ensures { result ≡ thumbprint_of payload.now }
 {

@@ -125,6 +125,7 @@ fn is_shaped(kind: u8, sealed: bool, p: &[u8]) -> bool
 }
 
 // Refusal 14: a Discovery or Connect payload that has none of the shapes.
+#[tactic(auto, unfolding(crate::specs::Shapes::bad_payload))]
 pub fn bad_payload(kind: u8, sealed: bool, payload: &[u8]) -> bool
     ensures { result ≡ bad_payload kind sealed payload.now }
 {

@@ -6,8 +6,7 @@ use Rattle.laws.proofs.Bools.{and_assoc}
 use Rattle.payloads.specs.Format.{two, four, accepts_from}
 use Rattle.payloads.specs.Shapes.{exchange}
 use Rattle.payloads.proofs.Steps.{over-fixed, over-array, at-end}
-use Rattle.payloads.proofs.shapes.exchanges.Statement.{statement}
-use Rattle.payloads.proofs.shapes.exchanges.Tie as tie
+use Rattle.payloads.proofs.shapes.exchanges.Goals as goal
 
 fields : (p : List ℕ) {h s k l : ℕ} → h ≡ be16 p 4 → s ≡ be32 p 14 → k ≡ be16 p 18 → l ≡ be16 p 52
     → (eqb h 32 && eqb s 16384 && eqb k 32 && eqb l 32 && eqb (length p) 86) ≡ accepts_from exchange p 4
@@ -16,8 +15,5 @@ fields p a b c d =
     let x = over-fixed p two 32 18 _ c (over-array p 32 20 _ y) in
     simp and_assoc at (over-fixed p two 32 4 _ a (over-array p 8 6 _ (over-fixed p four 16384 14 _ b x)))
 
-pub exchanges-spec : {M : Type 1} → statement M
-exchanges-spec =
-    tie.close (tie.spec
-    _ _ _ _ (λ c. fields _ c.before.before.before.number16.ensures c.before.before.number32.ensures c.before.number162.ensures
-    c.number163.ensures))
+pub returns : goal.returns
+returns c = fields _ c.number16.ensures c.number32.ensures c.number16-2.ensures c.number16-3.ensures

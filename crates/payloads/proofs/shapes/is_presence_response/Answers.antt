@@ -1,13 +1,12 @@
 -- SPDX-License-Identifier: MPL-2.0
 -- Over the fields, with what the calls answer; a name has no least size, and the device type is any number.
-use Rattle.laws.proofs.Kit.{ℕ, ◌+◌, ◌≡◌, refl, ◌&&◌, List, length, eqb, leb, le-leb, arith, needs}
+use Rattle.laws.proofs.Kit.{ℕ, ◌+◌, ◌≡◌, refl, ◌&&◌, List, length, eqb, leb, le-leb, arith}
 use Rattle.laws.specs.Bytes.{be8, be16}
 use Rattle.laws.proofs.Bools.{and_one, and_assoc}
 use Rattle.payloads.specs.Format.{one, two, accepts}
 use Rattle.payloads.specs.Shapes.{at_most, any_number, presence_response}
 use Rattle.payloads.proofs.Steps.{over-fixed, over-free, over-array, over_sized, at-end}
-use Rattle.payloads.proofs.shapes.is_presence_response.Statement.{statement}
-use Rattle.payloads.proofs.shapes.is_presence_response.Tie as tie
+use Rattle.payloads.proofs.shapes.is_presence_response.Goals as goal
 
 fields : (p : List ℕ) {n d m : ℕ} → n ≡ be16 p 5 → d ≡ be8 p 0 → m ≡ be16 p 1
     → (eqb d 1 && leb m 2 && leb n 64 && eqb (length p) (15 + n)) ≡ accepts presence_response p
@@ -18,11 +17,5 @@ fields p {n} {d} {m} e f g =
     let device = over-free p two any_number 3 _ {x = be16 p 3} refl name in
     simp (and_one, and_assoc) at (over-fixed p one 1 0 _ f (over-free p two (at_most 2) 1 _ g device))
 
-returns : tie.Need-returns
-returns c =
-    let size : tie.After-number16 = search in
-    let type : tie.After-byte = search in
-    fields _ size.number16.ensures type.byte.ensures c.number162.ensures
-
-pub is-presence-response-spec : {M : Type 1} → statement M
-is-presence-response-spec = tie.close (tie.spec _ _ _ (λ c. search needs) (λ c. search needs) returns)
+pub returns : goal.returns
+returns c = fields _ c.number16-name.ensures c.byte.ensures c.number16.ensures
