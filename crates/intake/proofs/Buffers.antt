@@ -1,26 +1,23 @@
 -- SPDX-License-Identifier: MPL-2.0
 -- The place after a mark, and what a buffer holds once a part of it was moved to its front.
-use Rattle.laws.proofs.Kit.{ℕ, ◌+◌, ◌-◌, ◌≤◌, ◌<◌, min, ◌≡◌, refl, sym, ◌∙◌, ap, false, List, ◌++◌, length, take, drop, get_or, set, length-drop}
-use Rattle.laws.proofs.Kit.{length-take, length-take-le, drop_of_length-le, take-length, take_all, take_at, drop-length, eqb, eq-eqb, ne_eqb}
-use Rattle.laws.proofs.Kit.{eqb-true, eqb-false, leb, leb-true, leb-false, arith}
-use borrow.Rule.Slice.PartMut.{put_mid}
+use Rattle.laws.proofs.Kit.{ℕ, ◌+◌, ◌-◌, ◌≤◌, ◌<◌, min, ◌≡◌, refl, sym, ◌∙◌, ap, List, ◌++◌, length, take, drop, get_or, set, length-drop}
+use Rattle.laws.proofs.Kit.{length-take, length-take-le, drop_of_length-le, take-length, take_all, take_at, drop-length, eqb}
+use Rattle.laws.proofs.Kit.{leb, leb-true, leb-false, arith}
 use lib.Seq.{get_or-drop, get_or-append-add}
 use Rattle.laws.specs.Bytes.{be8, bytes_at}
 use Rattle.laws.proofs.Cases.{on}
 use Rattle.laws.proofs.Parts.{length-bytes_at, bytes_at-part, bytes_at-take, filled_more}
-use Rattle.bytes.specs.Bytes.{index_of, slice}
-use Rattle.intake.specs.Buffer.{after_mark, between, fronted, Refilled}
+use Rattle.std.specs.List.{position_or_len}
+use Rattle.intake.specs.Buffer.{after_mark, between, fronted}
 
 -- What a search answers, which begins at the end where the place is past it.
 module _ (text : List ℕ) (at mark found : ℕ)
-    (e : found ≡ min at (length text) + index_of mark (slice (min at (length text)) (length text) text)) where
-  within : at ≤ length text → found ≡ at + index_of mark (drop at text)
-  unfolding slice
-  within h = let m : min at (length text) ≡ at = omega arith in rw (m, take-length) at e
+    (e : found ≡ min at (length text) + position_or_len (λ b. eqb b mark) (drop (min at (length text)) text)) where
+  within : at ≤ length text → found ≡ at + position_or_len (λ b. eqb b mark) (drop at text)
+  within h = let m : min at (length text) ≡ at = omega arith in rw m at e
 
   past : length text < at → found ≡ length text
-  unfolding slice index_of
-  past h = let m : min at (length text) ≡ length text = omega arith in omega (arith, rw (m, take-length, drop-length) at e)
+  past h = let m : min at (length text) ≡ length text = omega arith in omega (arith, rw (m, drop-length) at e)
 
   pub mark-found : found < length text → found + 1 ≡ after_mark text at mark
   unfolding after_mark
@@ -55,19 +52,6 @@ pub fronted-all : (l m : List ℕ) (from to i : ℕ) → from ≤ to → to ≤ 
     → m ≡ fronted l from to
 unfolding fronted
 fronted-all l m from to i h k n e = rw (e, n, bytes-between l from to h k)
-
--- Nothing was read where no more is held than before.
-none_more : (held more : ℕ) → eqb more 0 ≡ eqb (held + more) held
-none_more held more =
-    on (eqb more 0) (λ e. rw (e, eq-eqb (held + more) held (omega (arith, eqb-true more 0 e)))) λ e.
-    rw (e, ne_eqb (held + more) held (λ q. eqb-false more 0 e (omega (arith, q))))
-
--- The part of a buffer from a place on was read into.
-pub refilled : (input part : List ℕ) (held more : ℕ) → held ≤ length input → held + more ≤ length (put_mid held (length input - held) input part)
-    → Refilled (take held input) (put_mid held (length input - held) input part) (record { held = held + more; ended = eqb more 0; over = false })
-refilled input part held more h k =
-    let t : length (take held input) ≡ held = length-take-le held input h in
-    record { first = rw t (take_at (take held input) _ held t); more = omega arith; fits = k; ends = rw t (none_more held more) }
 
 -- Places past the end of the buffer count as its end.
 take-cut : (l : List ℕ) (n : ℕ) → take (min n (length l)) l ≡ take n l

@@ -1,12 +1,12 @@
 -- SPDX-License-Identifier: MPL-2.0
 -- A buffer that is read into: the place after a mark, what is kept at its front, and what a read leaves.
 use Rattle.std.specs.Prelude.{ℕ, ◌+◌, ◌-◌, ◌≤◌, min, ◌≡◌, List, ◌++◌, length, take, drop, eqb}
-use Rattle.bytes.specs.Bytes.{index_of}
+use Rattle.std.specs.List.{position_or_len}
 use Rattle.intake.specs.declared.Held.{Held}
 
 -- The place after the first byte from a place on that is the mark; the text's end where there is none.
 unfoldable pub after_mark : List ℕ → (at mark : ℕ) → ℕ
-after_mark text at mark = min (at + index_of mark (drop at text) + 1) (length text)
+after_mark text at mark = min (at + position_or_len (λ b. eqb b mark) (drop at text) + 1) (length text)
 
 -- What stands between two places of a buffer; a place past its end counts as its end.
 abbrev pub between : List ℕ → (from to : ℕ) → List ℕ

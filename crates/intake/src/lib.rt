@@ -3,11 +3,12 @@
 // programs share: the lines of a text.
 #![tactic(auto)]
 
-ghost use Rattle.std.specs.Prelude.{◌≡◌, false, ◌-◌, ◌≤◌, length, take};
+ghost use Rattle.std.specs.Prelude.{◌≡◌, false, ◌+◌, ◌-◌, ◌==◌, ◌≤◌, length, take, drop};
+ghost use Rattle.std.specs.List.{position_or_len};
 ghost use Rattle.intake.specs.Buffer.{after_mark, between, fronted, Refilled};
 
-use libc::STDIN_FILENO;
 use octets::bounds::lesser;
+use std::io::Read;
 
 // What of the input is in the buffer: the first `held` bytes of it. Whether the input has ended, and whether the run is over.
 #[derive(Clone, Copy)]
@@ -17,12 +18,27 @@ pub struct Held {
     pub over: bool,
 }
 
+// The first place of a text, from one on, where the mark stands; the text's end where there is none.
+fn find(text: &[u8], from: usize, mark: u8) -> usize
+    requires { from ≤ length text.now }
+    ensures { result ≡ from + position_or_len (λ b. b == mark) (drop from text.now) }
+{
+    let mut i = from;
+    while i < text.len() {
+        if text[i] == mark {
+            return i;
+        }
+        i += 1;
+    }
+    i
+}
+
 // The place after the next byte of a text that is the mark, or the text's end.
 pub fn after_mark(text: &[u8], at: usize, mark: u8) -> usize
     ensures { result ≡ after_mark text.now at mark }
 {
     let end = text.len();
-    let found = bytes::scan::find(text, lesser(at, end), end, mark);
+    let found = find(text, lesser(at, end), mark);
     if found < end { found + 1 } else { end }
 }
 
@@ -42,13 +58,12 @@ fn keep(input: &mut [u8], from: usize, to: usize) -> usize
 }
 
 // Reads on after the first `held` bytes. A read that fails counts as the end of the input.
-fn read_on(input: &mut [u8], held: usize) -> Held
+fn read_on<R: Read>(source: &mut R, input: &mut [u8], held: usize) -> Held
     requires { held ≤ length input.old }
     ensures over_value { result.over ≡ false }
     ensures refilled { Refilled (take held input.old) input.new result }
 {
-    let got = libc::read(STDIN_FILENO, &mut input[held..]);
-    let more = io::count(got, &input[held..]);
+    let more = source.read(&mut input[held..]).unwrap_or(0);
     Held {
         held: held + more,
         ended: more == 0,
@@ -57,7 +72,7 @@ fn read_on(input: &mut [u8], held: usize) -> Held
 }
 
 // Keeps what the buffer holds between two places, at its front, and reads on after it, where there is room.
-pub fn refill(input: &mut [u8], from: usize, to: usize) -> Held
+pub fn refill<R: Read>(source: &mut R, input: &mut [u8], from: usize, to: usize) -> Held
     ensures over_value { result.over ≡ false }
     ensures held_in_bounds { result.held ≤ length input.new }
     ensures refilled { Refilled (between input.old from to) input.new result }
@@ -65,5 +80,5 @@ pub fn refill(input: &mut [u8], from: usize, to: usize) -> Held
     let end = lesser(to, input.len());
     let start = lesser(from, end);
     let left = keep(input, start, end);
-    read_on(input, left)
+    read_on(source, input, left)
 }
