@@ -65,6 +65,7 @@ pub struct Joined {
 }
 
 // 7 applies: the count is 0 or over 64, or the index is not under it.
+#[tactic(auto, unfolding(wire::specs::Fields::most_pieces))]
 fn bad_index(count: usize, index: usize) -> bool
     ensures { result ≡ bad_index count index }
 {
@@ -106,6 +107,7 @@ fn due(size: usize, last: u16, piece: Piece) -> usize
 }
 
 // 23 applies: the index is heard, and the bytes or their number are not those that were taken.
+#[tactic(auto, unfolding(wire::specs::Fields::most_pieces))]
 fn conflict(
     size: usize,
     held: Progress,
@@ -190,7 +192,7 @@ fn store(report: &mut [u8], start: usize, payload: &[u8])
     requires { start + length payload.now ≤ length report.old }
     ensures { report.new ≡ put report.old start payload.now }
 {
-    bytes::copy(payload, &mut report[start..]);
+    report[start..start + payload.len()].copy_from_slice(payload);
 }
 
 // The last piece's length once a piece of this size has come.
@@ -243,6 +245,7 @@ fn advance(
 
 impl Progress {
     // Nothing is heard of the message with this number.
+    #[tactic(auto, unfolding(wire::specs::Fields::most_pieces))]
     pub fn expecting(number: u32) -> Progress
         ensures { result ≡ expecting number }
     {

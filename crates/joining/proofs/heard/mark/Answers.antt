@@ -1,0 +1,108 @@
+-- SPDX-License-Identifier: MPL-2.0
+-- Up to the index the set is as it was, after it the index is marked; the places passed are counted.
+use Rattle.laws.proofs.Kit.{ℕ, suc, ◌+◌, ◌-◌, min, ◌<◌, ◌≡◌, refl, ◌∙◌, ap, ap₂, Bool, false, ◌||◌, ◌&&◌, List, length, set, length-set}
+use Rattle.laws.proofs.Kit.{get_or-set_same, eqb, ltb, eq-eqb, ne_eqb, ltb-true, ltb-false, and-false, add-one, ⊎_elim, arith}
+use lib.Seq.{set-get_or, take-set-le}
+use Rattle.laws.proofs.Bools.{or-true, or-none, and_one}
+use Rattle.laws.proofs.Cases.{on}
+use Rattle.laws.proofs.Order.{lt-or-ge}
+use Rattle.joining.specs.Heard.{bit, has, mark, come}
+use Rattle.wire.specs.Fields.{most_pieces}
+use Rattle.joining.proofs.HeardLaws.{come-suc, come-le, bit_byte}
+use Rattle.joining.proofs.heard.mark.Goals as goal
+
+-- Place i is written: at the index x, where t is y, it is marked, else it is as it was.
+module _ (l : List Bool) (x y i t : ℕ) (e : t + x ≡ y + i) where
+  at_other : (i ≡ x → ⊥) → set l i (has l i || eqb t y) ≡ l
+  at_other d = rw (ne_eqb t y (λ z. d (omega arith)), or-none (has l i)) (set-get_or l i false)
+
+  at-index : i ≡ x → set l i (has l i || eqb t y) ≡ mark l x
+  at-index d = rw (d, eq-eqb t y (omega arith), or-true (has l x))
+
+-- What is written at place i is counted where i is under n, that is, where t is under m.
+come-set : (l : List Bool) (n i t m : ℕ) (b : Bool) → t + n ≡ m + i → i < length l
+    → come (min (suc i) n) (set l i b) ≡ come (min i n) l + bit (b && ltb t m)
+come-set l n i t m b e h =
+    on (ltb t m)
+    (λ u.
+    let o = ltb-true t m u in
+    let more : min (suc i) n ≡ suc i = omega arith in
+    let now : min i n ≡ i = omega arith in
+    rw (u, and_one b, more, now, come-suc (set l i b) i, take-set-le i l i b (omega arith), get_or-set_same l i b false h))
+    (λ u.
+    let o = ltb-false t m u in
+    let more : min (suc i) n ≡ n = omega arith in
+    let now : min i n ≡ n = omega arith in
+    rw (u, and-false b, more, now, take-set-le n l i b (omega arith)) (omega arith))
+
+come-begun : (n : ℕ) (l : List Bool) → 0 ≡ come (min 0 n) l
+come-begun n l = let m : min 0 n ≡ 0 = omega arith in rw m
+
+pub overflow_cast-turn : goal.overflow_cast-turn
+unfolding most_pieces
+overflow_cast-turn c = omega arith
+
+pub overflow_sub-turn : goal.overflow_sub-turn
+unfolding most_pieces
+overflow_sub-turn c = omega arith
+
+pub overflow_cast-here : goal.overflow_cast-here
+unfolding most_pieces
+overflow_cast-here c = omega arith
+
+pub overflow_add-here : goal.overflow_add-here
+unfolding most_pieces
+overflow_add-here c = omega arith
+
+pub loop-i-init : goal.loop-i-init
+unfolding most_pieces
+loop-i-init c =
+    record {
+      before = λ h. refl;
+      after = λ h. absurd (omega arith);
+      counted = come-begun c.args.count c.args.heard;
+      turned = omega arith;
+      within = omega arith;
+      as_long = omega arith;
+    }
+
+pub overflow_add-told : goal.overflow_add-told
+unfolding most_pieces
+overflow_add-told c =
+    let s = c.loop-i in
+    let a = c.args in
+    let b = (has s.next s.i || eqb s.turn (128 - a.count + a.index)) && ltb s.turn 128 in
+    omega (arith, bit_byte b, come-le (min s.i a.count) s.next)
+
+pub loop-i-preserved : goal.loop-i-preserved
+unfolding most_pieces
+loop-i-preserved c =
+    let s = c.loop-i in
+    let v = s.invariant in
+    let a = c.args in
+    let x = a.index in
+    let here = 128 - a.count + x in
+    let b = has s.next s.i || eqb s.turn here in
+    let e : s.turn + x ≡ here + s.i = omega arith in
+    record {
+      before = λ h. at_other s.next x here s.i s.turn e (λ e. omega arith) ∙ v.before (omega arith);
+      after =
+          λ h.
+          ⊎_elim (λ g. at_other s.next x here s.i s.turn e (λ e. omega arith) ∙ v.after g)
+          (λ g. at-index s.next x here s.i s.turn e (omega arith) ∙ ap (λ (l : List Bool). mark l x) (v.before g)) (lt-or-ge x s.i);
+      counted =
+          rw (add-one s.i)
+          (omega (arith, come-set s.next a.count s.i s.turn 128 b (omega arith) (omega arith), bit_byte (b && ltb s.turn 128)));
+      turned = omega arith;
+      within = omega arith;
+      as_long = omega (arith, length-set s.next s.i b);
+    }
+
+pub returns : goal.returns
+unfolding most_pieces
+returns c =
+    let s = c.loop-i in
+    let a = c.args in
+    let e : s.next ≡ mark a.heard a.index = s.invariant.after (omega arith) in
+    let m : min s.i a.count ≡ a.count = omega arith in
+    (e, s.invariant.counted ∙ ap₂ come m e)
