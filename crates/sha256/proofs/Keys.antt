@@ -1,7 +1,7 @@
 -- SPDX-License-Identifier: MPL-2.0
 -- A key filled up to a block, and masked.
 use Rattle.laws.proofs.Kit.{ℕ, ◌+◌, ◌-◌, ◌≤◌, ◌<◌, ◌≡◌, refl, List, [], ◌∷◌, ◌++◌, length, take, drop, get_or, set, replicate, length-replicate}
-use Rattle.laws.proofs.Kit.{take-length, take-suc, drop_at, add-one, bit_xor, arith}
+use Rattle.laws.proofs.Kit.{take-suc, drop_at, add-one, bit_xor, arith}
 use lib.ListN.{replicate-append-replicate}
 use lib.Seq.{take-suc-set}
 use Rattle.sha256.specs.Macs.{filled, masked}
@@ -11,11 +11,11 @@ pub zeros-split : (n m : ℕ) → n ≤ m → replicate {A = ℕ} m 0 ≡ replic
 zeros-split n m h = let e : n + (m - n) ≡ m = omega arith in rw (replicate-append-replicate, e)
 
 -- a key copied over zeros
-pub filled-by : (key b : List ℕ) → length key ≤ 64 → b ≡ take (length key) key ++ drop (length key) (replicate 64 0) → b ≡ filled key
+pub filled-by : (key y : List ℕ) → length key ≤ 64 → y ≡ key → y ++ drop (length key) (replicate 64 0) ≡ filled key
 unfolding filled
-filled-by key b h e =
+filled-by key y h e =
     let z = length-replicate {A = ℕ} (length key) 0 in
-    rw (e, take-length key, zeros-split (length key) 64 h, drop_at)
+    rw (e, zeros-split (length key) 64 h, drop_at)
 
 masked-snoc : (pad x : ℕ) (xs : List ℕ) → masked pad (xs ++ (x ∷ [])) ≡ masked pad xs ++ (bit_xor x pad ∷ [])
 unfolding masked

@@ -41,6 +41,7 @@ fn load(block: &[u8]) -> [u32; 16]
 }
 
 // The hash value after a block.
+#[tactic(auto, unfolding(crate::specs::Digests::after_block))]
 pub(crate) fn absorb_block(v: Vars, block: &[u8]) -> Vars
     requires { length block.now ≡ 64 }
     ensures { result ≡ after_block v block.now }

@@ -10,11 +10,12 @@ fn filled(key: &[u8]) -> [u8; 64]
     ensures { result ≡ rfc.filled key.now }
 {
     let mut block = [0u8; 64];
-    bytes::copy(key, &mut block);
+    block[..key.len()].copy_from_slice(key);
     block
 }
 
 // A key longer than a block is hashed first.
+#[tactic(auto, unfolding(crate::specs::Macs::key_block))]
 pub(crate) fn key_block(key: &[u8]) -> [u8; 64]
     ensures { result ≡ rfc.key_block key.now }
 {

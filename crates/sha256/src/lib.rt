@@ -46,6 +46,7 @@ pub fn hmac(key: &[u8], message: &[u8]) -> [u8; 32]
 }
 
 // The HMAC-SHA-256 of a message in three parts, under a key of any length.
+#[tactic(auto, unfolding(crate::specs::Macs::hmac))]
 pub fn hmac_parts(key: &[u8], first: &[u8], second: &[u8], third: &[u8]) -> [u8; 32]
     ensures { result ≡ rfc.hmac key.now (first.now ++ (second.now ++ third.now)) }
 {

@@ -12,6 +12,7 @@ use compression::Vars;
 const TOO_MANY: usize = 2305843009213693952;
 
 // FIPS 180-4 §5.3.3.
+#[tactic(auto, unfolding(crate::specs::Digests::H0))]
 fn initial() -> Vars
     ensures { result ≡ H0 }
 {

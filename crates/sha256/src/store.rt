@@ -25,7 +25,7 @@ fn put32(out: &mut [u8], at: usize, x: u32)
     ensures { out.new ≡ sets out.old at (bytes32 x) }
 {
     let word = word_bytes(x);
-    bytes::copy(&word, &mut out[at..]);
+    out[at..at + 4].copy_from_slice(&word);
 }
 
 fn put64(out: &mut [u8], at: usize, x: u64)
