@@ -1,6 +1,6 @@
 -- SPDX-License-Identifier: MPL-2.0
 -- Byte by byte.
-use Rattle.laws.proofs.Kit.{◌≡◌, refl, length, length-set, add-one, arith, rules}
+use Rattle.laws.proofs.Kit.{◌≡◌, refl, length, length-set, add-one, arith}
 use lib.Seq.{paste-zero, paste-suc}
 use Rattle.aes.proofs.cbc.put.Goals as goal
 
