@@ -12,7 +12,7 @@ fn round_key_agrees(k: [u8; 16], published: &[u8], n: usize) -> bool {
         return false;
     }
     let p = aes::block::load_block(&published[at..]);
-    check::same(&k, &p)
+    k == p
 }
 
 // A key and its expansion.
@@ -41,7 +41,7 @@ fn block_agrees(key: [u8; 16], plain: [u8; 16], cipher: [u8; 16]) -> bool {
     let keys = aes::key::expand_key(key);
     let there = aes::block::encrypt_block(keys, plain);
     let back = aes::block::decrypt_block(keys, cipher);
-    check::same(&there, &cipher) & check::same(&back, &plain)
+    (there == cipher) & (back == plain)
 }
 
 // A key, a block and its cipher.
@@ -64,7 +64,7 @@ fn came_out(out: &[u8], n: usize, bytes: &[u8]) -> bool {
     if out.len() < n {
         return false;
     }
-    check::same(&out[0..n], bytes)
+    &out[0..n] == bytes
 }
 
 // Whether the plain text encrypts to the cipher text, and the cipher text decrypts to the plain text.
@@ -85,7 +85,7 @@ fn encrypts_in_place(
     cipher: &[u8],
 ) -> bool {
     let done = aes::cbc::cbc_encrypt_in_place(keys, vector, buffer);
-    done & check::same(buffer, cipher)
+    done & (&*buffer == cipher)
 }
 
 // Whether they agree, and the buffer of the plain text encrypts in place.

@@ -6,9 +6,11 @@ mod ciphers;
 mod hashes;
 mod hexes;
 
-ghost use Rattle.std.specs.Prelude.{◌≤◌};
+ghost use Rattle.std.specs.Prelude.{◌≤◌, length};
 
-use libc::STDOUT_FILENO;
+use std::fs::File;
+use std::io::Read;
+use std::rt::Files;
 
 // What the lines of a file have: a key and its eleven round keys.
 const KEY: u8 = 0;
@@ -62,17 +64,12 @@ fn one_if(is_so: bool) -> u64
 }
 
 // The line of a source.
-fn report(name: &[u8], agreed: u64, tried: u64) {
-    io::write_all(STDOUT_FILENO, name);
-    io::write_all(STDOUT_FILENO, b": ");
-    io::print_decimal(STDOUT_FILENO, agreed);
-    io::write_all(STDOUT_FILENO, b" of ");
-    io::print_decimal(STDOUT_FILENO, tried);
-    io::write_all(STDOUT_FILENO, b" agree\n");
+fn report(rt: &impl Print, name: &str, agreed: u64, tried: u64) {
+    let _ = println!(rt; "{name}: {agreed} of {tried} agree");
 }
 
 // All lines of a text up to its end, a million at most.
-fn lines(name: &[u8], text: &[u8], end: usize, kind: u8) {
+fn lines(rt: &impl Print, name: &str, text: &[u8], end: usize, kind: u8) {
     let mut agreed: u64 = 0;
     let mut tried: u64 = 0;
     let mut at: usize = 0;
@@ -87,35 +84,49 @@ fn lines(name: &[u8], text: &[u8], end: usize, kind: u8) {
         at = l.next;
         turns -= 1;
     }
-    report(name, agreed, tried);
+    report(rt, name, agreed, tried);
+}
+
+// Reads until a buffer is full, the input ends or a read fails, and answers how many bytes came.
+fn read_full<R: Read>(source: &mut R, buffer: &mut [u8]) -> usize
+    ensures { result ≤ length buffer.new }
+{
+    let mut done = 0;
+    while done < buffer.len() {
+        let more = source.read(&mut buffer[done..]).unwrap_or(0);
+        if more == 0 {
+            break;
+        }
+        done += more;
+    }
+    done
 }
 
 // The vectors of a file that is open.
-fn read_lines(name: &[u8], fd: i32, text: &mut [u8; 262144], kind: u8) {
-    let n = io::read_full(fd, text);
-    lines(name, text, n, kind);
+fn read_lines<R: Read>(rt: &impl Print, name: &str, source: &mut R, kind: u8) {
+    let mut text = [0u8; 262144];
+    let n = read_full(source, &mut text);
+    lines(rt, name, &text, n, kind);
 }
 
 // The vectors of a file, or why it cannot be read.
-fn file(name: &[u8], kind: u8) {
-    let fd = os::open_read(name);
-    if fd < 0 {
-        os::fail(name);
-        return;
+fn file(rt: &(impl Files + Print + Eprint), name: &str, kind: u8) {
+    match File::open(rt, name) {
+        Ok(mut opened) => read_lines(rt, name, &mut opened, kind),
+        Err(error) => {
+            let _ = eprintln!(rt; "{name}: {error}");
+        }
     }
-    let mut text = [0u8; 262144];
-    read_lines(name, fd, &mut text, kind);
-    libc::close(fd);
 }
 
-fn main() {
-    file(b"fips197a.txt", KEY);
-    file(b"fips197bc.txt", BLOCK);
-    file(b"sp80038a.txt", CHAIN);
-    file(b"aes128cbc.txt", CHAIN);
-    file(b"fips180.txt", DIGEST);
-    report(b"a million a's", one_if(hashes::million()), 1);
-    file(b"sha256.txt", DIGEST);
-    file(b"rfc4231.txt", TAG);
-    file(b"hmac256.txt", TAG);
+fn main(rt: HostRuntime) {
+    file(&rt, "fips197a.txt", KEY);
+    file(&rt, "fips197bc.txt", BLOCK);
+    file(&rt, "sp80038a.txt", CHAIN);
+    file(&rt, "aes128cbc.txt", CHAIN);
+    file(&rt, "fips180.txt", DIGEST);
+    report(&rt, "a million a's", one_if(hashes::million()), 1);
+    file(&rt, "sha256.txt", DIGEST);
+    file(&rt, "rfc4231.txt", TAG);
+    file(&rt, "hmac256.txt", TAG);
 }
