@@ -8,9 +8,9 @@ ghost use Rattle.intake.specs.Buffer.{between};
 ghost use Rattle.listing.specs.Turns.{turn_on, Turned, TurnedBy, Ran};
 
 use intake::{Held, refill};
-use libc::STDOUT_FILENO;
 use lines::listing::{Listed, list};
 use octets::bounds::lesser;
+use std::io::{Read, Write};
 
 // What a turn leaves: what is held, and whether all that it listed was written.
 #[derive(Clone, Copy)]
@@ -35,7 +35,13 @@ fn buffer() -> [u8; 262144]
 
 // After a listing of the buffer's first bytes: the run is over if the listing is or a write failed; else what is left of them is kept, and
 // the input read on.
-fn go_on(input: &mut [u8], end: usize, listed: Listed, whole: bool) -> Held
+fn go_on<R: Read>(
+    source: &mut R,
+    input: &mut [u8],
+    end: usize,
+    listed: Listed,
+    whole: bool,
+) -> Held
     ensures { Turned listed.over whole (between input.old listed.read end) input.new result }
 {
     if listed.over | !whole {
@@ -45,11 +51,17 @@ fn go_on(input: &mut [u8], end: usize, listed: Listed, whole: bool) -> Held
             over: true,
         };
     }
-    refill(input, listed.read, end)
+    refill(source, input, listed.read, end)
 }
 
 // One turn: lists what is in the buffer, writes the lines, keeps what is left of the input and reads on.
-fn turn(input: &mut [u8], held: Held, out: &mut [u8]) -> Went
+fn turn<R: Read, W: Write>(
+    source: &mut R,
+    input: &mut [u8],
+    held: Held,
+    sink: &mut W,
+    out: &mut [u8],
+) -> Went
     requires { held.held ≤ length input.old }
     ensures turned_by { TurnedBy (turn_on (take held.held input.old) held.ended (length out.old)) input.new result }
     ensures new_out { out.new ≡ sets out.old 0
@@ -58,14 +70,19 @@ fn turn(input: &mut [u8], held: Held, out: &mut [u8]) -> Went
     let end = held.held;
     let listed = list(&input[0..end], held.ended, out);
     let written = lesser(listed.written, out.len());
-    let whole = io::write_all(STDOUT_FILENO, &out[0..written]);
-    let next = go_on(input, end, listed, whole);
+    let whole = sink.write_all(&out[0..written]).is_ok();
+    let next = go_on(source, input, end, listed, whole);
     Went { held: next, whole }
 }
 
 // Turn after turn, until the run is over. An input of n bytes takes at most 2 n + 2 of them (`RunStops`), so that none of fewer than
 // 2^63 - 1 bytes brings the counter to its end.
-fn run(input: &mut [u8], out: &mut [u8]) -> Finish
+fn run<R: Read, W: Write>(
+    source: &mut R,
+    input: &mut [u8],
+    sink: &mut W,
+    out: &mut [u8],
+) -> Finish
     ensures { Ran (length out.old) result }
 {
     let nothing = Held {
@@ -79,15 +96,17 @@ fn run(input: &mut [u8], out: &mut [u8]) -> Finish
     };
     let mut turns = u64::MAX;
     while 0 < turns && !last.held.over {
-        let next = turn(input, last.held, out);
+        let next = turn(source, input, last.held, sink, out);
         last = next;
         turns -= 1;
     }
     Finish { last, turns }
 }
 
-fn main() {
+fn main(rt: HostRuntime) {
+    let mut source = rt.stdin();
+    let mut sink = rt.stdout();
     let mut input = buffer();
     let mut out = buffer();
-    run(&mut input, &mut out);
+    run(&mut source, &mut input, &mut sink, &mut out);
 }

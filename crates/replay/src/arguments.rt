@@ -1,5 +1,12 @@
 // SPDX-License-Identifier: MPL-2.0
 // The arguments: KEYS F [VERDICT].
+ghost use Rattle.std.specs.Prelude.{◌≤◌, length};
+
+use crate::report::text;
+use std::env::FillError;
+use std::fs::File;
+use std::io::Read;
+use std::rt::{Env, Files};
 
 // Room for the 64 key bytes, and one more, by which a longer file is known.
 pub(crate) const KEY_ROOM: usize = 65;
@@ -14,12 +21,10 @@ pub(crate) struct Asked {
 }
 
 // A line on standard error: what is wrong, and the usage.
-fn complain(what: &[u8]) -> Asked {
-    io::write_all(libc::STDERR_FILENO, b"replay: ");
-    io::write_all(libc::STDERR_FILENO, what);
-    io::write_all(
-        libc::STDERR_FILENO,
-        b"; usage: replay KEYS F [VERDICT] < CAPTURE, KEYS a file of 64 bytes, F from 1 to 16384, VERDICT 0 or 1\n",
+fn complain(rt: &impl Eprint, what: &str) -> Asked {
+    let _ = eprintln!(
+        rt;
+        "replay: {what}; usage: replay KEYS F [VERDICT] < CAPTURE, KEYS a file of 64 bytes, F from 1 to 16384, VERDICT 0 or 1"
     );
     Asked {
         good: false,
@@ -54,21 +59,27 @@ fn longer(value: usize, digit: u8) -> usize {
     value * 10 + (digit - b'0') as usize
 }
 
+// Whether an argument was given.
+fn is_given(rt: &impl Env, i: usize) -> bool {
+    let mut text = [0u8; 1];
+    !matches!(rt.arg(i, &mut text), Err(FillError::NotPresent))
+}
+
 // The fragment size, argument 2; 0 where it is no number from 1 to 16,384.
-fn size_asked() -> usize {
+fn size_asked(rt: &impl Env) -> usize {
     let mut text = [0u8; 16];
-    let length = os::arg(2, &mut text);
+    let length = rt.arg(2, &mut text).unwrap_or(0);
     let size = number(&text[..length]);
     if 16384 < size { 0 } else { size }
 }
 
 // The verdict, argument 3, which is 1 where it is not given; 2 where it is neither 0 nor 1.
-fn verdict_asked(given: bool) -> u8 {
+fn verdict_asked(rt: &impl Env, given: bool) -> u8 {
     if !given {
         return 1;
     }
     let mut text = [0u8; 2];
-    let length = os::arg(3, &mut text);
+    let length = rt.arg(3, &mut text).unwrap_or(0);
     if length != 1 {
         return 2;
     }
@@ -81,40 +92,51 @@ fn verdict_asked(given: bool) -> u8 {
     2
 }
 
-// Reads the key file, argument 1, and answers how many bytes it has, 65 for any more; 66 where it cannot be read.
-fn read_keys(keys: &mut [u8; KEY_ROOM]) -> usize {
-    let mut path = io::buffer();
-    let length = os::arg(1, &mut path);
-    let file = os::open_read(&path[..length]);
-    if file < 0 {
-        return 66;
+// Reads until a buffer is full, the input ends or a read fails, and answers how many bytes came.
+fn read_full<R: Read>(source: &mut R, buffer: &mut [u8]) -> usize
+    ensures { result ≤ length buffer.new }
+{
+    let mut done = 0;
+    while done < buffer.len() {
+        let more = source.read(&mut buffer[done..]).unwrap_or(0);
+        if more == 0 {
+            break;
+        }
+        done += more;
     }
-    let count = io::read_full(file, keys);
-    libc::close(file);
-    count
+    done
+}
+
+// Reads the key file, argument 1, and answers how many bytes it has, 65 for any more; 66 where it cannot be read.
+fn read_keys(rt: &(impl Env + Files), keys: &mut [u8; KEY_ROOM]) -> usize {
+    let mut path = [0u8; 4096];
+    let length = rt.arg(1, &mut path).unwrap_or(0);
+    match File::open(rt, text(&path[..length])) {
+        Ok(mut file) => read_full(&mut file, keys),
+        Err(_) => 66,
+    }
 }
 
 // Takes the arguments apart.
-pub(crate) fn read_arguments() -> Asked {
-    let count = os::arg_count();
-    if (count < 3) | (4 < count) {
-        return complain(b"2 or 3 arguments are wanted");
+pub(crate) fn read_arguments(rt: &(impl Env + Files + Eprint)) -> Asked {
+    if !is_given(rt, 2) | is_given(rt, 4) {
+        return complain(rt, "2 or 3 arguments are wanted");
     }
-    let verdict = verdict_asked(count == 4);
+    let verdict = verdict_asked(rt, is_given(rt, 3));
     if 1 < verdict {
-        return complain(b"VERDICT is neither 0 nor 1");
+        return complain(rt, "VERDICT is neither 0 nor 1");
     }
     let mut keys = [0u8; KEY_ROOM];
-    let read = read_keys(&mut keys);
+    let read = read_keys(rt, &mut keys);
     if read == 66 {
-        return complain(b"KEYS cannot be read");
+        return complain(rt, "KEYS cannot be read");
     }
     if read != 64 {
-        return complain(b"KEYS has not 64 bytes");
+        return complain(rt, "KEYS has not 64 bytes");
     }
-    let size = size_asked();
+    let size = size_asked(rt);
     if size == 0 {
-        return complain(b"F is no number from 1 to 16384");
+        return complain(rt, "F is no number from 1 to 16384");
     }
     Asked {
         good: true,

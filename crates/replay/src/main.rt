@@ -13,11 +13,12 @@ use answer::put_answer;
 use arguments::{KEY_ROOM, read_arguments};
 use hub::{Answer, Connection};
 use intake::refill;
-use libc::STDOUT_FILENO;
 use lines::listing::LINE;
 use lines::stream::{Next, ahead};
 use octets::bounds::lesser;
 use report::save;
+use std::io::Read;
+use std::rt::Files;
 
 // The most pieces of a report.
 const PIECES: usize = 64;
@@ -43,14 +44,15 @@ struct Play {
 }
 
 // Writes the line of an answer.
-fn tell(answer: Answer) {
+fn tell(rt: &impl Print, answer: Answer) {
     let mut line = [0u8; LINE];
     let end = lesser(put_answer(answer, &mut line, 0), LINE);
-    io::write_all(STDOUT_FILENO, &line[0..end]);
+    let _ = rt.write_all(&line[0..end]);
 }
 
 // Plays a message: the step, the answer's line, and the report if it is complete, which has the number that was expected.
 fn play_message(
+    rt: &(impl Files + Print + Eprint),
     connection: Connection,
     message: &[u8],
     keys: &[u8],
@@ -61,16 +63,18 @@ fn play_message(
     let sequence = connection.progress.expected;
     let stepped = connection.step(message, keys, working, report, verdict);
     let answer = stepped.answer;
-    tell(answer);
+    tell(rt, answer);
     if let Answer::Complete { length, heard: _ } = answer {
         let end = lesser(length, report.len());
-        save(&report[0..end], sequence);
+        save(rt, &report[0..end], sequence);
     }
     stepped.connection
 }
 
 // One turn: plays the next message that the buffer holds, or reads on.
-fn turn(
+fn turn<R: Read>(
+    rt: &(impl Files + Print + Eprint),
+    source: &mut R,
     play: Play,
     keys: &[u8],
     verdict: u8,
@@ -86,6 +90,7 @@ fn turn(
         Next::Message(size) => {
             let after = from + lesser(size as usize, end - from);
             let next = play_message(
+                rt,
                 connection,
                 &input[from..after],
                 keys,
@@ -102,7 +107,7 @@ fn turn(
             }
         }
         Next::More => {
-            let held = refill(input, from, end);
+            let held = refill(source, input, from, end);
             Play {
                 connection,
                 held: held.held,
@@ -122,7 +127,9 @@ fn turn(
 }
 
 // Turn after turn; every turn takes a byte or is among the last, so that no input reaches the end of the counter.
-fn run(
+fn run<R: Read>(
+    rt: &(impl Files + Print + Eprint),
+    source: &mut R,
     connection: Connection,
     keys: &[u8],
     verdict: u8,
@@ -139,19 +146,29 @@ fn run(
     };
     let mut turns = u64::MAX;
     while 0 < turns && !play.over {
-        let next = turn(play, keys, verdict, input, working, report);
+        let next = turn(rt, source, play, keys, verdict, input, working, report);
         play = next;
         turns -= 1;
     }
 }
 
 // Runs with the 64 key bytes, and the first bytes of a buffer for the report.
-fn run_in(connection: Connection, keys: &[u8], verdict: u8, report: &mut [u8], room: usize) {
+fn run_in(
+    rt: &HostRuntime,
+    connection: Connection,
+    keys: &[u8],
+    verdict: u8,
+    report: &mut [u8],
+    room: usize,
+) {
     let last = lesser(64, keys.len());
     let end = lesser(room, report.len());
+    let mut source = rt.stdin();
     let mut input = input_room();
-    let mut working = io::large_buffer();
+    let mut working = [0u8; 65536];
     run(
+        rt,
+        &mut source,
         connection,
         &keys[0..last],
         verdict,
@@ -162,18 +179,24 @@ fn run_in(connection: Connection, keys: &[u8], verdict: u8, report: &mut [u8], r
 }
 
 // Opens the connection and runs with a report buffer for 64 pieces.
-fn run_with(size: usize, keys: &[u8; KEY_ROOM], verdict: u8, report: &mut [u8; LONGEST]) {
+fn run_with(
+    rt: &HostRuntime,
+    size: usize,
+    keys: &[u8; KEY_ROOM],
+    verdict: u8,
+    report: &mut [u8; LONGEST],
+) {
     let opened = Connection::open(size);
     let connection = opened.connection;
     let room = PIECES * lesser(size, 16384);
-    run_in(connection, keys, verdict, report, room);
+    run_in(rt, connection, keys, verdict, report, room);
 }
 
-fn main() {
-    let asked = read_arguments();
+fn main(rt: HostRuntime) {
+    let asked = read_arguments(&rt);
     if asked.good {
         let keys = asked.keys;
         let mut report = [0u8; LONGEST];
-        run_with(asked.size, &keys, asked.verdict, &mut report);
+        run_with(&rt, asked.size, &keys, asked.verdict, &mut report);
     }
 }

@@ -2,6 +2,8 @@
 // A report that is complete, written to a file of its own.
 use lines::text::{put_named, put_text};
 use octets::bounds::lesser;
+use std::rt::Files;
+use std::{fs, io};
 
 // The longest name: "report-", ten digits, ".part".
 const NAME: usize = 32;
@@ -12,30 +14,28 @@ fn name_of(sequence: u32, name: &mut [u8]) -> usize {
     if end == 0 { 0 } else { end - 1 }
 }
 
-// Writes a file whole, and answers whether that was done.
-fn write_file(path: &[u8], bytes: &[u8]) -> bool {
-    let file = os::open_overwrite(path);
-    if file < 0 {
-        return false;
-    }
-    let whole = io::write_all(file, bytes);
-    let closed = libc::close(file);
-    whole & (closed == 0)
+// A path as the system's files are named: by text. What is no text is as no path, which no file has.
+pub(crate) fn text(path: &[u8]) -> &str {
+    str::from_utf8(path).unwrap_or("")
+}
+
+// Writes a file whole under one name, and gives it another.
+fn write_file(rt: &impl Files, part: &str, name: &str, bytes: &[u8]) -> io::Result<()> {
+    fs::write(rt, part, bytes)?;
+    fs::rename(rt, part, name)
 }
 
 // Writes a report to the file report-N in the current folder, N its SequenceNumber: whole, under another name first, or not at all.
 // Where it cannot be done a line on standard error says so.
-pub(crate) fn save(report: &[u8], sequence: u32) {
+pub(crate) fn save(rt: &(impl Files + Eprint), report: &[u8], sequence: u32) {
     let mut name = [0u8; NAME];
     let length = lesser(name_of(sequence, &mut name), NAME);
     let mut part = name;
     let end = lesser(put_text(b".part", &mut part, length), NAME);
-    if write_file(&part[0..end], report) {
-        if os::rename(&part[0..end], &name[0..length]) == 0 {
-            return;
-        }
+    let there = text(&name[0..length]);
+    let here = text(&part[0..end]);
+    if let Err(error) = write_file(rt, here, there, report) {
+        let _ = eprintln!(rt; "replay: not written: {there}: {error}");
+        let _ = fs::remove_file(rt, here);
     }
-    io::write_all(libc::STDERR_FILENO, b"replay: not written: ");
-    os::fail(&name[0..length]);
-    os::unlink(&part[0..end]);
 }
