@@ -17,6 +17,7 @@ pub struct Marked {
 }
 
 // How many of the first `count` indexes are heard.
+#[tactic(auto, unfolding(wire::specs::Fields::most_pieces))]
 pub(crate) fn count_heard(heard: &[bool; PIECES], count: usize) -> usize
     requires { count ≤ most }
     ensures { result ≡ come count heard.now }
@@ -33,6 +34,7 @@ pub(crate) fn count_heard(heard: &[bool; PIECES], count: usize) -> usize
 // The set with this index heard, counted up to `count`. All places are written and counted by bytes, sixteen at once: a store to the one place
 // would hold up whoever reads the set next, and a sum of words would go place by place. `turn` is TURN at the count, `here` at the
 // index.
+#[tactic(auto, unfolding(wire::specs::Fields::most_pieces))]
 pub(crate) fn mark(heard: [bool; PIECES], index: usize, count: usize) -> Marked
     requires { (index < most) × (count ≤ most) }
     ensures { (result.heard ≡ mark heard index) × (result.told ≡ come count (mark heard index)) }

@@ -259,6 +259,7 @@ impl Progress {
     }
 
     // A piece with its header's numbers and its bytes comes, on a connection of this fragment size.
+    #[tactic(auto, using(crate::proofs::Refusals::fitting), unfolding(crate::specs::Join::join, crate::specs::Join::report_after, wire::specs::Fields::most_pieces))]
     pub fn join(self, size: usize, piece: Piece, payload: &[u8], report: &mut [u8]) -> Joined
         ensures value { result ≡ join size self piece payload.now report.old }
         ensures new_report { report.new ≡ report_after size self piece payload.now report.old }

@@ -1,6 +1,6 @@
 -- SPDX-License-Identifier: MPL-2.0
 -- The heard set is looked at only where count or channel differs: else there is nothing to find.
-use Rattle.laws.proofs.Kit.{◌≡◌, refl, Bool, true, false, not, ◌&&◌, ◌||◌, and-false, take_all, arith}
+use Rattle.laws.proofs.Kit.{◌≡◌, refl, Bool, true, false, not, ◌&&◌, ◌||◌, take_all, arith}
 use Rattle.laws.proofs.Bools.{and_one}
 use Rattle.wire.specs.Fields.{most_pieces}
 use Rattle.joining.specs.Heard.{most}
@@ -9,9 +9,6 @@ use Rattle.joining.proofs.unlike.Goals as goal
 one-differs : (a b : Bool) → (not a || not b) ≡ not (a && b)
 one-differs true b = refl
 one-differs false b = refl
-
-pub returns-then-held-piece : goal.returns-then-held-piece
-returns-then-held-piece c = simp (one-differs, c.if-held-piece.true, and-false)
 
 pub returns : goal.returns
 unfolding most_pieces

@@ -1,7 +1,6 @@
 -- SPDX-License-Identifier: MPL-2.0
 -- What is not refused begins within the report.
-use Rattle.laws.proofs.Kit.{◌*◌, sym, ◌∙◌, drop, length-drop, eq-eqb, ne_eqb, add-sub_cancel_left, arith}
-use Rattle.joining.proofs.Places.{take-least}
+use Rattle.laws.proofs.Kit.{sym, ◌∙◌, arith}
 use Rattle.joining.proofs.Cuts.{cuttable}
 use Rattle.joining.proofs.cut.cut_piece.Goals as goal
 
@@ -16,12 +15,3 @@ overflow_add-end c = omega (arith, (cuttable _ _ _ (sym c.cut_refusal.ensures �
 
 pub slice_bounds-result-end-2 : goal.slice_bounds-result-end-2
 slice_bounds-result-end-2 c = omega (arith, (cuttable _ _ _ (sym c.cut_refusal.ensures ∙ c.if-cut_refusal-ne0.false)).within)
-
-pub returns-then-cut_refusal-ne0 : goal.returns-then-cut_refusal-ne0
-returns-then-cut_refusal-ne0 c = rw (← c.cut_refusal.ensures, ne_eqb _ _ c.if-cut_refusal-ne0.true)
-
-pub returns : goal.returns
-returns c =
-    let a = c.args in
-    rw (← c.cut_refusal.ensures, eq-eqb _ _ c.if-cut_refusal-ne0.false, add-sub_cancel_left, c.lesser.ensures)
-    (take-least a.size (drop (a.size * a.i) a.report.now) _ (sym (length-drop (a.size * a.i) a.report.now)))

@@ -2,13 +2,8 @@
 -- One index more is counted if it is heard.
 use Rattle.laws.proofs.Kit.{add-one, arith}
 use Rattle.joining.specs.Heard.{has}
-use Rattle.wire.specs.Fields.{most_pieces}
 use Rattle.joining.proofs.HeardLaws.{come-suc, bit_byte}
 use Rattle.joining.proofs.heard.count_heard.Goals as goal
-
-pub bounds-heard-i : goal.bounds-heard-i
-unfolding most_pieces
-bounds-heard-i c = omega arith
 
 pub loop-i-preserved : goal.loop-i-preserved
 loop-i-preserved c =

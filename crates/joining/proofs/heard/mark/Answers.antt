@@ -1,6 +1,6 @@
 -- SPDX-License-Identifier: MPL-2.0
 -- Up to the index the set is as it was, after it the index is marked; the places passed are counted.
-use Rattle.laws.proofs.Kit.{ℕ, suc, ◌+◌, ◌-◌, min, ◌<◌, ◌≡◌, refl, ◌∙◌, ap, ap₂, Bool, false, ◌||◌, ◌&&◌, List, length, set, length-set}
+use Rattle.laws.proofs.Kit.{ℕ, suc, ◌+◌, ◌-◌, min, ◌<◌, ◌≡◌, refl, ◌∙◌, ap, Bool, false, ◌||◌, ◌&&◌, List, length, set, length-set}
 use Rattle.laws.proofs.Kit.{get_or-set_same, eqb, ltb, eq-eqb, ne_eqb, ltb-true, ltb-false, and-false, add-one, ⊎_elim, arith}
 use lib.Seq.{set-get_or, take-set-le}
 use Rattle.laws.proofs.Bools.{or-true, or-none, and_one}
@@ -37,22 +37,6 @@ come-set l n i t m b e h =
 
 come-begun : (n : ℕ) (l : List Bool) → 0 ≡ come (min 0 n) l
 come-begun n l = let m : min 0 n ≡ 0 = omega arith in rw m
-
-pub overflow_cast-turn : goal.overflow_cast-turn
-unfolding most_pieces
-overflow_cast-turn c = omega arith
-
-pub overflow_sub-turn : goal.overflow_sub-turn
-unfolding most_pieces
-overflow_sub-turn c = omega arith
-
-pub overflow_cast-here : goal.overflow_cast-here
-unfolding most_pieces
-overflow_cast-here c = omega arith
-
-pub overflow_add-here : goal.overflow_add-here
-unfolding most_pieces
-overflow_add-here c = omega arith
 
 pub loop-i-init : goal.loop-i-init
 unfolding most_pieces
@@ -97,12 +81,3 @@ loop-i-preserved c =
       within = omega arith;
       as_long = omega (arith, length-set s.next s.i b);
     }
-
-pub returns : goal.returns
-unfolding most_pieces
-returns c =
-    let s = c.loop-i in
-    let a = c.args in
-    let e : s.next ≡ mark a.heard a.index = s.invariant.after (omega arith) in
-    let m : min s.i a.count ≡ a.count = omega arith in
-    (e, s.invariant.counted ∙ ap₂ come m e)
