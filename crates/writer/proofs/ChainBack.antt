@@ -1,6 +1,6 @@
 -- SPDX-License-Identifier: MPL-2.0
 -- A chain is the same whatever stands after it, so one that the writer accepts is read back.
-use Rattle.laws.proofs.Kit.{ℕ, zero, suc, ◌+◌, ◌-◌, ◌≡◌, refl, ap, false, true≢false, not, List, [], ◌∷◌, ◌++◌, length, drop, length-append, eqb, ltb}
+use Rattle.laws.proofs.Kit.{ℕ, zero, suc, ◌+◌, ◌≡◌, refl, ap, false, true≢false, not, List, [], ◌∷◌, ◌++◌, length, drop, length-append, eqb, ltb}
 use Rattle.laws.proofs.Kit.{eqb-true, le-ltb, ltb-false, not-false, zero-add, arith}
 use lib.Seq.{drop-append-le}
 use Rattle.laws.proofs.Bools.{or-false}

@@ -42,6 +42,7 @@ impl Written {
 }
 
 // The refusals of a writer whose bytes would have no shape, or no room.
+#[tactic(auto, unfolding(crate::specs::Written::put_refusal))]
 pub(crate) fn put_refusal(bad: bool, size: usize, room: usize) -> u8
     ensures { result ≡ put_refusal bad size room }
 {
