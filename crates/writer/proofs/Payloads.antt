@@ -54,14 +54,6 @@ module _ (mode connect : ℕ) (c t : List ℕ) where
   unfolding write
   length-device = simp length-append (omega arith)
 
-  -- Certificate and thumbprint are not too long.
-  pub short-device : (leb mode 2 && (eqb connect 2 || eqb connect 3) && leb 1 (length c) && leb (length c) 2048 && leb (length t) 512) ≡ true
-      → (length c ≤ 2048) × (length t ≤ 512)
-  short-device e =
-      let a = and-true (leb mode 2 && (eqb connect 2 || eqb connect 3) && leb 1 (length c) && leb (length c) 2048) (leb (length t) 512) e in
-      let b = and-true (leb mode 2 && (eqb connect 2 || eqb connect 3) && leb 1 (length c)) (leb (length c) 2048) a.0 in
-      (leb-true (length c) 2048 b.1, leb-true (length t) 512 a.1)
-
 module _ (mode : ℕ) (name salt hash : List ℕ) where
   -- What a Presence Response's writer tests: mode, name, salt and hash are well formed.
   abbrev tested : Bool
