@@ -1,7 +1,7 @@
 -- SPDX-License-Identifier: MPL-2.0
 -- Opening: a sealed part by its first and its last block, what the rows before the tag leave, and the table as a whole.
 use Rattle.laws.proofs.Kit.{ℕ, ◌-◌, ◌*◌, ◌/◌, ◌%◌, ◌≤◌, ◌<◌, ◌≡◌, refl, sym, Bool, false, cond, List, ◌++◌, length, take, drop, length-drop, leb}
-use Rattle.laws.proofs.Kit.{take_all, take_at, take-length, ne_eqb, eqb-true, le-ltb, ltb-false, le-leb, leb-false, not-false, arith}
+use Rattle.laws.proofs.Kit.{take_all, take_at, ne_eqb, eqb-true, le-ltb, ltb-false, le-leb, leb-false, not-false, arith}
 use lib.Seq.{take-append-le, drop-append-le}
 use Rattle.laws.proofs.Bools.{or-false}
 use Rattle.laws.specs.Rows.{first, test_of}
@@ -59,12 +59,11 @@ module _ (keys : List (List ℕ)) (v sealed : List ℕ) (some : 16 ≤ length se
         → bad ≡ bad_blocks (length sealed) front end → bad ≡ bad_plain plain
     local-judged ef ee eb = rw (eb, ef, ee, in-front, ← long) (front-judged plain _ (omega (arith, long)))
 
-    pub local-copied : (after working : List ℕ) → let part = take (length sealed - 0) local in
-        after ≡ take (length part) part ++ drop (length part) working → after ≡ plain ++ drop (length plain) working
-    local-copied after working h =
+    pub local-copied : (y working : List ℕ) → y ≡ take (length sealed - 0) local → y ++ drop (length sealed - 0) working ≡ plain ++ drop (length plain) working
+    local-copied y working h =
         let all : length sealed - 0 ≡ length sealed = omega arith in
         let same : take (length sealed - 0) local ≡ plain = rw (all, in-front) (take_at plain _ (length sealed) long) in
-        rw (same, take-length) at h
+        rw (h, same, all, ← long)
 
 -- What the rows before the tag leave.
 pub record Placed (given start keys : ℕ) : Type 0 where

@@ -14,6 +14,7 @@ pub(crate) fn block_at(bytes: &[u8], at: usize) -> [u8; 16]
 }
 
 // SessionID, SequenceNumber, FragmentIndex and FragmentCount of a message, joined.
+#[tactic(auto, unfolding(crate::specs::Keys::vector_block, laws::specs::Bytes::bytes_at))]
 fn vector_block(message: &[u8]) -> [u8; 16]
     requires { 40 ≤ length message.now }
     ensures { result ≡ vector_block message.now }
@@ -35,6 +36,7 @@ pub(crate) fn vector(keys: &[u8], message: &[u8]) -> [u8; 16]
 }
 
 // The tag of a message that is given without its last 32 bytes. It sees, for MessageLength, the length of what it is given.
+#[tactic(auto, unfolding(crate::specs::Keys::tag_of))]
 pub(crate) fn tag_of(keys: &[u8], body: &[u8]) -> [u8; 32]
     requires { (length keys.now ≡ 64) × (4 ≤ length body.now) × (length body.now < 65536) }
     ensures { result ≡ tag_of keys.now body.now }

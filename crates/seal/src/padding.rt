@@ -11,6 +11,7 @@ ghost use Rattle.seal.specs.Padding.{padding, sealed_size, bad_blocks};
 use octets::numbers::number32;
 
 // How many padding bytes follow a payload of n bytes.
+#[tactic(auto, unfolding(crate::specs::Padding::padding))]
 pub(crate) fn padding(size: u32) -> usize
     ensures { (result ≡ padding size) × (result ≤ 16) }
 {
@@ -18,6 +19,7 @@ pub(crate) fn padding(size: u32) -> usize
 }
 
 // How many bytes the sealed part of a payload of n bytes has. No size wraps.
+#[tactic(auto, unfolding(crate::specs::Padding::sealed_size))]
 pub fn sealed_size(size: u32) -> usize
     ensures { result ≡ sealed_size size }
 {
