@@ -6,7 +6,7 @@ use Rattle.vectors.proofs.lines.Given as goal
 abbrev pub invariant-loop-turns : goal.invariant-loop-turns
 invariant-loop-turns g l = record {
   agreed : l.agreed + l.turns ≤ 1000000;
-  tried : l.tried + l.turns ≤ 1000000
+  tried : l.tried + l.turns ≤ 1000000;
 }
 
 abbrev pub decreases-loop-turns : goal.decreases-loop-turns

@@ -1,6 +1,6 @@
 -- SPDX-License-Identifier: MPL-2.0
 -- What was stored stays within the room.
-use Rattle.std.proofs.Common.{length, ◌-◌, ◌≤◌, ◌≡◌}
+use Rattle.std.proofs.Common.{length, ◌-◌, ◌≤◌}
 use Rattle.vectors.proofs.hexes.field.Given as goal
 
 abbrev pub invariant-loop-n : goal.invariant-loop-n
