@@ -35,13 +35,7 @@ fn buffer() -> [u8; 262144]
 
 // After a listing of the buffer's first bytes: the run is over if the listing is or a write failed; else what is left of them is kept, and
 // the input read on.
-fn go_on<R: Read>(
-    source: &mut R,
-    input: &mut [u8],
-    end: usize,
-    listed: Listed,
-    whole: bool,
-) -> Held
+fn go_on<R: Read>(source: &mut R, input: &mut [u8], end: usize, listed: Listed, whole: bool) -> Held
     ensures { Turned listed.over whole (between input.old listed.read end) input.new result }
 {
     if listed.over | !whole {
@@ -77,12 +71,7 @@ fn turn<R: Read, W: Write>(
 
 // Turn after turn, until the run is over. An input of n bytes takes at most 2 n + 2 of them (`RunStops`), so that none of fewer than
 // 2^63 - 1 bytes brings the counter to its end.
-fn run<R: Read, W: Write>(
-    source: &mut R,
-    input: &mut [u8],
-    sink: &mut W,
-    out: &mut [u8],
-) -> Finish
+fn run<R: Read, W: Write>(source: &mut R, input: &mut [u8], sink: &mut W, out: &mut [u8]) -> Finish
     ensures { Ran (length out.old) result }
 {
     let nothing = Held {
