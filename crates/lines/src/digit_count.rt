@@ -4,6 +4,7 @@ ghost use Rattle.std.specs.Prelude.{◌≡◌};
 ghost use Rattle.lines.specs.Text.{digit_count};
 
 // How many digits a number has, of at most ten.
+#[tactic(auto, unfolding(crate::specs::Text::digit_count))]
 pub(crate) fn digit_count(number: u32) -> usize
     ensures { result ≡ digit_count number }
 {

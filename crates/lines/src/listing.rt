@@ -29,6 +29,7 @@ fn put_header(header: Header, size: u16, out: &mut [u8], at: usize) -> usize
 
 // Puts the line of a message of n bytes at a place, and answers the place after it; where there is less room than a line
 // needs, nothing is put and the place itself is the answer.
+#[tactic(auto, unfolding(crate::specs::Listing::line_of, crate::specs::Text::put, crate::specs::Text::put_end))]
 pub fn put_line(answer: HeaderRead, size: u16, out: &mut [u8], at: usize) -> usize
     ensures value { result ≡ put_end 64 at (line_of answer size) out.old }
     ensures new_out { out.new ≡ put 64 at (line_of answer size) out.old }
@@ -78,6 +79,7 @@ fn stopped(run: Listed, over: bool) -> Listed
 }
 
 // Writes the line of a message that has n bytes.
+#[tactic(auto, unfolding(crate::specs::Text::put, crate::specs::Text::put_end))]
 fn tell(run: Listed, message: &[u8], size: u16, out: &mut [u8]) -> Listed
     requires size_bound { run.read + size < 2 ^ 64 }
     requires written_in_bounds { run.written + 64 ≤ length out.old }
@@ -96,6 +98,7 @@ fn tell(run: Listed, message: &[u8], size: u16, out: &mut [u8]) -> Listed
 }
 
 // One turn: a message is listed if there is a whole one and room for its line.
+#[tactic(auto, unfolding(crate::specs::Listing::turn_at))]
 fn turn(run: Listed, stream: &[u8], ended: bool, out: &mut [u8]) -> Listed
     requires { run.read ≤ length stream.now }
     ensures value { result ≡ turned run (turn_at (drop run.read stream.now) ended (length out.old) run.written) }

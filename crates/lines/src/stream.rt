@@ -17,6 +17,7 @@ pub enum Next {
 }
 
 // The first message of a stream: "MessageLength bytes at a time, at least 42, or what is left".
+#[tactic(auto, unfolding(crate::specs::Stream::ahead))]
 pub fn ahead(stream: &[u8], ended: bool) -> Next
     ensures { result ≡ ahead stream.now ended }
 {

@@ -58,6 +58,7 @@ pub(crate) fn put_name(name: &[u8], number: u32, out: &mut [u8], at: usize) -> u
 
 // The same for a caller that has not looked for room. It needs room for the name and 11 bytes more; where there is less, nothing is
 // put and the place itself is the answer.
+#[tactic(auto, unfolding(crate::specs::Text::put, crate::specs::Text::put_end))]
 pub fn put_named(name: &[u8], number: u32, out: &mut [u8], at: usize) -> usize
     ensures value { result ≡ put_end (length name.now + 11) at (named name.now number) out.old }
     ensures new_out { out.new ≡ put (length name.now + 11) at (named name.now number) out.old }
@@ -72,6 +73,7 @@ pub fn put_named(name: &[u8], number: u32, out: &mut [u8], at: usize) -> usize
 }
 
 // Puts a text at a place, and answers the place after it; where there is no room, nothing is put and the place itself is the answer.
+#[tactic(auto, unfolding(crate::specs::Text::put, crate::specs::Text::put_end))]
 pub fn put_text(text: &[u8], out: &mut [u8], at: usize) -> usize
     ensures value { result ≡ put_end (length text.now) at text.now out.old }
     ensures new_out { out.new ≡ put (length text.now) at text.now out.old }
