@@ -20,7 +20,7 @@ pub overflow_cast-size : goal.overflow_cast-size
 overflow_cast-size c =
     let b = bounds _ _ _ _ _ (record { at = λ i. omega (arith, c.type_inv.chain i) }) (sym c.refused-refusal.ensures ∙ c.if-refusal-ne0.false) in
     let whole : c.finished_length-size.result ≡ length_of c.args.header c.args.chain.now c.args.payload.now
-      = c.finished_length-size.ensures ∙ rw c.is_sealed-sealed.ensures in
+    = c.finished_length-size.ensures ∙ rw c.is_sealed-sealed.ensures in
     omega arith
 
 pub put_front-requires : goal.put_front-requires
@@ -31,15 +31,15 @@ put_front-requires c =
 pub returns-then-sealed : goal.returns-then-sealed
 returns-then-sealed c =
     let e = wrote-sealed _ _ _ _ _ (sym c.refused-refusal.ensures ∙ c.if-refusal-ne0.false)
-      (record { at = λ i. omega (arith, c.type_inv.chain i) })
-      (c.finished_length-size.ensures ∙ rw c.is_sealed-sealed.ensures) c.put_front.ensures
-      (sym c.is_sealed-sealed.ensures ∙ c.if-sealed.true) c.seal.ensures.new_out in
+    (record { at = λ i. omega (arith, c.type_inv.chain i) })
+    (c.finished_length-size.ensures ∙ rw c.is_sealed-sealed.ensures) c.put_front.ensures
+    (sym c.is_sealed-sealed.ensures ∙ c.if-sealed.true) c.seal.ensures.new_out in
     record { value = e.0; new_out = e.1 }
 
 pub returns : goal.returns
 returns c =
     let e = wrote-plain _ _ _ _ _ (sym c.refused-refusal.ensures ∙ c.if-refusal-ne0.false)
-      (record { at = λ i. omega (arith, c.type_inv.chain i) })
-      (c.finished_length-size.ensures ∙ rw c.is_sealed-sealed.ensures) c.put_front.ensures
-      (sym c.is_sealed-sealed.ensures ∙ c.if-sealed.false) c.store_bytes.ensures in
+    (record { at = λ i. omega (arith, c.type_inv.chain i) })
+    (c.finished_length-size.ensures ∙ rw c.is_sealed-sealed.ensures) c.put_front.ensures
+    (sym c.is_sealed-sealed.ensures ∙ c.if-sealed.false) c.store_bytes.ensures in
     record { value = e.0; new_out = e.1 }
