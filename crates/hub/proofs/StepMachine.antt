@@ -12,7 +12,7 @@ use Rattle.joining.proofs.DemandThree.{Machine}
 use Rattle.hub.specs.declared.Connection.{Connection}
 use Rattle.hub.specs.declared.Stepped.{Stepped}
 use Rattle.hub.specs.Answers.{said, is_quiet}
-use Rattle.hub.specs.Hear.{piece_in, with_progress, joined, joins, hear, report_heard}
+use Rattle.hub.specs.Hear.{piece_in, with_progress, joined, hear, report_heard}
 use Rattle.hub.specs.Step.{step, report_stepped}
 use Rattle.admission.specs.Calls.{Call}
 use Rattle.hub.specs.Calls.{Standing, after, says}
