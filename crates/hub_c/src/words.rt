@@ -28,7 +28,7 @@ pub(crate) fn fill(out: &mut [u8], bytes: &[u8])
     requires { length bytes.now ≡ length out.old }
     ensures { out.new ≡ bytes.now }
 {
-    bytes::copy(bytes, out);
+    out.copy_from_slice(bytes);
 }
 
 // The word at a place; past the end it counts as 0.

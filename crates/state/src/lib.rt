@@ -84,7 +84,7 @@ fn nonce_at(s: &[u8]) -> [u8; 8]
     ensures { result ≡ bytes_at s.now nonce_place 8 }
 {
     let mut nonce = [0u8; 8];
-    bytes::copy(&s[NONCE_AT..X_AT], &mut nonce);
+    nonce.copy_from_slice(&s[NONCE_AT..X_AT]);
     nonce
 }
 
@@ -94,7 +94,7 @@ fn key_at(s: &[u8], at: usize) -> [u8; 32]
     ensures { result ≡ bytes_at s.now at 32 }
 {
     let mut key = [0u8; 32];
-    bytes::copy(&s[at..at + 32], &mut key);
+    key.copy_from_slice(&s[at..at + 32]);
     key
 }
 
