@@ -71,6 +71,7 @@ impl Gateway {
     }
 
     // A reply by which the enrolment does not fail.
+    #[tactic(auto, unfolding(crate::specs::Client::take))]
     fn take(self, connect: u8) -> Stepped
         ensures { result ≡ take self connect }
     {
@@ -95,6 +96,7 @@ impl Gateway {
     }
 
     // A Connect message.
+    #[tactic(auto, unfolding(crate::specs::Client::client))]
     fn connect(self, payload: &[u8], verdict: u8) -> Stepped
         ensures { result ≡ client self (connect_type payload.now) (code_of payload.now) verdict }
     {
@@ -112,6 +114,7 @@ impl Gateway {
     }
 
     // A message that the reader read.
+    #[tactic(auto, unfolding(crate::specs::Step::hear))]
     pub(crate) fn hear(self, header: Header, payload: &[u8], verdict: u8) -> Stepped
         ensures { result ≡ hear self header payload.now verdict }
     {

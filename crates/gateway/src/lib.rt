@@ -80,6 +80,7 @@ pub struct Stepped {
 
 impl Gateway {
     // Opens a connection of this fragment size and SessionID; a size outside 1 to 16,384 is refused with 24, and the connection is all zero.
+    #[tactic(auto, unfolding(crate::specs::Opening::opened))]
     pub fn open(size: usize, session: u64) -> Opened
         ensures { result ≡ opened size session }
     {

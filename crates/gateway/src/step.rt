@@ -9,6 +9,7 @@ use message::reading::MessageRead;
 
 impl Gateway {
     // One message, with the keys, the working buffer and the verdict on the hub's certificate.
+    #[tactic(auto, unfolding(crate::specs::Step::step))]
     pub fn step(self, message: &[u8], keys: &[u8], working: &mut [u8], verdict: u8) -> Stepped
         ensures value { result ≡ step self message.now keys.now working.old verdict }
         ensures new_working { working.new ≡ working_admitted self.size verdict message.now keys.now
