@@ -187,7 +187,7 @@ fn refusal(
     next(n, UNLIKE_REPEAT, other)
 }
 
-// A piece is written from place `start` on: that part of the report buffer is lent on to the copying leaf.
+// A piece is written from place `start` on: that part of the report buffer is lent to a copy.
 fn store(report: &mut [u8], start: usize, payload: &[u8])
     requires { start + length payload.now ≤ length report.old }
     ensures { report.new ≡ put report.old start payload.now }
