@@ -11,6 +11,7 @@ use lines::text::{put_named, put_text};
 use octets::bounds::lacks;
 
 // A number that fits 32 bits, as every count of pieces and every length of a report does.
+#[tactic(auto, unfolding(crate::specs::Lines::shown))]
 fn short(number: usize) -> u32
     ensures { result ≡ shown number }
 {
@@ -22,6 +23,7 @@ fn short(number: usize) -> u32
 }
 
 // Puts a name and a number at a place where there is room for any line, and answers the place after them.
+#[tactic(auto, unfolding(lines::specs::Text::put, lines::specs::Text::put_end))]
 fn put_word(name: &[u8], number: u32, out: &mut [u8], at: usize) -> usize
     requires { (length name.now ≤ 9) × (at + 64 ≤ length out.old) }
     ensures value { result ≡ at + length (named name.now number) }
@@ -40,6 +42,7 @@ fn put_count(name: &[u8], count: usize, out: &mut [u8], at: usize) -> usize
 }
 
 // Puts the line of an answer at such a place.
+#[tactic(auto, unfolding(crate::specs::Lines::answer_line, lines::specs::Text::put, lines::specs::Text::put_end))]
 fn put_line(answer: Answer, out: &mut [u8], at: usize) -> usize
     requires { at + 64 ≤ length out.old }
     ensures value { result ≡ at + length (answer_line answer) }
@@ -58,6 +61,7 @@ fn put_line(answer: Answer, out: &mut [u8], at: usize) -> usize
 
 // Puts the line of an answer at a place, and answers the place after it; where there is less room than a line needs, nothing is put
 // and the place itself is the answer.
+#[tactic(auto, unfolding(lines::specs::Text::put, lines::specs::Text::put_end))]
 pub(crate) fn put_answer(answer: Answer, out: &mut [u8], at: usize) -> usize
     ensures value { result ≡ put_end 64 at (answer_line answer) out.old }
     ensures new_out { out.new ≡ put 64 at (answer_line answer) out.old }

@@ -22,8 +22,7 @@ pub(crate) struct Asked {
 
 // A line on standard error: what is wrong, and the usage.
 fn complain(rt: &impl Eprint, what: &str) -> Asked {
-    let _ = eprintln!(
-        rt;
+    let _ = eprintln!(rt;
         "replay: {what}; usage: replay KEYS F [VERDICT] < CAPTURE, KEYS a file of 64 bytes, F from 1 to 16384, VERDICT 0 or 1"
     );
     Asked {
