@@ -7,12 +7,10 @@ use Rattle.joining.specs.declared.answer.Said.{Said}
 use Rattle.joining.specs.Cut.{bad_size}
 use Rattle.admission.specs.Admission.{another_session}
 use Rattle.admission.specs.Calls.{Call}
-use Rattle.hub.specs.Calls.{after, says}
 use Rattle.gateway.specs.declared.Gateway.{Gateway}
 use Rattle.gateway.specs.Answers.{due_in, due_number}
 use Rattle.gateway.specs.Client.{in_state}
 use Rattle.gateway.specs.Calls as gateway
-use Rattle.promises.specs.HostStates.{Does}
 use Rattle.promises.specs.Gateway as client
 use Rattle.promises.specs.TwoSides.{Sides, Letter, Replies}
 use Rattle.promises.specs.TwoSides.{due_types, asked, Given}

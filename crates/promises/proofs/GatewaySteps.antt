@@ -18,7 +18,6 @@ use Rattle.gateway.specs.declared.Answer.TheVariants.{Next, Ready, Failed, Again
 use Rattle.gateway.specs.Answers.{said, due_in, next, again, now_ready, now_failed}
 use Rattle.gateway.specs.Client.{stepped, refuse, in_state, fails, replied, take, client}
 use Rattle.gateway.specs.Step.{hear, step}
-use Rattle.gateway.specs.Calls.{after}
 use Rattle.gateway.proofs.Ways.{step-has}
 use Rattle.promises.specs.Gateway.{Admitted, Does, ByGatewayStates, GatewayLeavesAlone, GatewayKeeps, DueNames}
 use Rattle.promises.proofs.Admitting.{role-hears}

@@ -9,7 +9,7 @@ use Rattle.joining.specs.declared.answer.Said.{Said}
 use Rattle.joining.specs.Cut.{bad_size}
 use Rattle.admission.specs.Calls.{Call}
 use Rattle.hub.specs.declared.Connection.{Connection}
-use Rattle.hub.specs.Hear.{certificate, is_foreign}
+use Rattle.hub.specs.Hear.{is_foreign}
 use Rattle.hub.specs.Calls.{Standing, after, says}
 use Rattle.promises.specs.HostStates.{Does, HostStates}
 use Rattle.promises.specs.TwoSides.{Sides, Letter, Asks}

@@ -11,7 +11,7 @@ use Rattle.gateway.specs.declared.Gateway.{Gateway}
 use Rattle.gateway.specs.declared.Opened as gateway
 use Rattle.gateway.specs.Opening as opening
 use Rattle.gateway.specs.Answers.{due_in, due_number}
-use Rattle.promises.specs.TwoSides.{Sides, Letter, IsRequest, Each, named, due_types, Moment, Begins, OneOf}
+use Rattle.promises.specs.TwoSides.{Sides, Letter, IsRequest, Each, due_types, Moment, Begins, OneOf}
 use Rattle.promises.specs.TwoSides.{OneSession}
 use Rattle.promises.proofs.SidesSay.{request_type}
 use Rattle.promises.proofs.HubHears.{HubAt, hub-went}

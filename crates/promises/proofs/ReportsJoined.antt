@@ -16,7 +16,7 @@ use Rattle.hub.proofs.StepMachine.{Brings, hub}
 use Rattle.promises.specs.Reports.{Sending, began, fragments, Fair, fragment, header_for, Sent, Course, done, brings, rests}
 use Rattle.promises.specs.Reports.{Brought, DemandThree, NotBetween}
 use Rattle.promises.proofs.ReadBack.{steps-by-state}
-use Rattle.joining.specs.Events.{Event, piece}
+use Rattle.joining.specs.Events.{Event}
 use Rattle.admission.specs.Calls.{Call}
 use Rattle.hub.specs.Calls.{Standing}
 

@@ -4,7 +4,6 @@
 use Rattle.laws.proofs.Kit.{ℕ, zero, suc, ◌+◌, ◌≤◌, ◌<◌, ◌≡◌, refl, sym, ◌∙◌, ap, subst, List, [], ◌∷◌, ◌++◌, length, replicate}
 use Rattle.laws.proofs.Kit.{length-replicate, ⊎_elim, arith}
 use Rattle.laws.proofs.Order.{lt-or-ge}
-use Rattle.payloads.specs.Format.{◌and◌}
 use Rattle.seal.specs.Padding.{sealed_size}
 use Rattle.admission.specs.Calls.{Call}
 use Rattle.hub.specs.Opening.{blank, opened}

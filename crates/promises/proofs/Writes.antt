@@ -9,7 +9,7 @@ use Rattle.laws.specs.Bytes.{AreBytes}
 use Rattle.laws.proofs.ByteLists.{take-bytes, drop-bytes}
 use Rattle.message.specs.Writing.{length_of, write_refusal, message_bytes, write_answer, written_into}
 use Rattle.message.proofs.WrittenLengths.{length-message_bytes}
-use Rattle.joining.specs.Heard.{most, bit}
+use Rattle.joining.specs.Heard.{bit}
 use Rattle.joining.specs.Cut.{cut_count}
 use Rattle.joining.proofs.Cuts.{not-over}
 use Rattle.promises.specs.Written.{Wrote}
