@@ -14,12 +14,12 @@ fn name_of(sequence: u32, name: &mut [u8]) -> usize {
     if end == 0 { 0 } else { end - 1 }
 }
 
-// A path as the system's files are named: by text. What is no text is as no path, which no file has.
+// A path as the text that files are named by. Bytes that are no text give the empty path, which names no file.
 pub(crate) fn text(path: &[u8]) -> &str {
     str::from_utf8(path).unwrap_or("")
 }
 
-// Writes a file whole under one name, and gives it another.
+// Writes a file whole under one name, then gives it another.
 fn write_file(rt: &impl Files, part: &str, name: &str, bytes: &[u8]) -> io::Result<()> {
     fs::write(rt, part, bytes)?;
     fs::rename(rt, part, name)
