@@ -1013,7 +1013,7 @@ uint32_t hub_cut(const uint8_t *report, size_t report_n, uint64_t fragment_size,
  * Returns   HUB_DONE, HUB_WRONG_BUFFER (line or length), then 1 to 9 in this order.
  * On done   the first length[0] bytes of line are the line; the rest is unchanged.
  * On refusal 1 to 9 likewise, length too: the line is `refused N` and a newline.
- * Proved    the contract (`lineOf` in crates/lines/specs/Listing.antt).
+ * Proved    the contract (`line_of` in crates/lines/specs/Listing.antt).
  */
 HUB_ANSWER_MATTERS
 uint32_t hub_list(const uint8_t *message, size_t message_n, uint8_t *line, size_t line_n, uint64_t *length, size_t length_n);

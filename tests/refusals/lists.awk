@@ -11,8 +11,8 @@ function camel(text,    words, count, i, out) {
         out = out capital(words[i])
     return out
 }
-function low(text) { return tolower(substr(text, 1, 1)) substr(text, 2) }
-function upper(text) { gsub(" ", "_", text); return toupper(text) }
+function snake(text) { gsub(" ", "_", text); return text }
+function upper(text) { return toupper(snake(text)) }
 
 # Text after what stands before it, broken so that no line is longer than 113.
 function broken(before, text,    words, count, i, line) {
@@ -41,7 +41,7 @@ function block(kind,    i, width, name) {
         if (kind == "constants")
             printf "// %s.\npub const %s: u8 = %d;\n", capital(document[i]), upper(names[i]), i
         else if (kind == "definitions")
-            printf "-- %s\nabbrev pub %s : ℕ\n%s = %d\n\n", document[i], low(name), low(name), i
+            printf "-- %s\nabbrev pub %s : ℕ\n%s = %d\n\n", document[i], snake(names[i]), snake(names[i]), i
         else if (kind == "header")
             broken(sprintf("    %-" (width + 11) "s/*", "HUB_" upper(names[i]) " = " i ","), header[i] " */")
         else if (kind == "texts")
