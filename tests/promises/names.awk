@@ -4,7 +4,7 @@
 # function;   module CRATE MODULE MODULE;   type CRATE MODULE NAME;   edit CRATE - NAME;   file - - NAME   of a file or a folder, by path or name.
 # What is in `...` is judged by its form:
 #     a/b           a file or a folder                       a::b::c     a public function c, or a module
-#     a.b           a file, or field b of the record a       a_b         an edit or a public function
+#     a.b           a file, or field b of the record a       a_b         an edit, or anything that is public
 #     a-b           a public law                             else        anything that is public, or a crate
 # `a`, `b` (File) or (crate, File): each stands in a file of that name. crate `a`, `b`: an edit of that crate. What has a space is no name.
 
@@ -30,7 +30,7 @@ function judge(token, crate, file,    part, n) {
     } else if (token ~ /_/) {
         if (has("edit", token)) {
             if (crate != "" && !has("edit", token, crate)) says("is no edit of " crate)
-        } else if (!has("function", token)) says("is no edit and no public function")
+        } else if (!has("function", token) && !has("public", token)) says("is no edit and nothing public")
     } else if (token ~ /-/ && !has("public", token)) says("is no public law")
     else if (!has("public", token) && !has("function", token) && !has("type", token) && !(token in crates)) says("is nothing public")
     if (file != "" && !has("public", token, file_crate, file)) says("does not stand in " (file_crate == "" ? "" : file_crate ", ") file)
