@@ -2,19 +2,16 @@
 # LC_ALL=C awk -f contracts.awk FILE..: a line `FUNCTION|OF WHAT|FAULT` for each fault in the contracts of the public functions of Rattle sources,
 # then the line `functions N`. A FUNCTION is named by its crate, its file and its name; OF WHAT is `result`, `place`, `contract` or the name of a
 # parameter. A clause is exact where it has the form
-#     λ r. ⌜ r ≡ E ⌝      or, for a struct, one such clause for each field      λ r. ⌜ (r .a ≡ E) × (r .b ≡ E) ⌝
-#     λ r. ⌜ now r ≡ E ⌝  of a part that is handed out
-#     λ _. ⌜ now (x .exit) ≡ E ⌝  of a buffer that is lent
-# and E speaks of what the call was given alone: not of the result, and of what is lent as `now (x .entry)` and in no other way. Outside its
-# brackets E has numbers, fields, parameters, names that a `ghost use` of its file brings, and the operators below, from where they belong. Each
-# binds more tightly than ≡, so the equation is the claim; what else stands there may be an operator that does not.
+#     result ≡ E       or, for a struct, one such claim for each field      (result.a ≡ E) × (result.b ≡ E)
+#     result.now ≡ E   of a part that is handed out
+#     x.new ≡ E        of a buffer that is lent
+# and E speaks of what the call was given alone: not of the result, and of what is lent as `x.old` where it can be changed, else as `x.now`, and in
+# no other way. Outside its brackets E has numbers, fields, parameters, names that a `ghost use` of its file brings, and the operators below, from
+# where they belong. Each binds more tightly than ≡, so the equation is the claim; what else stands there may be an operator that does not.
 
 BEGIN {
-    belongs["≡"] = "mathlib.Core.Path"
-    split("+ - * / % ^", number, " ")
-    for (i in number) belongs[number[i]] = "Prim.Native.Nat"
-    belongs["++"] = belongs["∷"] = "mathlib.Core.List"
-    belongs["&&"] = belongs["||"] = "mathlib.Core.Bool"
+    split("≡ + - * / % ^ ++ ∷ && ||", meaning, " ")
+    for (i in meaning) belongs[meaning[i]] = "Rattle.std.specs.Prelude"
 }
 
 # A comment has become a form feed, which is a blank, so that a clause that has one is known: to the prover `//` is an operator.
@@ -68,70 +65,72 @@ function has(s, word) {
 
 function fault(of, text) { print name "|" of "|" text }
 
+# A text without each `word` that stands in it, alone or before a field.
+function without(s, word,    done, at, before, after) {
+    while (at = index(s, word)) {
+        done = done substr(s, 1, at - 1)
+        before = done == "" ? " " : substr(done, length(done))
+        s = substr(s, at + length(word))
+        after = s == "" ? " " : substr(s, 1, 1)
+        done = done (index(" ([{", before) && index(" .)]};", after) ? "()" : word)
+    }
+    return done s
+}
+
 # Whether a text speaks of nothing but what the call was given. A `_` is left to the prover to find, and may be found to be anything.
-function given(s, binder,    x) {
-    if (has(s, "_") || has(s, binder)) return 0
+function given(s,    x) {
     # What memory holds is spoken of at entry alone: a definition that is handed a buffer's name could look at its exit.
-    gsub(/now \((«)?[A-Za-z0-9_]+(»)? \.entry\)/, "()", s)
+    for (x in lent) { s = without(s, x "." lent[x]); s = without(s, "«" x "»." lent[x]) }
     # A field may have a buffer's name. After a λ a dot need not mean a field.
-    if (s !~ /λ/) gsub(/ \.[A-Za-z0-9]+/, "", s)
+    if (s !~ /λ/) gsub(/\.[A-Za-z0-9_]+/, "", s)
+    if (has(s, "_") || has(s, "result")) return 0
     for (x in lent) if (has(s, x)) return 0
     return 1
 }
 
 # Whether the word at a place outside brackets is none that could bind more loosely than ≡. A module's name may be an operator's, unless it is first.
-function tight(word, at,    path) {
+function tight(word, at,    path, n, i) {
     if (word in operator || word == "≡") return 0
-    if (word in meant || word in known || word in parameter) return 1
-    if (word ~ /^(\(\)|[0-9]+|0x[0-9A-Fa-f]+|\.[A-Za-z0-9'-]+|now|record|tt)$/) return 1
-    return at == 1 && split(word, path, ".") == 2 && (path[1] in modules) && path[2] ~ /^[A-Za-z0-9'-]+$/
+    if (word in meant || word in known || word ~ /^([0-9]+|0x[0-9A-Fa-f]+|record|tt)$/) return 1
+    n = split(word, path, ".")
+    for (i = 2; i <= n; i++) if (path[i] !~ /^[A-Za-z0-9_'-]+$/) return 0
+    # A bracket, or a field of one, which then stands beside it; a parameter, or a field of one.
+    if (word == "()" || (n > 1 && path[1] == "") || path[1] in parameter) return 1
+    return at == 1 && n == 2 && path[1] in modules
 }
 
 # Whether a claim says by an equation what `left` is, of nothing but what was given.
-function exact(claim, left, binder,    right, word, n, i) {
+function exact(claim, left,    right, word, n, i) {
     if (!("≡" in meant) || ("≡" in operator) || index(claim, left " ≡ ") != 1) return 0
     right = substr(claim, length(left " ≡ ") + 1)
     n = split(outside(right), word, " ")
     for (i = 1; i <= n; i++) if (!tight(word[i], i)) return 0
-    return given(right, binder)
+    return given(right)
 }
 
-# Whether a clause of the contract in hand has an exact claim of `left`, in which @ is for the result.
-function says(left,    i, l) {
-    for (i = 1; i <= claims; i++) {
-        l = left
-        if (l ~ /@/ && binder_of[i] == "_") continue
-        sub(/@/, binder_of[i], l)
-        if (exact(claim[i], l, binder_of[i])) return 1
-    }
+# Whether a clause of the contract in hand has an exact claim of `left`.
+function says(left,    i) {
+    for (i = 1; i <= claims; i++) if (exact(claim[i], left)) return 1
     return 0
 }
 
 function bracketed(s) { return substr(s, 1, 1) == "(" && closed(s, 1, "(", ")") == length(s) + 1 }
 
-# The claims of a clause, if it has the form that this can read.
-function take_claims(clause,    binder, part, n, i) {
-    # A comment may hide what is said or what seems to be, a text may hold brackets, and code may have more than one answer.
-    if (clause ~ /\f|--|\{-|"|⟦/) return
-    clause = joined(clause)
-    if (clause !~ /^λ [A-Za-z_]+\. ⌜ .* ⌝$/) return
-    binder = substr(clause, length("λ ") + 1)
-    binder = substr(binder, 1, index(binder, ".") - 1)
-    # A binder hides what else has its name, and so does a parameter.
-    if (binder in parameter || binder == "now" || "now" in parameter) return
-    clause = substr(clause, index(clause, "⌜ ") + length("⌜ "))
-    clause = substr(clause, 1, length(clause) - length(" ⌝"))
-    n = parts(clause, "×", part)
+# The claims of a clause, if it has a form that this can read.
+function take_claims(clause,    part, n, i) {
+    # A comment may hide what is said or what seems to be, a text may hold brackets, code may have more than one answer, and an assertion is more than
+    # a fact. A dot after a blank is no field's.
+    if (clause ~ /\f|--|\{-|"|⟦|⌜| \.[^ ]/) return
+    # `result` hides what else has its name.
+    if ("result" in parameter) return
+    n = parts(joined(clause), "×", part)
     for (i = 1; i <= n; i++) {
         # Bracketed, so that what is looser than × has no part in it; no binder, of which there merely is some value.
         if (n > 1 && !bracketed(part[i])) return
         while (bracketed(part[i])) part[i] = trim(substr(part[i], 2, length(part[i]) - 2))
         if (index(" " outside(part[i]) " ", " : ")) return
     }
-    for (i = 1; i <= n; i++) {
-        claim[++claims] = part[i]
-        binder_of[claims] = binder
-    }
+    for (i = 1; i <= n; i++) claim[++claims] = part[i]
 }
 
 # Whether a type holds memory of somebody else.
@@ -169,13 +168,13 @@ function judge_result(type,    field, n, i) {
     if (is_mut(type)) { fault("result", "hands out a part that can be changed"); return }
     if (may_borrow(referent(type))) { fault("result", "hands out a part within its result, which is not read here"); return }
     if (type ~ /^&/) {
-        if (says("now @")) fault("place", "says what the part holds that it hands out, and not where it stands")
+        if (says("result.now")) fault("place", "says what the part holds that it hands out, and not where it stands")
         else fault("result", "has no exact clause of its result")
         return
     }
-    if (says("@")) return
+    if (says("result")) return
     n = split(fields_of(type == "Self" ? impl : type), field, " ")
-    for (i = 1; i <= n; i++) if (!says("@ ." field[i])) break
+    for (i = 1; i <= n; i++) if (!says("result." field[i])) break
     if (n == 0 || i <= n) fault("result", "has no exact clause of its result" (n ? ": nor of its field " field[i] : ""))
 }
 
@@ -189,11 +188,10 @@ function take_parameters(s,    part, n, i, x) {
         sub(/:.*/, "", x)
         sub(/.*[ &]/, "", x)
         name_of[i] = x
-        parameter["«" x "»"] = 1
-        if (x !~ /_/) parameter[x] = 1
+        parameter[x] = parameter["«" x "»"] = 1
         type_of[i] = part[i]
         if (!sub(/^[^:]*: ?/, "", type_of[i])) sub(/self$/, "Self", type_of[i])
-        if (type_of[i] ~ /^&/) lent[x] = 1
+        if (type_of[i] ~ /^&/) lent[x] = is_mut(type_of[i]) ? "old" : "now"
     }
     return n
 }
@@ -202,7 +200,7 @@ function judge_lent(n,    i, x) {
     for (i = 1; i <= n; i++) {
         x = name_of[i]
         if (may_borrow(referent(type_of[i]))) fault(x, "has memory lent within the type of " x ", which is not read here")
-        else if (is_mut(type_of[i]) && !(x in parameter && says("now (" x " .exit)")) && !says("now («" x "» .exit)"))
+        else if (is_mut(type_of[i]) && !says(x ".new") && !says("«" x "».new"))
             fault(x, "has no exact clause of what " x " holds at exit")
     }
 }
@@ -279,11 +277,11 @@ function find_borrowing(    type, more) {
 # A name that a `ghost use` brings. Each word of an operator is one, unless it is the operator that is meant.
 function take_name(path, leaf,    mark, word, n, i) {
     mark = leaf
-    gsub(/^_|_$/, "", mark)
-    if (leaf == "_" mark "_" && (mark in belongs) && belongs[mark] == path) { meant[mark] = 1; return }
+    gsub(/^◌|◌$/, "", mark)
+    if (leaf == "◌" mark "◌" && (mark in belongs) && belongs[mark] == path) { meant[mark] = 1; return }
     sub(/.*( as |\.)/, "", leaf)
-    if (leaf !~ /_/) { known[leaf] = 1; return }
-    n = split(leaf, word, "_")
+    if (leaf !~ /◌/) { known[leaf] = 1; return }
+    n = split(leaf, word, "◌")
     for (i = 1; i <= n; i++) operator[word[i]] = 1
 }
 
