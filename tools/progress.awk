@@ -24,47 +24,66 @@ part == "log" { line[++count] = $0 }
 # ---- what the log says
 
 # A line without its end may still grow; one that ends like this does not.
-function whole(i) { return i < count || ended || line[i] ~ / s\)$|last proved\)$/ }
+function whole(i) { return i < count || ended || line[i] ~ /^rt: .*( proved|same libraries|stdout has)$|^logic=[a-z-]+( |$)/ }
 
-# What a line says is done: a crate, an edit or a program, and how that went.
+# What a line says is done: a crate, an edit or a program, and how that went. In a crate's folder rt names a crate when it begins with it, and its last
+# line is the prover's; rt ci names what it has done.
 function judge(text,    word, what) {
     split(text, word, " ")
     how = ""
     if (text ~ /^rt: must-fail [^ ]+: /) {
         what = word[3]
-        sub(/:$/, "", what)
-        how = text ~ /: refused, as it must be / ? "is refused" : "is NOT refused"
+        sub(/(\.edit)?:$/, "", what)
+        how = text ~ /: refused, as it must be/ ? "is refused" : "is NOT refused"
         return "edit " what
     }
-    if (text ~ /^rt: [^ ]+ (ran[ ,]|proved, and its run FAILED)/) {
-        how = text ~ / FAILED/ ? "has FAILED" : "has run"
+    if (text ~ /^rt: [^ ]+ ran[ ,]/) {
+        how = "has run"
         return "program " word[2]
     }
-    if (text ~ /^rt: [^ ]+ (NOT PROVED|proved \()/) {
-        how = text ~ / NOT PROVED/ ? "is NOT proved" : text ~ / proved \(unchanged / ? "unchanged" : "is proved"
+    if (text ~ /^rt: [^ :]+ (NOT PROVED|proved$)/) {
+        how = text ~ / NOT PROVED/ ? "is NOT proved" : "is proved"
         return "crate " word[2]
     }
-    if (text ~ /^rt: target\/staticlib\/lib[^ ]*\.a has /) {
-        what = word[2]
-        sub(/.*\/lib/, "", what)
-        sub(/\.a$/, "", what)
-        how = "is proved"
+    if (text ~ /^rt: [^ :]+ is kept: /) {
+        how = "unchanged"
+        return "crate " word[2]
+    }
+    if (text ~ /^rt: chose --jobs [0-9]+ for [^ ]+$/) {
+        busy = word[6]
+        return ""
+    }
+    if (text ~ /^logic=/ && busy != "") {
+        how = text ~ /^logic=proved/ ? "is proved" : "is NOT proved"
+        what = busy
+        busy = ""
         return "crate " what
     }
     return ""
 }
+function finish(item, told_how) {
+    done[item] = told_how
+    number[item] = ++done_of[kind_of(item)]
+    doing[++dones] = item
+    if (told_how == "unchanged") unchanged++
+    else { last = item; heavy += seconds[item] }
+}
+# The crates that the plan has before one that rt is at, and of which it has said nothing: they were built before.
+function passed_over(place,    i) {
+    for (i = 1; i < place; i++) if (!(planned[i] in done)) finish(planned[i], "unchanged")
+}
+function place_of(item,    i) { for (i = 1; i <= items; i++) if (planned[i] == item) return i; return 0 }
 function read_log(    i, item) {
-    for (i = 1; i <= end; i++) {
+    for (i = 1; i <= count; i++) {
+        if (!whole(i)) break
         item = judge(line[i])
+        if (busy != "") passed_over(place_of("crate " busy))
         if (!(item in seconds) || item in done) continue
-        done[item] = how
-        number[item] = ++done_of[kind_of(item)]
-        doing[++dones] = item
-        if (how == "unchanged") unchanged++
-        else { last = item; heavy += seconds[item] }
+        finish(item, how)
         # Where rt does prove one that was taken for old, the others are no longer taken for that.
         if (how != "unchanged" && item in old) stale = 1
     }
+    if (ended && status == 0) passed_over(items + 1)
 }
 function kind_of(item) { return substr(item, 1, index(item, " ") - 1) }
 function name_of(item) { return substr(item, index(item, " ") + 1) }
@@ -82,10 +101,12 @@ function reckon(    i, item, rest, scale) {
     left = rest * scale - (gone - at)
     if (left < 0) left = 0
     all_done = dones >= items
+    # Only edits and programs are left, of which rt says nothing before it has tried all.
+    unknown = done_of["crate"] + 0 == of["crate"] + 0
 }
 function clock(s) { return s < 100 ? s " s" : int(s / 60) " min " s % 60 " s" }
 function about() {
-    if (all_done) return ""
+    if (all_done || unknown) return ""
     if (left < 10) return ", a few seconds left"
     if (left < 55) return ", about " 10 * int(left / 10 + 0.5) " s left"
     if (left < 90) return ", about a minute left"
@@ -97,8 +118,13 @@ function times() { return clock(gone) " gone" (items ? about() : "") }
 
 function wipe() { return moving ? "\r\033[K" : "" }
 
-# The lines of rt, up to each of its own, which ends what it says of a crate. Left out is that a single function is proved, and what was loaded for that;
-# the notes too, but where the crate is not proved, for then they may say why.
+# Whether a line says no more than that a single function is proved, or what was loaded for that, or which crate it is of.
+function is_noise(text) {
+    return text ~ /^[a-z]+ [^ ]+: proved(, .*)?$|^(library|statements|crate) [^ ]+: modules |^logic \/|^logic=proved |^axioms [^ ]+: |^linked target=|^== |^empty contracts: 0 |^tests?: |^test .* ok(\.|$)/
+}
+
+# The lines of rt, up to each of its own, which ends what it says of a crate. Left out is what says little; the notes too, but where the crate is not
+# proved, for then they may say why.
 function show(    i, last_one, bad, good) {
     for (i = shown + 1; i <= end; ) {
         for (last_one = i; last_one < end && line[last_one] !~ /^rt: /; last_one++) ;
@@ -106,8 +132,8 @@ function show(    i, last_one, bad, good) {
         bad = how == "is NOT proved" || (how == "" && ended && status != 0)
         good = how == "unchanged" || how ~ /^(is|has) [a-z]/
         for (; i <= last_one; i++) {
-            if (line[i] ~ /^[a-z]+ [^ ]+: proved$|^library [^ ]+: modules |^logic \/|^logic=proved |^axioms [^ ]+: |^linked target=/) continue
-            if (line[i] ~ /(^|: )note: / && !bad) continue
+            if (is_noise(line[i])) continue
+            if (line[i] ~ /(^|: )note: / && line[i] !~ /^rt: / && !bad) continue
             if (moving && good && i == last_one) continue
             print wipe() line[i]
             fresh = 1
@@ -139,7 +165,8 @@ function moving_line(    most, bar, full, i, text, item, room) {
     most = (columns > 20 ? columns : 80) - 1
     full = gone + left > 0 ? int(10 * gone / (gone + left)) : 0
     for (i = 1; i <= 10; i++) bar = bar (i <= full ? "#" : ".")
-    if (last == "") text = of["crate"] ? of["crate"] " crates to prove" : "proving"
+    if (of["edit"] && unknown && !done_of["edit"]) text = of["crate"] " crates, trying " of["edit"] " edits"
+    else if (last == "") text = of["crate"] ? of["crate"] " crates to prove" : "proving"
     else text = kind_of(last) " " number[last] " of " of[kind_of(last)] ", " name_of(last)
     room = most - length(name ": [" bar "] ; " times())
     if (length(text) > room) text = room > 3 ? substr(text, 1, room - 2) ".." : ""
