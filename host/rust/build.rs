@@ -1,6 +1,6 @@
 // SPDX-License-Identifier: MPL-2.0
 //! Finds the static library: in the folder that HLIDUNSK_LIB names, where `./install` has put it as
-//! libhlidunsk.a, else in this repository, where `rt staticlib hub_c` has built it as libhub_c.a.
+//! libhlidunsk.a, else in this repository, where `tests/library` has built it as libhub_c.a.
 
 use std::env;
 use std::path::{Path, PathBuf};
@@ -9,7 +9,7 @@ fn main() {
     println!("cargo:rerun-if-env-changed=HLIDUNSK_LIB");
     let (folder, name) = match env::var_os("HLIDUNSK_LIB") {
         Some(folder) => (PathBuf::from(folder), "hlidunsk"),
-        None => (Path::new(env!("CARGO_MANIFEST_DIR")).join("../../target/staticlib"), "hub_c"),
+        None => (Path::new(env!("CARGO_MANIFEST_DIR")).join("../../crates/hub_c/out"), "hub_c"),
     };
     let library = folder.join(format!("lib{name}.a"));
     assert!(
