@@ -1,9 +1,8 @@
 -- SPDX-License-Identifier: MPL-2.0
 -- Parts one after the other: as they are stored, and as they stand in a list, each at its place.
-use Rattle.laws.proofs.Kit.{ℕ, ◌+◌, ◌-◌, ◌≤◌, ◌≡◌, refl, sym, ◌∙◌, List, [], ◌∷◌, ◌++◌, append_assoc, length, take, drop}
-use Rattle.laws.proofs.Kit.{length-append, sets}
+use Rattle.laws.proofs.Kit.{ℕ, ◌+◌, ◌-◌, ◌≤◌, ◌≡◌, refl, ◌∙◌, subst, List, [], ◌∷◌, ◌++◌, append_assoc, length, take, drop}
+use Rattle.laws.proofs.Kit.{add-sub_cancel_left, length-append, sets}
 use Rattle.laws.specs.Bytes.{bytes_at}
-use Rattle.laws.proofs.Lists.{copied-part}
 use Rattle.laws.proofs.Parts.{part-back, bytes_at-part, bytes_at-append}
 use Rattle.laws.proofs.Stores.{sets-sets}
 use Rattle.state.specs.State.{joined}
@@ -26,7 +25,11 @@ Stand s p (x ∷ xs) = (bytes_at s p (length x) ≡ x) × Stand s (p + length x)
 pub joined-stand : (a : List ℕ) (xs : List (List ℕ)) → Stand (a ++ joined xs) (length a) xs
 joined-stand a [] = tt
 joined-stand a (x ∷ xs) =
-    (part-back a x (joined xs) (length a) (length x) refl refl, rw (← append_assoc a x (joined xs), ← length-append a x) (joined-stand (a ++ x) xs))
+    let rest : Stand ((a ++ x) ++ joined xs) (length a + length x) xs =
+    subst (λ (n : ℕ). Stand ((a ++ x) ++ joined xs) n xs) (length-append a x) (joined-stand (a ++ x) xs) in (
+      part-back a x (joined xs) (length a) (length x) refl refl,
+      subst (λ (l : List ℕ). Stand l (length a + length x) xs) (append_assoc a x (joined xs)) rest,
+    )
 
 -- And where they stand, they are the bytes there.
 pub stand-joined : (s : List ℕ) (p : ℕ) (xs : List (List ℕ)) → Stand s p xs → joined xs ≡ bytes_at s p (length (joined xs))
@@ -35,8 +38,6 @@ stand-joined s p [] w = refl
 stand-joined s p (x ∷ xs) w =
     rw (length-append x (joined xs), bytes_at-append s p (length x) (length (joined xs)), w.0, ← stand-joined s (p + length x) xs w.1)
 
--- A copy of the part `&s[p..p + n]` over the whole of an array of n holds the bytes there.
-pub copied-bytes : (n p : ℕ) (s target r : List ℕ) → p + n ≤ length s → length target ≡ n
-    → r ≡ take (length (take (p + n - p) (drop p s))) (take (p + n - p) (drop p s)) ++ drop (length (take (p + n - p) (drop p s))) target
-    → r ≡ bytes_at s p n
-copied-bytes n p s target r h e q = q ∙ copied-part n p s target h e ∙ sym (bytes_at-part s p n h)
+-- A copy of the part `&s[p..p + n]` holds the bytes there.
+pub copied-bytes : (n p : ℕ) (s r : List ℕ) → p + n ≤ length s → r ≡ take (p + n - p) (drop p s) → r ≡ bytes_at s p n
+copied-bytes n p s r h e = rw (bytes_at-part s p n h, ← add-sub_cancel_left p n) e

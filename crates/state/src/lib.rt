@@ -66,6 +66,7 @@ fn bit_of(x: u8, k: u8) -> bool
 }
 
 // The heard set.
+#[tactic(auto, unfolding(wire::specs::Fields::most_pieces))]
 fn heard_at(s: &[u8]) -> [bool; PIECES]
     ensures { result ≡ heard_at s.now most }
 {
@@ -98,6 +99,7 @@ fn key_at(s: &[u8], at: usize) -> [u8; 32]
     key
 }
 
+#[tactic(auto, unfolding(wire::specs::Fields::most_pieces))]
 fn progress_at(s: &[u8]) -> Progress
     ensures { result ≡ progress_at s.now }
 {
@@ -154,6 +156,7 @@ fn weigh(b: bool, value: u8) -> u8
 }
 
 // An index and the seven after it as a byte.
+#[tactic(auto, unfolding(wire::specs::Fields::most_pieces))]
 fn eight_of(heard: [bool; PIECES], at: usize) -> u8
     requires { at + 8 ≤ most }
     ensures { result ≡ eight heard at }
@@ -169,6 +172,7 @@ fn eight_of(heard: [bool; PIECES], at: usize) -> u8
 }
 
 // Puts the heard set.
+#[tactic(auto, unfolding(wire::specs::Fields::most_pieces))]
 fn put_heard(out: &mut [u8], heard: [bool; PIECES])
     ensures { (out.new ≡ sets out.old heard_place (heard_bytes heard heard_size)) × (length heard ≡ most) }
 {
@@ -179,6 +183,7 @@ fn put_heard(out: &mut [u8], heard: [bool; PIECES])
     }
 }
 
+#[tactic(auto, unfolding(wire::specs::Fields::most_pieces))]
 fn put_progress(p: Progress, out: &mut [u8])
     ensures { (out.new ≡ sets out.old expected_place (progress_bytes p)) × (length p.heard ≡ most) }
 {
@@ -211,6 +216,7 @@ fn lay(c: Connection, out: &mut [u8])
 }
 
 // The state of a connection. It is laid in an array of its size: there each store is known to have room.
+#[tactic(auto, unfolding(wire::specs::Fields::most_pieces))]
 pub fn encode(c: Connection) -> [u8; STATE]
     ensures { result ≡ state_bytes c }
 {
