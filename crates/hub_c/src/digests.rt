@@ -40,6 +40,7 @@ pub extern "C" fn hub_hmac(key: &[u8], message: &[u8], out: &mut [u8]) -> u32
 }
 
 // Whether two tags are alike: 0 if they are, 1 if not. The comparison reads every byte.
+#[tactic(auto, unfolding(crate::specs::Digesting::tags_differ))]
 #[unsafe(no_mangle)]
 pub extern "C" fn hub_tags_differ(ours: &[u8], theirs: &[u8]) -> u32
     ensures { result ≡ tags_differ ours.now theirs.now }

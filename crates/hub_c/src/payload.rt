@@ -25,6 +25,7 @@ const COORDINATE: usize = 32;
 const PENDING_RESULT: u64 = PENDING as u64;
 
 // The buffer of the length has another size, or mode or code has no room in its field.
+#[tactic(auto, unfolding(crate::specs::Payload::wrong_words))]
 fn wrong_words(size: usize, mode: u64, code: u64) -> bool
     ensures { result ≡ wrong_words size mode code }
 {
@@ -32,6 +33,7 @@ fn wrong_words(size: usize, mode: u64, code: u64) -> bool
 }
 
 // Nonce, X or Y has another size.
+#[tactic(auto, unfolding(crate::specs::Payload::wrong_exchange))]
 fn wrong_exchange(nonce: usize, x: usize, y: usize) -> bool
     ensures { result ≡ wrong_exchange nonce x y }
 {
@@ -71,6 +73,7 @@ pub extern "C" fn hub_write_presence_request(out: &mut [u8], size: &mut [u64]) -
 }
 
 // Salt or hash has another size, or the device type has no room in its field.
+#[tactic(auto, unfolding(crate::specs::Payload::wrong_presence))]
 fn wrong_presence(device: u64, salt: usize, hash: usize) -> bool
     ensures { result ≡ wrong_presence device salt hash }
 {

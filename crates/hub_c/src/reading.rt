@@ -98,6 +98,7 @@ struct Place {
 }
 
 // The place of a payload by the numbers of a header, in a message and a working buffer of these lengths.
+#[tactic(auto, unfolding(crate::specs::Headers::place_in))]
 fn place_in(message: usize, working: usize, which: u64, from: usize, size: usize) -> Place
     ensures { result.buffer ∷ result.from ∷ result.size ∷ [] ≡ place_in message working which from size }
 {

@@ -12,6 +12,7 @@ const FIRST: usize = 4;
 const LEAST: u32 = SHORTEST as u32;
 
 // How many bytes the next message of a stream has: "MessageLength bytes at a time, at least 42". Before MessageLength is there it is 42.
+#[tactic(auto, unfolding(crate::specs::Stream::wanted_by))]
 #[unsafe(no_mangle)]
 pub extern "C" fn hub_wanted(bytes: &[u8]) -> u32
     ensures { result ≡ wanted_by bytes.now }

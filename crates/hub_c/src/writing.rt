@@ -16,6 +16,7 @@ const FIELDS: usize = 8;
 const MOST_SEQUENCE: u64 = 4294967295;
 
 // A word has no room in its field.
+#[tactic(auto, unfolding(crate::specs::Written::too_wide))]
 fn too_wide(fields: &[u64]) -> bool
     ensures { result ≡ too_wide fields.now }
 {
