@@ -54,6 +54,7 @@ pub extern "C" fn hub_gateway_open(fragment_size: u64, session: u64, gateway: &m
 }
 
 // Hands out what a step gives: the answer's words, and the next connection or the refusal's number.
+#[tactic(auto, unfolding(crate::specs::Client::gateway_after))]
 fn settle_gateway(stepped: Stepped, state: &mut [u8], answer: &mut [u64]) -> u32
     requires { (length state.old ≡ gateway_size) × (length answer.old ≡ answer_size) }
     ensures value { result ≡ (said stepped.answer).refusal }

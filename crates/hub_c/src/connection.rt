@@ -20,6 +20,7 @@ use wire::header::MOST_PIECES;
 const PIECES: usize = MOST_PIECES as usize;
 
 // The connection in a state buffer.
+#[tactic(auto, unfolding(wire::specs::Fields::most_pieces))]
 fn connection_of(state: &[u8]) -> Connection
     requires { length state.now ≡ state_size }
     ensures { result ≡ connection_at state.now }
@@ -30,6 +31,7 @@ fn connection_of(state: &[u8]) -> Connection
 }
 
 // Puts a connection into a state buffer.
+#[tactic(auto, unfolding(wire::specs::Fields::most_pieces))]
 fn put_connection(state: &mut [u8], connection: Connection)
     requires { length state.old ≡ state_size }
     ensures { state.new ≡ state_bytes connection }
@@ -39,6 +41,7 @@ fn put_connection(state: &mut [u8], connection: Connection)
 }
 
 // Opens a connection of this fragment size into a state buffer. Refused with 24 the state is that of the connection that is all zero.
+#[tactic(auto, unfolding(wire::specs::Fields::most_pieces))]
 #[unsafe(no_mangle)]
 pub extern "C" fn hub_open(fragment_size: u64, state: &mut [u8]) -> u32
     ensures value { result ≡ sized state_size state.old (opened fragment_size).refusal }
@@ -55,6 +58,7 @@ pub extern "C" fn hub_open(fragment_size: u64, state: &mut [u8]) -> u32
 }
 
 // Hands out what a step gives: the answer's words, and the next state or the refusal's number.
+#[tactic(auto, unfolding(crate::specs::Answered::state_after))]
 fn settle(stepped: Stepped, state: &mut [u8], answer: &mut [u64]) -> u32
     requires { (length state.old ≡ state_size) × (length answer.old ≡ answer_size) }
     ensures value { result ≡ (said stepped.answer).refusal }
@@ -80,6 +84,7 @@ pub(crate) fn verdict_of(word: u64) -> u8
 }
 
 // The report buffer is shorter than the report, whose length is known once the piece with the last index has come.
+#[tactic(auto, unfolding(crate::specs::Answered::short_report, wire::specs::Fields::most_pieces))]
 fn short_report(connection: Connection, room: usize) -> bool
     ensures { result ≡ short_report connection room }
 {
@@ -97,6 +102,7 @@ fn short_report(connection: Connection, room: usize) -> bool
 // One message on the connection in a state buffer: refused, with state and report as they were and the answer's words 0; or the next state,
 // and the answer in three words: kind, value, length. The length is never more than the report buffer has: one that is shorter than the report
 // is a wrong buffer.
+#[tactic(auto, unfolding(wire::specs::Fields::most_pieces))]
 #[unsafe(no_mangle)]
 pub extern "C" fn hub_step(
     state: &mut [u8],
