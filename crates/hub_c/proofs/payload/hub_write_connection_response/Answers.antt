@@ -14,7 +14,7 @@ pub hand_length-requires : goal.hand_length-requires
 hand_length-requires c = (words-tested _ _ _ _ _ c.wrong_words.ensures c.if-wrong_words-pending.false).0
 
 pub returns : goal.returns
-returns c = 
+returns c =
     let right = response-values (eqb c.args.res 1) c.args.mode c.args.res _ _ c.request_if-request.ensures in
     let value = rw right at c.write_connection_response.ensures.answer in
     let new_out = rw right at c.write_connection_response.ensures.bytes in
