@@ -1,6 +1,6 @@
 -- SPDX-License-Identifier: MPL-2.0
 -- The place in words is that of the part that is handed out: what the readers found lies in its buffer.
-use Rattle.laws.proofs.Kit.{ℕ, ◌+◌, ◌≤◌, ◌≡◌, refl, sym, ◌∙◌, Bool, true, false, cond, List, [], ◌∷◌, length, take, drop, get_or, le-ltb}
+use Rattle.laws.proofs.Kit.{ℕ, ◌+◌, ◌≤◌, ◌≡◌, refl, sym, ◌∙◌, Bool, true, false, cond, List, [], ◌∷◌, length, take, drop, le-ltb}
 use Rattle.laws.proofs.Kit.{eqb, eqb-false, arith}
 use Rattle.laws.specs.Rows.{first}
 use Rattle.laws.proofs.Cases.{on}
@@ -75,8 +75,3 @@ place-unopened =
       sealed = λ m w z. let f = found_header (read_header m) in rw z (unplaced (length m) (length w) f.from f.size);
       refused = λ m w n e. rw e (placed (length m) (length w) 0 0 false (omega arith));
     }
-
--- The place by the words of a header.
-pub place-told : (h : List ℕ) (m w a b d : ℕ) (p q : List ℕ) → a ≡ get_or h 8 0 → b ≡ get_or h 9 0 → d ≡ get_or h 10 0 → p ≡ place_in m w a b d
-    → q ≡ p → q ≡ place_in m w (get_or h 8 0) (get_or h 9 0) (get_or h 10 0)
-place-told h m w a b d p q e f g r s = rw (s, r, e, f, g)

@@ -1,6 +1,6 @@
 -- SPDX-License-Identifier: MPL-2.0
 -- Buffers that have their sizes, and what the calls over them come to, as laws over numbers and lists.
-use Rattle.laws.proofs.Kit.{ℕ, ◌*◌, ◌≤◌, ◌≡◌, refl, sym, ◌∙◌, ap, Bool, false, not, ◌||◌, List, [], ◌∷◌, length, sets, eqb, eq-eqb, ne_eqb, eqb-true}
+use Rattle.laws.proofs.Kit.{ℕ, ◌*◌, ◌≤◌, ◌≡◌, refl, sym, ◌∙◌, ap, false, not, ◌||◌, List, [], ◌∷◌, length, eqb, eq-eqb, ne_eqb, eqb-true}
 use Rattle.laws.proofs.Kit.{get_or, ltb, ltb-false, not-false}
 use Rattle.laws.specs.Bytes.{be16}
 use Rattle.laws.proofs.Bools.{or-false}
@@ -11,24 +11,17 @@ use Rattle.wire.proofs.Sound.{read-sound}
 use Rattle.lines.specs.Listing.{header_line, line_of}
 use Rattle.joining.specs.declared.cut.Cutting.{Cutting}
 use Rattle.joining.specs.Cut.{cut_refusal, cutting, cut_piece}
-use Rattle.laws.proofs.Stores.{sets-whole}
 use Rattle.hub_c.specs.Pieces.{cut_words}
 use Rattle.hub_c.specs.Written.{too_wide}
 use Rattle.hub_c.specs.Line.{line_text}
 
--- Of two buffers that have their sizes each has; the writer's words have a test beside them.
+-- Of two buffers that have their sizes each has.
 module _ (a m b n : ℕ) where
   pub first-sized : (not (eqb a m) || not (eqb b n)) ≡ false → a ≡ m
   first-sized e = eqb-true a m (not-false (eqb a m) (or-false (not (eqb a m)) (not (eqb b n)) e).0)
 
   pub second-sized : (not (eqb a m) || not (eqb b n)) ≡ false → b ≡ n
   second-sized e = eqb-true b n (not-false (eqb b n) (or-false (not (eqb a m)) (not (eqb b n)) e).1)
-
-  pub third-false : (t : Bool) → (not (eqb a m) || not (eqb b n) || t) ≡ false → t ≡ false
-  third-false t e = (or-false (not (eqb a m) || not (eqb b n)) t e).1
-
-  pub second-of-three : (t : Bool) → (not (eqb a m) || not (eqb b n) || t) ≡ false → b ≡ n
-  second-of-three t e = second-sized (or-false (not (eqb a m) || not (eqb b n)) t e).0
 
 -- Words that have room in their fields.
 pub fits : (w : List ℕ) → too_wide w ≡ false
@@ -45,11 +38,7 @@ fits w e =
     let two = or-false kind flags three.0 in
     (ltb-false _ _ two.0, ltb-false _ _ two.1, ltb-false _ _ three.1, ltb-false _ _ four.1, ltb-false _ _ all.1)
 
-pub ruleset sizes = (first-sized, second-sized, second-of-three)
-
--- Words stored over the whole of a buffer.
-pub stored-whole : (a l m : List ℕ) → length l ≡ length a → m ≡ sets l 0 a → m ≡ a
-stored-whole a l m e p = p ∙ sets-whole a l e
+pub ruleset sizes = (first-sized, second-sized)
 
 -- What the cutter answers is put into words.
 module _ (F : ℕ) (R : List ℕ) (i : ℕ) (k : Cutting) (answered : k ≡ cutting F (length R) i) where
