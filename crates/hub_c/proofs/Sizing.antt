@@ -15,13 +15,9 @@ use Rattle.hub_c.specs.Pieces.{cut_words}
 use Rattle.hub_c.specs.Written.{too_wide}
 use Rattle.hub_c.specs.Line.{line_text}
 
--- Of two buffers that have their sizes each has.
-module _ (a m b n : ℕ) where
-  pub first-sized : (not (eqb a m) || not (eqb b n)) ≡ false → a ≡ m
-  first-sized e = eqb-true a m (not-false (eqb a m) (or-false (not (eqb a m)) (not (eqb b n)) e).0)
-
-  pub second-sized : (not (eqb a m) || not (eqb b n)) ≡ false → b ≡ n
-  second-sized e = eqb-true b n (not-false (eqb b n) (or-false (not (eqb a m)) (not (eqb b n)) e).1)
+-- Of two buffers that have their sizes the first has its own.
+pub first-sized : (a m b n : ℕ) → (not (eqb a m) || not (eqb b n)) ≡ false → a ≡ m
+first-sized a m b n e = eqb-true a m (not-false (eqb a m) (or-false (not (eqb a m)) (not (eqb b n)) e).0)
 
 -- Words that have room in their fields.
 pub fits : (w : List ℕ) → too_wide w ≡ false
@@ -37,8 +33,6 @@ fits w e =
     let three = or-false (kind || flags) sequence four.0 in
     let two = or-false kind flags three.0 in
     (ltb-false _ _ two.0, ltb-false _ _ two.1, ltb-false _ _ three.1, ltb-false _ _ four.1, ltb-false _ _ all.1)
-
-pub ruleset sizes = (first-sized, second-sized)
 
 -- What the cutter answers is put into words.
 module _ (F : ℕ) (R : List ℕ) (i : ℕ) (k : Cutting) (answered : k ≡ cutting F (length R) i) where
