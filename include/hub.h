@@ -232,16 +232,16 @@
  *     hub_list                          768
  *     hub_open                          704
  *     hub_write_connection_response     384
- *     hub_write_connection_request      320
+ *     hub_write_connection_request      384
  *     hub_read_connect                  192
+ *     hub_write_presence_response       192
+ *     hub_write_device_authentication   192
  *     hub_read_discovery                128
- *     hub_write_presence_response       128
  *     hub_version                        64
  *     hub_tags_differ                    64
  *     hub_wanted                         64
  *     hub_payload                        64
  *     hub_write_presence_request         64
- *     hub_write_device_authentication    64
  *     hub_write_done_request             64
  *     hub_write_done_response            64
  *     hub_gateway_open                   64

@@ -40,7 +40,8 @@ fn wrong_exchange(nonce: usize, x: usize, y: usize) -> bool
     (nonce != NONCE) | (x != COORDINATE) | (y != COORDINATE)
 }
 
-// Nonce, X and Y, as a payload writer takes them.
+// Nonce, X and Y, as a payload writer takes them. By itself, so that its arrays are not on the stack of the calls that write.
+#[inline(never)]
 fn request_of(nonce: &[u8], x: &[u8], y: &[u8]) -> Request
     requires { (length nonce.now ≡ nonce_size) × (length x.now ≡ coordinate_size) × (length y.now ≡ coordinate_size) }
     ensures { result ≡ exchange_of nonce.now x.now y.now }

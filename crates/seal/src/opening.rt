@@ -131,7 +131,9 @@ fn open_blocks(keys: [[u8; 16]; 11], vector: [u8; 16], sealed: &[u8], working: &
     }
 }
 
-// Opens a sealed part that was found in a message whose tag is right: 12 or 13, or 0.
+// Opens a sealed part that was found in a message whose tag is right: 12 or 13, or 0. By itself, so that what it takes of the stack is not held
+// while the tag is made.
+#[inline(never)]
 fn open_part(keys: &[u8], message: &[u8], sealed: &[u8], working: &mut [u8]) -> u8
     requires keys_len { (length keys.now ≡ 64) × (42 ≤ length message.now) }
     requires in_bounds { (16 ≤ length sealed.now) × (length sealed.now % 16 ≡ 0) }
