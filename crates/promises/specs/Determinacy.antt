@@ -1,7 +1,7 @@
 -- SPDX-License-Identifier: MPL-2.0
 -- "Every public call's contract determines answer, state and each byte of lent memory, on refusal too. Show that any two results allowed by it
--- agree": every public contract is made of clauses `r ≡ f(inputs)`, or one for each field of r, and `now x.exit ≡ g(inputs)` for each lent
--- buffer. tests/contracts tests that; docs/PROMISES.md, "One result", lists the exceptions.
+-- agree": every public contract is made of clauses `result ≡ f(inputs)`, or one for each field of the result, and `x.new ≡ g(inputs)` for each
+-- lent buffer. tests/contracts tests that; docs/PROMISES.md, "One result", lists the exceptions.
 use Rattle.std.specs.Prelude.{◌≡◌}
 use Rattle.hub.specs.declared.Answer.{Answer}
 use Rattle.hub.specs.Answers.{said}

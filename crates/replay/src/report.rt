@@ -2,6 +2,8 @@
 // A report that is complete, written to a file of its own.
 use lines::text::{put_named, put_text};
 use octets::bounds::lesser;
+use std::fs::{File, OpenFile};
+use std::io::Write;
 use std::rt::Files;
 use std::{fs, io};
 
@@ -19,9 +21,12 @@ pub(crate) fn text(path: &[u8]) -> &str {
     str::from_utf8(path).unwrap_or("")
 }
 
-// Writes a file whole under one name, then gives it another.
+// Writes a file whole under one name, then gives it another. Before, it is brought to the disk: an error that shows only then is seen so, since a
+// file is closed without a word.
 fn write_file(rt: &impl Files, part: &str, name: &str, bytes: &[u8]) -> io::Result<()> {
-    fs::write(rt, part, bytes)?;
+    let mut file = File::create(rt, part)?;
+    file.write_all(bytes)?;
+    file.sync_all()?;
     fs::rename(rt, part, name)
 }
 

@@ -1,6 +1,6 @@
 -- SPDX-License-Identifier: MPL-2.0
 -- A turn that was made is the next of the run, or its last; where the counter has come to its end the run goes on.
-use Rattle.laws.proofs.Kit.{arith}
+use Rattle.laws.proofs.Kit.{rules, arith}
 use borrow.Author.Tests.{not-true}
 use Rattle.listing.proofs.Courses.{midway-more, midway-last}
 use Rattle.listing.proofs.run.Goals as goal
@@ -11,7 +11,7 @@ loop-turns-preserved g c =
     record {
       fits = t.fits;
       room = search;
-      way = midway-more _ _ _ _ _ _ c.loop-turns.invariant.way (not-true _ c.if-not-last.true) c.loop-turns-test.true t;
+      way = midway-more _ _ _ _ _ _ c.loop-turns.invariant.way (search (rules, not-true)) c.loop-turns-test.true t;
     }
 
 pub returns-after-loop-turns : goal.returns-after-loop-turns
