@@ -1,18 +1,19 @@
 // SPDX-License-Identifier: MPL-2.0
 // A Discovery payload taken apart: which of the two it is, and where in it what it says stands.
 ghost use Rattle.std.specs.Prelude.{◌≡◌};
-ghost use Rattle.payloads.specs.Discovery.{says_nothing, said_response, read_discovery};
+ghost use Rattle.payloads.specs.Discovery.{said_response, read_discovery};
 
 use crate::reading::Span;
 use crate::shapes::bad_payload;
-use crate::{HASH_SIZE, NAME_AT, PRESENCE_REQUEST, PRESENCE_RESPONSE, SALT_SIZE};
+use crate::types::DiscoveryType;
+use crate::{HASH_SIZE, NAME_AT, SALT_SIZE};
 use octets::numbers::{byte, number16};
 use wire::header::DISCOVERY;
 use wire::refusals::WRONG_PAYLOAD;
 
 // What a Discovery payload says: its type, and of a Presence Response mode, device type and the places of its parts. Of a Presence Request all
 // else is 0, and so is everything beside a refusal.
-#[derive(Clone, Copy)]
+#[derive(Clone, Copy, Default)]
 pub struct FoundDiscovery {
     pub refusal: u8,
     pub discovery: u8,
@@ -23,22 +24,6 @@ pub struct FoundDiscovery {
     pub hash: Span,
 }
 
-// What is read of a Presence Request, with the refusal 0, and of a payload that is refused.
-fn says_nothing(refusal: u8) -> FoundDiscovery
-    ensures { result ≡ says_nothing refusal }
-{
-    let part = Span { from: 0, size: 0 };
-    FoundDiscovery {
-        refusal,
-        discovery: PRESENCE_REQUEST,
-        mode: 0,
-        device: 0,
-        name: part,
-        salt: part,
-        hash: part,
-    }
-}
-
 // What a Presence Response says whose name has this size.
 fn said_response(mode: u16, device: u16, size: u16) -> FoundDiscovery
     ensures { result ≡ said_response mode device size }
@@ -46,7 +31,7 @@ fn said_response(mode: u16, device: u16, size: u16) -> FoundDiscovery
     let n = size as usize;
     FoundDiscovery {
         refusal: 0,
-        discovery: PRESENCE_RESPONSE,
+        discovery: DiscoveryType::PresenceResponse.number(),
         mode,
         device,
         name: Span {
@@ -70,10 +55,13 @@ pub fn read_discovery(payload: &[u8]) -> FoundDiscovery
     ensures { result ≡ read_discovery payload.now }
 {
     if bad_payload(DISCOVERY, false, payload) {
-        return says_nothing(WRONG_PAYLOAD);
+        return FoundDiscovery {
+            refusal: WRONG_PAYLOAD,
+            ..FoundDiscovery::default()
+        };
     }
-    if byte(payload, 0) == PRESENCE_REQUEST {
-        return says_nothing(0);
+    if byte(payload, 0) == DiscoveryType::PresenceRequest.number() {
+        return FoundDiscovery::default();
     }
     said_response(
         number16(payload, 1),
