@@ -2,14 +2,14 @@
 // A Connect payload taken apart: which of the six it is, and where in it what it says stands.
 ghost use Rattle.std.specs.Prelude.{◌≡◌};
 ghost use Rattle.payloads.specs.Reading.{connection_mode, connect_type, code_of, certificate_of, thumbprint_of};
-ghost use Rattle.payloads.specs.Connect.{not_connect, said_connect, read_connect};
+ghost use Rattle.payloads.specs.Connect.{nothing_connect, not_connect, said_connect, read_connect};
 
 use crate::reading::{Span, certificate_of, code_of, connect_type, connection_mode, thumbprint_of};
 use crate::shapes::bad_payload;
 use crate::types::ConnectType;
 use crate::{KEY_SIZE, NONCE_AT, PENDING, X_AT, Y_AT};
 use wire::header::CONNECT;
-use wire::refusals::WRONG_PAYLOAD;
+use wire::refusals::{Refusal, Refused};
 
 // Where nonce, X and Y lie in a payload that has them.
 const NONCE: Span = Span {
@@ -27,11 +27,10 @@ const Y: Span = Span {
     size: KEY_SIZE as usize,
 };
 
-// What a Connect payload says: its type and mode, its Result or Status, and the places of its parts. What its type has not is 0, and so is
-// everything beside a refusal.
+// What a Connect payload says: its type and mode, its Result or Status, and the places of its parts. What its type has not is 0. The type is
+// the number that `ConnectBack` speaks of.
 #[derive(Clone, Copy, Default)]
 pub struct FoundConnect {
-    pub refusal: u8,
     pub connect: u8,
     pub mode: u16,
     pub code: u8,
@@ -40,6 +39,15 @@ pub struct FoundConnect {
     pub y: Span,
     pub certificate: Span,
     pub thumbprint: Span,
+}
+
+impl FoundConnect {
+    // What stands beside a refusal: all is 0.
+    pub fn nothing() -> FoundConnect
+        ensures { result ≡ nothing_connect }
+    {
+        FoundConnect::default()
+    }
 }
 
 // 14 refuses the payload, plain and sealed.
@@ -87,14 +95,9 @@ fn said_connect(p: &[u8]) -> FoundConnect
 
 // Takes a Connect payload apart, or refuses with 14 what is none.
 #[tactic(auto, unfolding(crate::specs::Connect::read_connect))]
-pub fn read_connect(payload: &[u8]) -> FoundConnect
+pub fn read_connect(payload: &[u8]) -> Result<FoundConnect, Refused>
     ensures { result ≡ read_connect payload.now }
 {
-    if not_connect(payload) {
-        return FoundConnect {
-            refusal: WRONG_PAYLOAD,
-            ..FoundConnect::default()
-        };
-    }
-    said_connect(payload)
+    Refusal::WrongPayload.when(not_connect(payload))?;
+    Ok(said_connect(payload))
 }

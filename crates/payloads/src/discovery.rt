@@ -1,7 +1,7 @@
 // SPDX-License-Identifier: MPL-2.0
 // A Discovery payload taken apart: which of the two it is, and where in it what it says stands.
 ghost use Rattle.std.specs.Prelude.{◌≡◌};
-ghost use Rattle.payloads.specs.Discovery.{said_response, read_discovery};
+ghost use Rattle.payloads.specs.Discovery.{nothing_discovery, said_response, read_discovery};
 
 use crate::reading::Span;
 use crate::shapes::bad_payload;
@@ -9,13 +9,12 @@ use crate::types::DiscoveryType;
 use crate::{HASH_SIZE, NAME_AT, SALT_SIZE};
 use octets::numbers::{byte, number16};
 use wire::header::DISCOVERY;
-use wire::refusals::WRONG_PAYLOAD;
+use wire::refusals::{Refusal, Refused};
 
 // What a Discovery payload says: its type, and of a Presence Response mode, device type and the places of its parts. Of a Presence Request all
-// else is 0, and so is everything beside a refusal.
+// else is 0. The type is the number that `PresenceBack` speaks of.
 #[derive(Clone, Copy, Default)]
 pub struct FoundDiscovery {
-    pub refusal: u8,
     pub discovery: u8,
     pub mode: u16,
     pub device: u16,
@@ -24,13 +23,21 @@ pub struct FoundDiscovery {
     pub hash: Span,
 }
 
+impl FoundDiscovery {
+    // What a Presence Request says, and what stands beside a refusal: all is 0.
+    pub fn nothing() -> FoundDiscovery
+        ensures { result ≡ nothing_discovery }
+    {
+        FoundDiscovery::default()
+    }
+}
+
 // What a Presence Response says whose name has this size.
 fn said_response(mode: u16, device: u16, size: u16) -> FoundDiscovery
     ensures { result ≡ said_response mode device size }
 {
     let n = size as usize;
     FoundDiscovery {
-        refusal: 0,
         discovery: DiscoveryType::PresenceResponse.number(),
         mode,
         device,
@@ -51,21 +58,16 @@ fn said_response(mode: u16, device: u16, size: u16) -> FoundDiscovery
 
 // Takes a Discovery payload apart, or refuses with 14 what is none.
 #[tactic(auto, unfolding(crate::specs::Discovery::read_discovery))]
-pub fn read_discovery(payload: &[u8]) -> FoundDiscovery
+pub fn read_discovery(payload: &[u8]) -> Result<FoundDiscovery, Refused>
     ensures { result ≡ read_discovery payload.now }
 {
-    if bad_payload(DISCOVERY, false, payload) {
-        return FoundDiscovery {
-            refusal: WRONG_PAYLOAD,
-            ..FoundDiscovery::default()
-        };
-    }
+    Refusal::WrongPayload.when(bad_payload(DISCOVERY, false, payload))?;
     if byte(payload, 0) == DiscoveryType::PresenceRequest.number() {
-        return FoundDiscovery::default();
+        return Ok(FoundDiscovery::nothing());
     }
-    said_response(
+    Ok(said_response(
         number16(payload, 1),
         number16(payload, 3),
         number16(payload, 5),
-    )
+    ))
 }

@@ -1,6 +1,6 @@
 -- SPDX-License-Identifier: MPL-2.0
 -- Each call gives the byte at its place, and leaves the closure with the same slice and place.
-use Rattle.laws.proofs.Kit.{ℕ, zero, suc, ◌+◌, ◌≡◌, refl, sym, List, [], ◌∷◌, length, drop, drop_of_length-le, add-zero, add-one, rules, arith}
+use Rattle.laws.proofs.Kit.{ℕ, zero, suc, ◌+◌, ◌≡◌, refl, sym, List, ◌∷◌, length, drop, drop_of_length-le, add-zero, add-one, rules, arith}
 use lib.Seq.{drop-cons}
 use Rattle.std.specs.Array.{IsFromFnResultFrom}
 use Rattle.std.specs.Fn.{Mut, Called}
