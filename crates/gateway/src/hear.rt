@@ -15,7 +15,7 @@ use payloads::{
     CONNECTION_RESPONSE, DEVICE_REQUEST, DEVICE_RESPONSE, DONE_REQUEST, DONE_RESPONSE, PENDING,
 };
 use wire::header::{CONNECT, Header};
-use wire::refusals;
+use wire::refusals::{Refusal, Refused};
 
 // The Status of a Done Response that lets the gateway be Ready.
 const SUCCESS: u8 = 0;
@@ -30,13 +30,13 @@ fn fails(connect: u8, code: u8, verdict: u8) -> bool
 }
 
 impl Gateway {
-    // Nothing changes, and the number of the refusal is answered.
-    pub(crate) fn refuse(self, number: u8) -> Stepped
-        ensures { result ≡ refuse self number }
+    // Nothing changes, and the refusal is answered.
+    pub(crate) fn refuse(self, refused: Refused) -> Stepped
+        ensures { result ≡ refuse self refused }
     {
         Stepped {
             gateway: self,
-            answer: Answer::Refused(number),
+            answer: Answer::Refused(refused),
         }
     }
 
@@ -67,7 +67,7 @@ impl Gateway {
                 answer: Answer::Again(due),
             };
         }
-        self.refuse(refusals::NOT_ALLOWED)
+        self.refuse(Refusal::NotAllowed.into())
     }
 
     // A reply by which the enrolment does not fail.
@@ -92,7 +92,7 @@ impl Gateway {
         if connect == DONE_RESPONSE {
             return self.replied(WAITING_FOR_DONE, Answer::Ready, Due::Nothing);
         }
-        self.refuse(refusals::NOT_ALLOWED)
+        self.refuse(Refusal::NotAllowed.into())
     }
 
     // A Connect message.
@@ -101,7 +101,7 @@ impl Gateway {
         ensures { result ≡ client self (connect_type payload.now) (code_of payload.now) verdict }
     {
         if READY < self.state {
-            return self.refuse(refusals::NOT_ALLOWED);
+            return self.refuse(Refusal::NotAllowed.into());
         }
         let connect = connect_type(payload);
         if fails(connect, code_of(payload), verdict) {
@@ -119,11 +119,11 @@ impl Gateway {
         ensures { result ≡ hear self header payload.now verdict }
     {
         if another_session(header, self.session) {
-            return self.refuse(refusals::OTHER_SESSION);
+            return self.refuse(Refusal::OtherSession.into());
         }
         if header.kind == CONNECT {
             return self.connect(payload, verdict);
         }
-        self.refuse(refusals::NOT_ALLOWED)
+        self.refuse(Refusal::NotAllowed.into())
     }
 }

@@ -35,7 +35,7 @@ impl Answer {
         ensures { result ≡ said self }
     {
         match self {
-            Answer::Refused(n) => Said::refused(n),
+            Answer::Refused(refused) => Said::refused(refused.number()),
             Answer::Next(connect) => Said::words(NEXT, connect as u64, 0),
             Answer::Ready => Said::words(NOW_READY, 0, 0),
             Answer::Failed => Said::words(NOW_FAILED, 0, 0),

@@ -7,16 +7,16 @@ use super::{Answer, Connection, FAILED, PASSED, READY, REQUESTED, Stepped, WAITI
 use octets::compare::alike;
 use payloads::reading::Request;
 use payloads::{CONNECTION_RESPONSE, DEVICE_RESPONSE, DONE_RESPONSE};
-use wire::refusals;
+use wire::refusals::{Refusal, Refused};
 
 impl Connection {
-    // Nothing changes, and the number of the refusal is answered.
-    pub(crate) fn refuse(self, number: u8) -> Stepped
-        ensures { result ≡ refuse self number }
+    // Nothing changes, and the refusal is answered.
+    pub(crate) fn refuse(self, refused: Refused) -> Stepped
+        ensures { result ≡ refuse self refused }
     {
         Stepped {
             connection: self,
-            answer: Answer::Refused(number),
+            answer: Answer::Refused(refused),
         }
     }
 
@@ -76,7 +76,7 @@ impl Connection {
                 answer: Answer::Again(CONNECTION_RESPONSE),
             };
         }
-        self.refuse(refusals::NOT_ALLOWED)
+        self.refuse(Refusal::NotAllowed.into())
     }
 
     // A Device Authentication Request whose certificate has this digest.
@@ -103,7 +103,7 @@ impl Connection {
                 answer: Answer::Again(DEVICE_RESPONSE),
             };
         }
-        self.refuse(refusals::NOT_ALLOWED)
+        self.refuse(Refusal::NotAllowed.into())
     }
 
     // An Authentication Done Request.
@@ -124,6 +124,6 @@ impl Connection {
                 answer: Answer::Again(DONE_RESPONSE),
             };
         }
-        self.refuse(refusals::NOT_ALLOWED)
+        self.refuse(Refusal::NotAllowed.into())
     }
 }

@@ -11,7 +11,7 @@ use joining::Piece;
 use payloads::reading::{certificate_of, connect_type, read_request};
 use payloads::{CONNECTION_REQUEST, DEVICE_REQUEST, DONE_REQUEST};
 use wire::header::{CONNECT, Header, SESSION};
-use wire::refusals;
+use wire::refusals::Refusal;
 
 // The SHA-256 of the certificate in a Device Authentication Request.
 fn certificate_digest(payload: &[u8]) -> [u8; 32]
@@ -38,7 +38,7 @@ impl Connection {
         if requested == DONE_REQUEST {
             return self.finish();
         }
-        self.refuse(refusals::NOT_ALLOWED)
+        self.refuse(Refusal::NotAllowed.into())
     }
 
     // A Session message in state 3.
@@ -85,7 +85,7 @@ impl Connection {
         ensures new_report { report.new ≡ report_heard self header payload.now report.old }
     {
         if self.is_foreign(header) {
-            return self.refuse(refusals::OTHER_SESSION);
+            return self.refuse(Refusal::OtherSession.into());
         }
         if header.kind == CONNECT {
             return self.connect(header.session, payload, verdict);
@@ -93,6 +93,6 @@ impl Connection {
         if (header.kind == SESSION) & (self.state == READY) {
             return self.session(header, payload, report);
         }
-        self.refuse(refusals::NOT_ALLOWED)
+        self.refuse(Refusal::NotAllowed.into())
     }
 }

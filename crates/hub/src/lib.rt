@@ -13,7 +13,7 @@ ghost use Rattle.hub.specs.Answers.{said, answer_of};
 use admission::AGAIN;
 use joining::answer::{COMPLETE, REPEAT, Said, TAKEN};
 use joining::{Arrival, Progress};
-use wire::refusals;
+use wire::refusals::{Refusal, Refused};
 
 // What the hub remembers of a gateway. It goes through a step as a value and comes back as one.
 #[derive(Clone, Copy)]
@@ -51,8 +51,8 @@ pub const FAILED: u8 = 4;
 // What a step answers.
 #[derive(Clone, Copy)]
 pub enum Answer {
-    // The refusal's number in document 01; connection and report buffer are as they were.
-    Refused(u8),
+    // The refusal; connection and report buffer are as they were.
+    Refused(Refused),
     // The Connect type of the reply that the caller has the writer make.
     Reply(u8),
     // A repeated enrolment step: the same reply once more, and nothing has changed.
@@ -95,7 +95,7 @@ impl Answer {
         ensures { result ≡ answer_of arrival }
     {
         match arrival {
-            Arrival::Refused(n) => Answer::Refused(n),
+            Arrival::Refused(refused) => Answer::Refused(refused),
             Arrival::Taken(k) => Answer::Taken(k),
             Arrival::Repeat(k) => Answer::Repeat(k),
             Arrival::Complete { length, heard } => Answer::Complete { length, heard },
@@ -107,7 +107,7 @@ impl Answer {
         ensures { result ≡ said self }
     {
         match self {
-            Answer::Refused(n) => Said::refused(n),
+            Answer::Refused(refused) => Said::refused(refused.number()),
             Answer::Reply(connect) => Said::words(REPLY, connect as u64, DONE_STATUS),
             Answer::Again(connect) => Said::words(AGAIN, connect as u64, DONE_STATUS),
             Answer::Failure => Said::words(FAILURE, 0, 0),
@@ -145,7 +145,7 @@ impl Connection {
     {
         if joining::cut::bad_size(size) {
             return Opened {
-                refusal: refusals::WRONG_FRAGMENT_SIZE,
+                refusal: Refused::from(Refusal::WrongFragmentSize).number(),
                 connection: Connection::blank(0),
             };
         }

@@ -10,14 +10,15 @@ ghost use Rattle.hub_c.specs.Line.{line_text, wrong_line};
 use super::words::{WRONG_BUFFER, put_length};
 use lines::listing::LINE;
 use octets::numbers::number16;
-use wire::header::HeaderRead;
+use wire::answers::Found;
+use wire::header::FoundHeader;
+use wire::refusals::Refused;
 
 // The number of a refusal, 0 for none.
-fn number_of(answer: HeaderRead) -> u32
+fn number_of(answer: Result<FoundHeader, Refused>) -> u32
     ensures { result ≡ (found_header answer).refusal }
 {
-    let found = answer.found();
-    found.refusal as u32
+    Found::from(answer).refusal as u32
 }
 
 // Writes the line of a message that is given whole, `type sequence index count length` or `refused N`, and a newline, into a buffer of 64 bytes,

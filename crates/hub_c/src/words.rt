@@ -6,7 +6,8 @@ ghost use Rattle.writer.specs.Answers.{wrote};
 ghost use Rattle.hub_c.specs.Answered.{said_words};
 
 use joining::answer::Said;
-use writer::Written;
+use wire::refusals::Refused;
+use writer::Wrote;
 
 // The number of a call that was lent a buffer of the wrong size, or given a word too wide for its field.
 pub(crate) const WRONG_BUFFER: u32 = 255;
@@ -56,12 +57,12 @@ pub(crate) fn put_length(out: &mut [u64], x: u64)
 }
 
 // Hands out what a writer answers: the length, and the refusal's number.
-pub(crate) fn hand_length(written: Written, out: &mut [u64]) -> u32
+pub(crate) fn hand_length(written: Result<usize, Refused>, out: &mut [u64]) -> u32
     requires { length out.old ≡ 1 }
     ensures value { result ≡ (wrote written).refusal }
     ensures new_out { out.new ≡ (wrote written).size ∷ [] }
 {
-    let answer = written.wrote();
+    let answer = Wrote::from(written);
     put_length(out, answer.size as u64);
     answer.refusal as u32
 }
