@@ -11,9 +11,8 @@ use super::{
 };
 use admission::another_session;
 use payloads::reading::{code_of, connect_type};
-use payloads::{
-    CONNECTION_RESPONSE, DEVICE_REQUEST, DEVICE_RESPONSE, DONE_REQUEST, DONE_RESPONSE, PENDING,
-};
+use payloads::PENDING;
+use payloads::types::ConnectType;
 use wire::header::{CONNECT, Header};
 use wire::refusals::{Refusal, Refused};
 
@@ -24,9 +23,12 @@ const SUCCESS: u8 = 0;
 fn fails(connect: u8, code: u8, verdict: u8) -> bool
     ensures { result ≡ fails connect code verdict }
 {
-    ((connect == CONNECTION_RESPONSE) & (code != PENDING))
-        | ((connect == DONE_RESPONSE) & (code != SUCCESS))
-        | ((connect == DEVICE_RESPONSE) & (verdict == 0))
+    match ConnectType::try_from(connect) {
+        Ok(ConnectType::ConnectionResponse) => code != PENDING,
+        Ok(ConnectType::DoneResponse) => code != SUCCESS,
+        Ok(ConnectType::DeviceResponse) => verdict == 0,
+        _ => false,
+    }
 }
 
 impl Gateway {
@@ -75,24 +77,24 @@ impl Gateway {
     fn take(self, connect: u8) -> Stepped
         ensures { result ≡ take self connect }
     {
-        if connect == CONNECTION_RESPONSE {
-            return self.replied(
+        let device = ConnectType::DeviceRequest.number();
+        let done = ConnectType::DoneRequest.number();
+        match ConnectType::try_from(connect) {
+            Ok(ConnectType::ConnectionResponse) => self.replied(
                 WAITING_FOR_RESPONSE,
-                Answer::Next(DEVICE_REQUEST),
-                Due::Request(DEVICE_REQUEST),
-            );
-        }
-        if connect == DEVICE_RESPONSE {
-            return self.replied(
+                Answer::Next(device),
+                Due::Request(device),
+            ),
+            Ok(ConnectType::DeviceResponse) => self.replied(
                 WAITING_FOR_AUTHENTICATION,
-                Answer::Next(DONE_REQUEST),
-                Due::Request(DONE_REQUEST),
-            );
+                Answer::Next(done),
+                Due::Request(done),
+            ),
+            Ok(ConnectType::DoneResponse) => {
+                self.replied(WAITING_FOR_DONE, Answer::Ready, Due::Nothing)
+            }
+            _ => self.refuse(Refusal::NotAllowed.into()),
         }
-        if connect == DONE_RESPONSE {
-            return self.replied(WAITING_FOR_DONE, Answer::Ready, Due::Nothing);
-        }
-        self.refuse(Refusal::NotAllowed.into())
     }
 
     // A Connect message.

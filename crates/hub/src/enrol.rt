@@ -6,7 +6,7 @@ ghost use Rattle.hub.specs.Host.{request_rows, device_rows, done_rows, hosted, k
 use super::{Answer, Connection, FAILED, PASSED, READY, REQUESTED, Stepped, WAITING};
 use octets::compare::alike;
 use payloads::reading::Request;
-use payloads::{CONNECTION_RESPONSE, DEVICE_RESPONSE, DONE_RESPONSE};
+use payloads::types::ConnectType;
 use wire::refusals::{Refusal, Refused};
 
 impl Connection {
@@ -67,13 +67,13 @@ impl Connection {
         if state == WAITING {
             return Stepped {
                 connection: self.requested(session, request),
-                answer: Answer::Reply(CONNECTION_RESPONSE),
+                answer: Answer::Reply(ConnectType::ConnectionResponse.number()),
             };
         }
         if (REQUESTED <= state) & (state <= READY) & self.knows(request) {
             return Stepped {
                 connection: self,
-                answer: Answer::Again(CONNECTION_RESPONSE),
+                answer: Answer::Again(ConnectType::ConnectionResponse.number()),
             };
         }
         self.refuse(Refusal::NotAllowed.into())
@@ -87,7 +87,7 @@ impl Connection {
         if (state == REQUESTED) & (verdict == 1) {
             return Stepped {
                 connection: self.with_digest_and_state(digest, PASSED),
-                answer: Answer::Reply(DEVICE_RESPONSE),
+                answer: Answer::Reply(ConnectType::DeviceResponse.number()),
             };
         }
         if (state == REQUESTED) & (verdict == 0) {
@@ -100,7 +100,7 @@ impl Connection {
         if (PASSED <= state) & (state <= READY) & alike(&known, &digest) {
             return Stepped {
                 connection: self,
-                answer: Answer::Again(DEVICE_RESPONSE),
+                answer: Answer::Again(ConnectType::DeviceResponse.number()),
             };
         }
         self.refuse(Refusal::NotAllowed.into())
@@ -115,13 +115,13 @@ impl Connection {
             let digest = self.digest;
             return Stepped {
                 connection: self.with_digest_and_state(digest, READY),
-                answer: Answer::Reply(DONE_RESPONSE),
+                answer: Answer::Reply(ConnectType::DoneResponse.number()),
             };
         }
         if state == READY {
             return Stepped {
                 connection: self,
-                answer: Answer::Again(DONE_RESPONSE),
+                answer: Answer::Again(ConnectType::DoneResponse.number()),
             };
         }
         self.refuse(Refusal::NotAllowed.into())

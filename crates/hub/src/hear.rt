@@ -9,7 +9,7 @@ use super::{Answer, Connection, READY, Stepped, WAITING};
 use admission::another_session;
 use joining::Piece;
 use payloads::reading::{certificate_of, connect_type, read_request};
-use payloads::{CONNECTION_REQUEST, DEVICE_REQUEST, DONE_REQUEST};
+use payloads::types::ConnectType;
 use wire::header::{CONNECT, Header, SESSION};
 use wire::refusals::Refusal;
 
@@ -28,17 +28,14 @@ impl Connection {
     fn connect(self, session: u64, payload: &[u8], verdict: u8) -> Stepped
         ensures { result ≡ connect self session payload.now verdict }
     {
-        let requested = connect_type(payload);
-        if requested == CONNECTION_REQUEST {
-            return self.request(session, read_request(payload));
+        match ConnectType::try_from(connect_type(payload)) {
+            Ok(ConnectType::ConnectionRequest) => self.request(session, read_request(payload)),
+            Ok(ConnectType::DeviceRequest) => {
+                self.authenticate(certificate_digest(payload), verdict)
+            }
+            Ok(ConnectType::DoneRequest) => self.finish(),
+            _ => self.refuse(Refusal::NotAllowed.into()),
         }
-        if requested == DEVICE_REQUEST {
-            return self.authenticate(certificate_digest(payload), verdict);
-        }
-        if requested == DONE_REQUEST {
-            return self.finish();
-        }
-        self.refuse(Refusal::NotAllowed.into())
     }
 
     // A Session message in state 3.

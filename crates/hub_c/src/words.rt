@@ -2,6 +2,7 @@
 // Answers of several numbers, written as words of 64 bits.
 ghost use Rattle.std.specs.Prelude.{◌≡◌, ◌∷◌, [], get_or, length};
 ghost use Rattle.std.proofs.lemmas.List.Edits.{sets};
+ghost use Rattle.laws.specs.Rows.{refusal_in};
 ghost use Rattle.writer.specs.Answers.{wrote};
 ghost use Rattle.hub_c.specs.Answered.{said_words};
 
@@ -54,6 +55,16 @@ pub(crate) fn put_length(out: &mut [u64], x: u64)
     ensures { out.new ≡ x ∷ [] }
 {
     put_word(out, 0, x);
+}
+
+// The number of the refusal that an answer is, 0 for none.
+pub(crate) fn refusal_in<T>(answer: &Result<T, Refused>) -> u32
+    ensures { result ≡ refusal_in answer.now }
+{
+    match answer {
+        Ok(_) => 0,
+        Err(refused) => u32::from(refused.number()),
+    }
 }
 
 // Hands out what a writer answers: the length, and the refusal's number.
