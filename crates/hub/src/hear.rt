@@ -59,7 +59,7 @@ impl Connection {
         connection.progress = next;
         Stepped {
             connection,
-            answer: Answer::of(arrival),
+            answer: arrival.into(),
         }
     }
 

@@ -89,11 +89,11 @@ pub struct Stepped {
     pub answer: Answer,
 }
 
-impl Answer {
+impl From<Arrival> for Answer {
+    ghost from_gives = { λ arrival answer. answer ≡ answer_of arrival };
+
     // The arrival of a piece, as a step's answer.
-    pub fn of(arrival: Arrival) -> Answer
-        ensures { result ≡ answer_of arrival }
-    {
+    fn from(arrival: Arrival) -> Answer {
         match arrival {
             Arrival::Refused(refused) => Answer::Refused(refused),
             Arrival::Taken(k) => Answer::Taken(k),
@@ -101,23 +101,23 @@ impl Answer {
             Arrival::Complete { length, heard } => Answer::Complete { length, heard },
         }
     }
+}
+
+impl From<Answer> for Said {
+    ghost from_gives = { λ answer words. words ≡ said answer };
 
     // Number and values of what a step answers.
-    pub fn said(self) -> Said
-        ensures { result ≡ said self }
-    {
-        match self {
+    fn from(answer: Answer) -> Said {
+        match answer {
             Answer::Refused(refused) => Said::refused(refused.number()),
             Answer::Reply(connect) => Said::words(REPLY, connect as u64, DONE_STATUS),
             Answer::Again(connect) => Said::words(AGAIN, connect as u64, DONE_STATUS),
             Answer::Failure => Said::words(FAILURE, 0, 0),
             Answer::Taken(heard) => Said::words(TAKEN, heard as u64, 0),
             Answer::Repeat(heard) => Said::words(REPEAT, heard as u64, 0),
-            Answer::Complete { length, heard } => Said::words(
-                COMPLETE,
-                heard as u64,
-                length as u64,
-            ),
+            Answer::Complete { length, heard } => {
+                Said::words(COMPLETE, heard as u64, length as u64)
+            }
         }
     }
 }
