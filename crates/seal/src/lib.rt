@@ -2,6 +2,8 @@
 // The sealed part of a message, as document 01's 'Sealing' states it.
 #![tactic(auto)]
 
+mod blocks;
+mod cipher;
 mod key;
 pub mod opening;
 pub mod padding;
