@@ -4,9 +4,9 @@ use Rattle.laws.proofs.Kit.{ℕ, ◌+◌, ◌≡◌, refl, Bool, List, [], ◌�
 use mathlib.Core.List.{flat_map}
 use Rattle.laws.specs.Bytes.{bytes16}
 use Rattle.laws.proofs.Stores.{stored-twice}
-use Rattle.payloads.specs.Format.{Width, one, width_of, number_bytes, Format, ◌then◌, Values, ◌and◌, write}
+use Rattle.payloads.specs.Format.{Width, width_of, number_bytes, Format, Values, ◌and◌, write}
 use Rattle.payloads.specs.Format.{end, fixed, free, array, sized, counted}
-use Rattle.payloads.specs.Shapes.{of_type}
+use Rattle.payloads.specs.Shapes.{device_authentication, presence_response}
 use Rattle.payloads.proofs.Widths.{length-number_bytes}
 
 pub put-end : (at : ℕ) (l : List ℕ) → l ≡ sets l at (write end tt)
@@ -47,8 +47,22 @@ module _ (at : ℕ) (l : List ℕ) (f : Format) (v : Values f) {m r : List ℕ} 
   unfolding write
   put-counted w most entry vs o p q = put-after-number w (length vs) (flat_map (write entry) vs) o p q
 
--- Mode, type and the byte after it.
-pub put-code : (l : List ℕ) (f : Format) (v : Values f) {m r : List ℕ} (mode connect code : ℕ) → m ≡ sets l 0 (bytes16 mode ++ (connect ∷ code ∷ []))
-    → r ≡ sets m 4 (write f v) → r ≡ sets l 0 (write (of_type connect (fixed one code then f)) (mode and v))
-unfolding write
-put-code l f v mode connect code p q = stored-twice (bytes16 mode ++ (connect ∷ code ∷ [])) (write f v) l 0 4 p q refl
+-- The stores of a Device Authentication payload.
+pub stored_device : (mode connect : ℕ) (c t l : List ℕ)
+    → let start = sets (sets l 0 (bytes16 mode)) 2 (connect ∷ []) in
+    let certificate = sets (sets start 3 (bytes16 (length c))) 5 c in
+    sets (sets certificate (5 + length c) (bytes16 (length t))) (5 + length c + 2) t
+    ≡ sets l 0 (write device_authentication (mode and connect and c and t and tt))
+stored_device mode connect c t l =
+    put-free _ _ _ _ _ _ _ refl (put-free _ _ _ _ _ _ _ refl
+    (put-sized _ _ _ _ _ _ _ _ refl refl (put-sized _ _ _ _ _ _ _ _ refl refl (put-end _ _))))
+
+-- The stores of a Presence Response.
+pub stored_presence : (mode device : ℕ) (name salt hash l : List ℕ) → length salt ≡ 4 → length hash ≡ 4
+    → let start = sets (sets (sets l 0 (1 ∷ [])) 1 (bytes16 mode)) 3 (bytes16 device) in
+    let named = sets (sets start 5 (bytes16 (length name))) 7 name in
+    sets (sets named (7 + length name) salt) (7 + length name + 4) hash
+    ≡ sets l 0 (write presence_response (mode and device and name and salt and hash and tt))
+stored_presence mode device name salt hash l s h =
+    put-fixed _ _ _ _ _ _ refl (put-free _ _ _ _ _ _ _ refl (put-free _ _ _ _ _ _ _ refl
+    (put-sized _ _ _ _ _ _ _ _ refl refl (put-array _ _ _ _ _ _ (refl, s) (put-array _ _ _ _ _ _ (refl, h) (put-end _ _))))))
