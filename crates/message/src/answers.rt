@@ -7,20 +7,18 @@ use super::reading::FoundMessage;
 use wire::answers::{Found, OPENED, PLAIN};
 use wire::refusals::Refused;
 
-impl From<Result<FoundMessage, Refused>> for Found {
-    ghost from_gives = { λ answer found. found ≡ found_message answer };
-
-    // The number and the values of the reader's answer.
-    fn from(answer: Result<FoundMessage, Refused>) -> Found {
-        match answer {
-            Err(refused) => Found::nothing(refused.number()),
-            Ok(read) => Found {
-                refusal: 0,
-                header: read.header,
-                sealed: if read.sealed { OPENED } else { PLAIN },
-                from: read.from,
-                size: read.size,
-            },
-        }
+// The number and the values of the reader's answer. No `From`, since `Found` and `Result` are of other crates.
+pub fn found(answer: Result<FoundMessage, Refused>) -> Found
+    ensures { result ≡ found_message answer }
+{
+    match answer {
+        Err(refused) => Found::nothing(refused.number()),
+        Ok(read) => Found {
+            refusal: 0,
+            header: read.header,
+            sealed: if read.sealed { OPENED } else { PLAIN },
+            from: read.from,
+            size: read.size,
+        },
     }
 }

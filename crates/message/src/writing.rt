@@ -62,7 +62,7 @@ fn put_front(header: Header, size: u16, chain: &[u8], out: &mut [u8])
     ensures { out.new ≡ (header_bytes header size ++ chain.now)
         ++ drop (40 + length chain.now) out.old }
 {
-    write_header(header, size, out);
+    let _ = write_header(header, size, out);
     store_bytes(out, Header::LENGTH, chain);
 }
 
@@ -83,8 +83,8 @@ pub fn write(
     put_front(header, size as u16, chain, out);
     if is_sealed(header.flags) {
         seal::sealing::seal(keys, payload, start, out)?;
-    } else {
-        store_bytes(out, start, payload);
+        return Ok(size);
     }
+    store_bytes(out, start, payload);
     Ok(size)
 }
