@@ -7,51 +7,39 @@ use Rattle.payloads.specs.Format.{one, fixed, ◌then◌, ◌and◌, fits, write
 use Rattle.payloads.specs.Shapes.{of_type, exchange, either, presence_request, other_response, device_authentication, done_request}
 use Rattle.payloads.specs.Shapes.{done_response, presence_response}
 use Rattle.laws.specs.Bytes.{bytes16}
-use Rattle.laws.proofs.Stores.{stored-twice}
 use Rattle.payloads.specs.declared.reading.Request.{Request}
-use Rattle.writer.specs.Payload.{request_values, exchange_values}
+use Rattle.writer.specs.Payload.{exchange_values}
 use Rattle.writer.proofs.Writing.{stored}
-use Rattle.writer.proofs.Puts.{stored_device, stored_presence}
+use Rattle.writer.proofs.Puts.{stored_exchange, stored_device, stored_presence}
 
 pub fits_presence_request : fits presence_request tt ≡ true
 unfolding fits
 fits_presence_request = refl
 
-pub length_presence_request : length (write presence_request tt) ≡ 1
+pub bytes_presence_request : write presence_request tt ≡ 0 ∷ []
 unfolding write
-length_presence_request = refl
+bytes_presence_request = refl
 
 module _ (mode : ℕ) where
   pub fits_done_request : fits done_request (mode and tt) ≡ leb mode 2
   unfolding fits
   fits_done_request = rw and_one
 
-  pub length_done_request : length (write done_request (mode and tt)) ≡ 3
+  pub bytes_done_request : write done_request (mode and tt) ≡ bytes16 mode ++ (6 ∷ [])
   unfolding write
-  length_done_request = refl
+  bytes_done_request = refl
 
   pub fits_done_response : (status : ℕ) → fits done_response (mode and status and tt) ≡ (leb mode 2 && leb status 4)
   unfolding fits
   fits_done_response status = rw (and_one (leb status 4))
 
-  pub length_done_response : (status : ℕ) → length (write done_response (mode and status and tt)) ≡ 4
+  pub bytes_done_response : (status : ℕ) → write done_response (mode and status and tt) ≡ bytes16 mode ++ (7 ∷ status ∷ [])
   unfolding write
-  length_done_response status = refl
+  bytes_done_response status = refl
 
   pub fits_other_response : (result : ℕ) → (result ≡ 1 → ⊥) → fits other_response (mode and result and tt) ≡ (leb mode 2 && leb result 3)
   unfolding fits
   fits_other_response result p = rw (ne_eqb result 1 p) (simp and_one)
-
-  pub length_other_response : (result : ℕ) → length (write other_response (mode and result and tt)) ≡ 4
-  unfolding write
-  length_other_response result = refl
-
-pub stored_exchange : (mode connect code : ℕ) (r : Request) (l : List ℕ)
-    → sets (sets l 0 (bytes16 mode ++ (connect ∷ code ∷ []))) 4 (write exchange (request_values r))
-    ≡ sets l 0 (write (of_type connect (fixed one code then exchange)) (exchange_values mode r))
-unfolding write
-stored_exchange mode connect code r l =
-    sym (stored-twice (bytes16 mode ++ (connect ∷ code ∷ [])) (write exchange (request_values r)) l 0 4 refl refl refl)
 
 module _ (mode connect code : ℕ) (r : Request) (n : length r.nonce ≡ 8) (x : length r.x ≡ 32) (y : length r.y ≡ 32) where
   pub fits_exchange : fits (of_type connect (fixed one code then exchange)) (exchange_values mode r) ≡ leb mode 2
@@ -102,11 +90,11 @@ pub ruleset writing = (
   rules,
   stored,
   fits_presence_request,
-  length_presence_request,
+  bytes_presence_request,
   fits_done_request,
-  length_done_request,
+  bytes_done_request,
   fits_done_response,
-  length_done_response,
+  bytes_done_response,
   fits_exchange,
   length_exchange,
   stored_exchange,

@@ -1,6 +1,6 @@
 // SPDX-License-Identifier: MPL-2.0
 // The payloads of Discovery and Connect written, each at the start of its output.
-#![tactic(auto, unfolding(crate::specs::Written::written, payloads::specs::Format::write), using(crate::proofs::Payloads::writing))]
+#![tactic(auto, unfolding(crate::specs::Written::written), using(crate::proofs::Payloads::writing))]
 
 ghost use Rattle.std.specs.Prelude.{◌≡◌, not, eqb};
 ghost use Rattle.std.proofs.lemmas.List.Edits.{sets};
@@ -39,19 +39,6 @@ pub fn write_presence_request(out: &mut [u8]) -> Result<usize, Refused>
     Ok(1)
 }
 
-// Puts the fields from HMACSize on.
-fn put_exchange(out: &mut [u8], request: &Request)
-    ensures { out.new ≡ sets out.old 4 (write exchange (request_values request.now)) }
-{
-    store16(out, 4, KEY_SIZE);
-    store_bytes(out, NONCE_AT, &request.nonce);
-    store32(out, 14, FRAGMENT_SIZE);
-    store16(out, 18, KEY_SIZE);
-    store_bytes(out, X_AT, &request.x);
-    store16(out, 52, KEY_SIZE);
-    store_bytes(out, Y_AT, &request.y);
-}
-
 // How a Connect payload begins: mode, type, and the byte after it, which is a curve, a Result or a Status.
 #[derive(Clone, Copy)]
 struct Start {
@@ -80,7 +67,6 @@ impl Start {
         Ok(4)
     }
 
-    #[tactic(auto, unfolding(crate::specs::Written::written), using(crate::proofs::Payloads::writing))]
     // Writes a payload that goes on with the fields from HMACSize on.
     fn write_exchange(self, request: &Request, out: &mut [u8]) -> Result<usize, Refused>
         ensures answer { result ≡ payload_written (of_type (connect_number self.connect) (fixed one self.code then exchange))
@@ -91,7 +77,13 @@ impl Start {
         let Request { nonce, x, y } = request;
         put_refusal(2 < self.mode, EXCHANGE_SIZE, out.len())?;
         self.put(out);
-        put_exchange(out, request);
+        store16(out, 4, KEY_SIZE);
+        store_bytes(out, NONCE_AT, nonce);
+        store32(out, 14, FRAGMENT_SIZE);
+        store16(out, 18, KEY_SIZE);
+        store_bytes(out, X_AT, x);
+        store16(out, 52, KEY_SIZE);
+        store_bytes(out, Y_AT, y);
         Ok(EXCHANGE_SIZE)
     }
 }
