@@ -4,7 +4,6 @@ ghost use Rattle.std.specs.Prelude.{◌≡◌, ◌<◌, ◌+◌, length};
 ghost use Rattle.joining.specs.Cut.{bad_size, piece_count, cut_refusal, cutting, cut_piece};
 
 use super::heard::PIECES;
-use octets::bounds::lesser;
 use rows::next;
 use wire::refusals::{WRONG_FRAGMENT_SIZE, WRONG_PIECE};
 
@@ -70,6 +69,6 @@ pub fn cut_piece(report: &[u8], size: usize, i: usize) -> &[u8]
         return &report[0..0];
     }
     let start = size * i;
-    let end = start + lesser(size, report.len() - start);
+    let end = start + size.min(report.len() - start);
     &report[start..end]
 }

@@ -9,7 +9,7 @@ use Rattle.laws.proofs.Order.{lt-or-ge}
 use Rattle.joining.specs.Heard.{bit, has, mark, come}
 use Rattle.wire.specs.Fields.{most_pieces}
 use Rattle.joining.proofs.HeardLaws.{come-suc, come-le, bit_byte}
-use Rattle.joining.proofs.heard.mark.Goals as goal
+use Rattle.joining.proofs.heard.Marked.with.Goals as goal
 
 -- Place i is written: at the index x, where t is y, it is marked, else it is as it was.
 module _ (l : List Bool) (x y i t : ℕ) (e : t + x ≡ y + i) where
@@ -35,49 +35,37 @@ come-set l n i t m b e h =
     let now : min i n ≡ n = omega arith in
     rw (u, and-false b, more, now, take-set-le n l i b (omega arith)) (omega arith))
 
-come-begun : (n : ℕ) (l : List Bool) → 0 ≡ come (min 0 n) l
-come-begun n l = let m : min 0 n ≡ 0 = omega arith in rw m
-
-pub loop-i-init : goal.loop-i-init
-unfolding most_pieces
-loop-i-init c =
-    record {
-      before = λ h. refl;
-      after = λ h. absurd (omega arith);
-      counted = come-begun c.args.count c.args.heard;
-      turned = omega arith;
-      within = omega arith;
-      as_long = omega arith;
-    }
-
 pub overflow_add-told : goal.overflow_add-told
 unfolding most_pieces
 overflow_add-told c =
-    let s = c.loop-i in
-    let a = c.args in
-    let b = (has s.next s.i || eqb s.turn (128 - a.count + a.index)) && ltb s.turn 128 in
-    omega (arith, bit_byte b, come-le (min s.i a.count) s.next)
+    let s = c.loop-is_heard in
+    let p = c.args.placed.now in
+    let i = s.is_heard-index in
+    let b = (has s.is_heard-items i || eqb s.turn (128 - p.piece.count + p.piece.index)) && ltb s.turn 128 in
+    omega (arith, bit_byte b, come-le (min i p.piece.count) s.is_heard-items)
 
-pub loop-i-preserved : goal.loop-i-preserved
+pub loop-is_heard-preserved : goal.loop-is_heard-preserved
 unfolding most_pieces
-loop-i-preserved c =
-    let s = c.loop-i in
+loop-is_heard-preserved c =
+    let s = c.loop-is_heard in
     let v = s.invariant in
-    let a = c.args in
-    let x = a.index in
-    let here = 128 - a.count + x in
-    let b = has s.next s.i || eqb s.turn here in
-    let e : s.turn + x ≡ here + s.i = omega arith in
+    let p = c.args.placed.now in
+    let l = s.is_heard-items in
+    let i = s.is_heard-index in
+    let n = p.piece.count in
+    let x = p.piece.index in
+    let here = 128 - n + x in
+    let b = has l i || eqb s.turn here in
+    let e : s.turn + x ≡ here + i = omega arith in
     record {
-      before = λ h. at_other s.next x here s.i s.turn e (λ e. omega arith) ∙ v.before (omega arith);
+      before = λ h. at_other l x here i s.turn e (λ e. omega arith) ∙ v.before (omega arith);
       after =
           λ h.
-          ⊎_elim (λ g. at_other s.next x here s.i s.turn e (λ e. omega arith) ∙ v.after g)
-          (λ g. at-index s.next x here s.i s.turn e (omega arith) ∙ ap (λ (l : List Bool). mark l x) (v.before g)) (lt-or-ge x s.i);
+          ⊎_elim (λ g. at_other l x here i s.turn e (λ e. omega arith) ∙ v.after g)
+          (λ g. at-index l x here i s.turn e (omega arith) ∙ ap (λ (l : List Bool). mark l x) (v.before g)) (lt-or-ge x i);
       counted =
-          rw (add-one s.i)
-          (omega (arith, come-set s.next a.count s.i s.turn 128 b (omega arith) (omega arith), bit_byte (b && ltb s.turn 128)));
+          rw (add-one i)
+          (omega (arith, come-set l n i s.turn 128 b (omega arith) (omega arith), bit_byte (b && ltb s.turn 128)));
       turned = omega arith;
-      within = omega arith;
-      as_long = omega (arith, length-set s.next s.i b);
+      as_long = omega (arith, length-set l i b);
     }
