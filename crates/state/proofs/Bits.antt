@@ -1,7 +1,7 @@
 -- SPDX-License-Identifier: MPL-2.0
 -- Eight indexes and their byte, both ways.
 use Rattle.laws.proofs.Kit.{ℕ, zero, suc, ◌+◌, ◌*◌, ◌/◌, ◌%◌, ◌^◌, ◌≤◌, ◌<◌, ◌≡◌, refl, sym, ◌∙◌, ap, Bool, true, false, List, [], ◌∷◌, length, get_or, eqb}
-use Rattle.laws.proofs.Kit.{take, drop, length-take, length-take-le, length-drop, add-one, arith}
+use Rattle.laws.proofs.Kit.{take, drop, length-take-le, length-drop, add-one, arith}
 use native.Mathlib.Nat.{zero-div, div-one, pow-succ', div-div-eq-div-mul, mod-eq_of_lt, mul-le-mul_right}
 use lib.Seq.{ext_get_or}
 use Rattle.std.proofs.lemmas.List.{get_or-take, get_or-drop}

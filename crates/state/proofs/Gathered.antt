@@ -1,6 +1,6 @@
 -- SPDX-License-Identifier: MPL-2.0
 -- The first values of a function as a list: its elements, and the calls that make an array of them.
-use Rattle.laws.proofs.Kit.{ℕ, zero, suc, ◌+◌, ◌≤◌, ◌<◌, ◌≡◌, refl, sym, ◌∙◌, ap, List, [], ◌∷◌, ◌++◌, length, get_or}
+use Rattle.laws.proofs.Kit.{ℕ, zero, suc, ◌+◌, ◌≤◌, ◌<◌, ◌≡◌, refl, sym, ◌∙◌, ap, List, [], ◌∷◌, get_or}
 use Rattle.laws.proofs.Kit.{add-zero, zero-add, ⊎_elim, arith}
 use lib.ListN.{get_or-append}
 use lib.Seq.{ext_get_or, get_or_at}

@@ -17,6 +17,7 @@ use octets::stores::{store8, store64};
 pub const GATEWAY: usize = SESSION_AT as usize + 8;
 
 // The gateway's connection of a state.
+#[tactic(auto, unfolding(crate::specs::Client::gateway_at))]
 pub fn decode_gateway(s: &[u8; GATEWAY]) -> Gateway
     ensures { result ≡ gateway_at s.now }
 {

@@ -1,6 +1,6 @@
 -- SPDX-License-Identifier: MPL-2.0
 -- The part of the set is the eight indexes.
-use Rattle.laws.proofs.Kit.{◌+◌, ◌-◌, ◌*◌, ◌≡◌, ◌∙◌, arith}
+use Rattle.laws.proofs.Kit.{◌+◌, ◌-◌, ◌*◌, ◌≡◌, arith}
 use Rattle.wire.specs.Fields.{most_pieces}
 use Rattle.state.proofs.Bits.{part-eight}
 use Rattle.state.proofs.heard_byte.Goals as goal
