@@ -60,7 +60,7 @@ pub extern "C" fn hub_read_header(message: &[u8], header: &mut [u64]) -> u32
     if header.len() != HEADER {
         return WRONG_BUFFER;
     }
-    hand(wire::header::read_header(message).found(), header)
+    hand(wire::header::read_header(message).into(), header)
 }
 
 // Reads a message: refusals 1 to 14, and the header's words, all 0 beside a refusal. The place is that of the payload, in the message if it was
@@ -83,10 +83,7 @@ pub extern "C" fn hub_read(
     if header.len() != HEADER {
         return WRONG_BUFFER;
     }
-    hand(
-        message::reading::read(message, keys, working).found(),
-        header,
-    )
+    hand(message::reading::read(message, keys, working).into(), header)
 }
 
 // A part of one of the two buffers: 0 is the message, 1 the working buffer.

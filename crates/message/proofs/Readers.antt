@@ -3,7 +3,8 @@
 use Rattle.laws.proofs.Kit.{ℕ, ◌+◌, ◌-◌, ◌%◌, ◌≤◌, ◌≡◌, sym, ◌∙◌, true, false, List, length, take, drop, length-take, length-drop, eqb-true, ne_eqb}
 use Rattle.laws.proofs.Kit.{length-append, eqb, not-false, add-sub_cancel_left, arith}
 use Rattle.laws.specs.Bytes.{be32}
-use Rattle.laws.specs.Rows.{first}
+use Rattle.std.specs.Prelude.{Result, Ok, Err}
+use Rattle.laws.specs.Rows.{first, unless}
 use Rattle.laws.proofs.Bools.{or-false}
 use Rattle.laws.proofs.Cases.{on}
 use Rattle.wire.specs.declared.header.FoundHeader.{FoundHeader}
@@ -12,9 +13,8 @@ use Rattle.seal.specs.Padding.{sealed_size, bad_plain}
 use Rattle.seal.specs.Opening.{sealed_part, plain_of, open_refusal, into_unless, opened_into}
 use Rattle.seal.proofs.Accepted.{accepted, Held, opened-held}
 use Rattle.seal.proofs.Padded.{sizes}
-use Rattle.message.specs.Reading.{opened, unless, payload_rows, in_working, sealed_read}
-use Rattle.message.specs.declared.reading.MessageRead.{MessageRead}
-use Rattle.message.specs.declared.reading.MessageRead.TheVariants.{Refused, Read}
+use Rattle.message.specs.Reading.{opened, payload_rows, in_working, sealed_read}
+use Rattle.message.specs.declared.reading.FoundMessage.{FoundMessage}
 
 -- A payload that was opened lies in the working buffer: the sealed part does, it is as long as what was opened, and that holds the payload.
 part-long : (m : List ℕ) (start size : ℕ) → start + size + 32 ≡ length m → length (sealed_part m start) ≡ size
@@ -52,7 +52,7 @@ length-opened m keys start size working spans blocks =
     (λ z. rw z)
 
 pub not_opened : (m keys : List ℕ) (f : FoundHeader) (room : ℕ) {n : ℕ} → n ≡ open_refusal keys m f.start room → (n ≡ 0 → ⊥)
-    → Refused n ≡ sealed_read m keys f room
+    → Err n ≡ sealed_read m keys f room
 unfolding sealed_read
 not_opened m keys f room {n} e z = rw (← e, ne_eqb n 0 z, ne_eqb n 0 z)
 
@@ -61,8 +61,8 @@ module _ (m keys : List ℕ) (f : FoundHeader) (working : List ℕ) {after : Lis
   pub is_held : Held (opened m keys f.start) after
   is_held = rw is (opened-held keys m f.start working (sym e ∙ z))
 
-  pub judged : {size k : ℕ} {r : MessageRead} → size ≡ be32 after 0
+  pub judged : {size k : ℕ} {r : Result FoundMessage ℕ} → size ≡ be32 after 0
       → k ≡ first (payload_rows f.header.kind true (take (4 + size - 4) (drop 4 after)))
-      → r ≡ unless k (Read (in_working f.header size)) → r ≡ sealed_read m keys f (length working)
+      → r ≡ unless k (in_working f.header size) → r ≡ sealed_read m keys f (length working)
   unfolding sealed_read
   judged told shape p = p ∙ rw (← e, z, shape, add-sub_cancel_left, told ∙ is_held.told, is_held.payload)

@@ -15,8 +15,7 @@ use Rattle.payloads.specs.Shapes.{bad_payload}
 use Rattle.wire.specs.declared.header.Header.{Header}
 use Rattle.wire.proofs.Chains.{chain-long}
 use Rattle.writer.specs.Header.{header_bytes}
-use Rattle.writer.specs.declared.Written.{Written}
-use Rattle.writer.specs.declared.Written.TheVariants.{Refused, Bytes}
+use Rattle.std.specs.Prelude.{Result, Ok, Err}
 use Rattle.seal.specs.Padding.{sealed_size}
 use Rattle.seal.specs.Sealed.{sealed_into}
 use Rattle.seal.proofs.Seals.{fit-allowed}
@@ -69,10 +68,10 @@ bounds h chain payload keys room w e =
     record { ends = chain-long chain a.chained; chained = c; sized = a.sized; front = l.0; short = l.1; roomy = a.roomy }
 
 module _ (h : Header) (chain payload keys out : List ℕ) where
-  abbrev Answered : Written → List ℕ → Type 0
+  abbrev Answered : Result ℕ ℕ → List ℕ → Type 0
   Answered r after = (r ≡ write_answer h chain payload (length keys) (length out)) × (after ≡ written_into h chain payload keys out)
 
-  pub refused : {n : ℕ} → (n ≡ 0 → ⊥) → n ≡ write_refusal h chain payload (length keys) (length out) → Answered (Refused n) out
+  pub refused : {n : ℕ} → (n ≡ 0 → ⊥) → n ≡ write_refusal h chain payload (length keys) (length out) → Answered (Err n) out
   unfolding write_answer written_into
   refused {n} z e = rw (← e, ne_eqb n 0 z) (refl, refl)
 
@@ -90,16 +89,16 @@ module _ (h : Header) (chain payload keys out : List ℕ) where
     is : m ≡ before ++ drop start out
     is = rw whole at front
 
-    answer : {after : List ℕ} → after ≡ message_bytes h chain payload keys ++ drop (length_of h chain payload) out → Answered (Bytes size) after
+    answer : {after : List ℕ} → after ≡ message_bytes h chain payload keys ++ drop (length_of h chain payload) out → Answered (Ok size) after
     unfolding write_answer written_into
     answer e = (rw (good, whole), rw good e)
 
-    pub wrote-plain : {n : List ℕ} → is_sealed h.flags ≡ false → n ≡ sets m (40 + length chain) payload → Answered (Bytes size) n
+    pub wrote-plain : {n : List ℕ} → is_sealed h.flags ≡ false → n ≡ sets m (40 + length chain) payload → Answered (Ok size) n
     wrote-plain s q =
         let (bytes, number) = plain-is h chain payload keys s in
         answer (put-after before payload out start (length_before h chain payload) (omega (arith, b.roomy)) is q ∙ rw (bytes, number))
 
-    pub wrote-sealed : {n : List ℕ} → is_sealed h.flags ≡ true → n ≡ sealed_into keys (40 + length chain) payload m → Answered (Bytes size) n
+    pub wrote-sealed : {n : List ℕ} → is_sealed h.flags ≡ true → n ≡ sealed_into keys (40 + length chain) payload m → Answered (Ok size) n
     unfolding sealed_into
     wrote-sealed s q =
         let (bytes, number) = sealed-is h chain payload keys s in

@@ -3,17 +3,18 @@
 ghost use Rattle.std.specs.Prelude.{◌≡◌};
 ghost use Rattle.message.specs.Answers.{found_message};
 
-use super::reading::MessageRead;
+use super::reading::FoundMessage;
 use wire::answers::{Found, OPENED, PLAIN};
+use wire::refusals::Refused;
 
-impl MessageRead {
+impl From<Result<FoundMessage, Refused>> for Found {
+    ghost from_gives = { λ answer found. found ≡ found_message answer };
+
     // The number and the values of the reader's answer.
-    pub fn found(self) -> Found
-        ensures { result ≡ found_message self }
-    {
-        match self {
-            MessageRead::Refused(n) => Found::nothing(n),
-            MessageRead::Read(read) => Found {
+    fn from(answer: Result<FoundMessage, Refused>) -> Found {
+        match answer {
+            Err(refused) => Found::nothing(refused.number()),
+            Ok(read) => Found {
                 refusal: 0,
                 header: read.header,
                 sealed: if read.sealed { OPENED } else { PLAIN },
