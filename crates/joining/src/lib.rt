@@ -7,8 +7,8 @@ pub mod cut;
 mod heard;
 mod placed;
 
-ghost use Rattle.std.specs.Prelude.{◌≡◌, ◌≤◌, ◌+◌, ◌*◌, length};
-ghost use Rattle.laws.specs.Rows.{first};
+ghost use Rattle.std.specs.Prelude.{◌≡◌, ◌≢◌, ◌≤◌, ◌+◌, ◌*◌, length, OnOk, IfOk, IfErr};
+ghost use Rattle.laws.specs.Rows.{first, unless};
 ghost use Rattle.joining.specs.Heard.{come, mark};
 ghost use Rattle.joining.specs.Join.{bad_index, unlike, conflict, sequence_rows, place_rows, join_refusal, Fitting};
 ghost use Rattle.joining.specs.Join.{join, report_after, expecting, advance};
@@ -16,11 +16,7 @@ ghost use Rattle.joining.specs.Join.{join, report_after, expecting, advance};
 use heard::{Marked, PIECES};
 use octets::compare::alike;
 use placed::Placed;
-use rows::next;
-use wire::refusals::{
-    FUTURE_SEQUENCE, LAST_SEQUENCE, NO_ROOM, PAST_SEQUENCE, UNLIKE_FIRST_PIECE, UNLIKE_REPEAT,
-    WRONG_FRAGMENT_SIZE, WRONG_PIECE, WRONG_PIECE_SIZE,
-};
+use wire::refusals::{Refusal, Refused};
 
 // The SequenceNumber that no report has: 2^32 - 1.
 const UNUSED: u32 = 4294967295;
@@ -51,8 +47,8 @@ pub struct Piece {
 // What the arrival of a piece is answered. Taken, Repeat and `heard` tell how many different pieces of its message have come.
 #[derive(Clone, Copy)]
 pub enum Arrival {
-    // The refusal's number in document 01.
-    Refused(u8),
+    // The piece is refused: what is remembered is as it was.
+    Refused(Refused),
     Taken(usize),
     Repeat(usize),
     Complete { length: usize, heard: usize },
@@ -90,15 +86,15 @@ impl Progress {
         }
     }
 
-    // The first refusal of a piece that is not one of the expected message, 0 where none applies.
-    fn sequence_refusal(&self, size: usize, piece: Piece) -> u8
-        ensures { result ≡ first (sequence_rows size self.now.expected piece) }
+    // The refusals of a piece that is not one of the expected message.
+    fn expects(&self, size: usize, piece: Piece) -> Result<(), Refused>
+        ensures { result ≡ unless (first (sequence_rows size self.now.expected piece)) tt }
     {
-        let n = next(0, WRONG_FRAGMENT_SIZE, cut::bad_size(size));
-        let n = next(n, WRONG_PIECE, piece.has_bad_index());
-        let n = next(n, LAST_SEQUENCE, piece.sequence == UNUSED);
-        let n = next(n, PAST_SEQUENCE, piece.sequence < self.expected);
-        next(n, FUTURE_SEQUENCE, self.expected < piece.sequence)
+        Refusal::WrongFragmentSize.when(cut::bad_size(size))?;
+        Refusal::WrongPiece.when(piece.has_bad_index())?;
+        Refusal::LastSequence.when(piece.sequence == UNUSED)?;
+        Refusal::PastSequence.when(piece.sequence < self.expected)?;
+        Refusal::FutureSequence.when(self.expected < piece.sequence)
     }
 
     // 21 applies: count or channel is unlike that of the first piece taken. The heard set is looked at only where they differ.
@@ -124,36 +120,38 @@ impl Progress {
         !alike(&report[start..start + placed.payload.len()], placed.payload)
     }
 
-    // The first refusal of a piece that does not go with what has come, or does not fit into a report buffer of `room` bytes, 0 where none
-    // applies.
+    // The refusals of a piece that does not go with what has come, or does not fit into a report buffer of `room` bytes.
     #[tactic(auto, unfolding(wire::specs::Fields::most_pieces))]
-    fn place_refusal(&self, placed: &Placed, room: usize) -> u8
-        ensures { result ≡ first (place_rows placed.now.size self.now placed.now.piece (length placed.now.payload.now) room) }
+    fn fits(&self, placed: &Placed, room: usize) -> Result<(), Refused>
+        ensures { result ≡ unless (first (place_rows placed.now.size self.now placed.now.piece (length placed.now.payload.now) room)) tt }
     {
         let end = placed.start() + placed.payload.len();
-        let n = next(0, UNLIKE_FIRST_PIECE, self.is_unlike(placed.piece));
-        let n = next(n, WRONG_PIECE_SIZE, placed.is_misfit());
-        next(n, NO_ROOM, room < end)
+        Refusal::UnlikeFirstPiece.when(self.is_unlike(placed.piece))?;
+        Refusal::WrongPieceSize.when(placed.is_misfit())?;
+        Refusal::NoRoom.when(room < end)
     }
 
-    // The first refusal that applies, 0 where none does.
-    fn refusal(&self, size: usize, piece: Piece, payload: &[u8], report: &[u8]) -> u8
-        ensures { result ≡ join_refusal size self.now piece payload.now report.now }
+    // The piece at its place, where no row refuses it.
+    fn place<'a>(
+        &self,
+        size: usize,
+        piece: Piece,
+        payload: &'a [u8],
+        report: &[u8],
+    ) -> Result<Placed<'a>, Refused>
+        ensures placed { IfOk result (λ p. (p.size ≡ size) × (p.piece ≡ piece) × (p.payload.now ≡ payload.now)) }
+        ensures passed { OnOk result (join_refusal size self.now piece payload.now report.now ≡ 0) }
+        ensures refused { IfErr result (λ n. (n ≡ join_refusal size self.now piece payload.now report.now) × (n ≢ 0)) }
     {
-        let n = self.sequence_refusal(size, piece);
-        if n != 0 {
-            return n;
-        }
+        self.expects(size, piece)?;
         let placed = Placed {
             size,
             piece,
             payload,
         };
-        let n = self.place_refusal(&placed, report.len());
-        if n != 0 {
-            return n;
-        }
-        next(n, UNLIKE_REPEAT, self.has_conflict(&placed, report))
+        self.fits(&placed, report.len())?;
+        Refusal::UnlikeRepeat.when(self.has_conflict(&placed, report))?;
+        Ok(placed)
     }
 
     // A new piece is counted; `marked` is the set with it, and how many indexes under its count are in that: its message is complete or not.
@@ -194,17 +192,14 @@ impl Progress {
         ensures value { result ≡ join size self piece payload.now report.old }
         ensures new_report { report.new ≡ report_after size self piece payload.now report.old }
     {
-        let refused = self.refusal(size, piece, payload, report);
-        if refused != 0 {
-            return Joined {
-                progress: self,
-                answer: Arrival::Refused(refused),
-            };
-        }
-        let placed = Placed {
-            size,
-            piece,
-            payload,
+        let placed = match self.place(size, piece, payload, report) {
+            Ok(placed) => placed,
+            Err(refused) => {
+                return Joined {
+                    progress: self,
+                    answer: Arrival::Refused(refused),
+                };
+            }
         };
         // A piece that has come is in the set already: with it there are as many.
         let marked = Marked::with(&self.heard, &placed);

@@ -1,6 +1,6 @@
 -- SPDX-License-Identifier: MPL-2.0
 -- Up to the index the set is as it was, after it the index is marked; the places passed are counted.
-use Rattle.laws.proofs.Kit.{ℕ, suc, ◌+◌, ◌-◌, min, ◌<◌, ◌≡◌, refl, ◌∙◌, ap, Bool, false, ◌||◌, ◌&&◌, List, length, set, length-set}
+use Rattle.laws.proofs.Kit.{ℕ, suc, ◌+◌, ◌-◌, min, ◌<◌, ◌≡◌, ◌∙◌, ap, Bool, false, ◌||◌, ◌&&◌, List, length, set, length-set}
 use Rattle.laws.proofs.Kit.{get_or-set_same, eqb, ltb, eq-eqb, ne_eqb, ltb-true, ltb-false, and-false, add-one, ⊎_elim, arith}
 use lib.Seq.{set-get_or, take-set-le}
 use Rattle.laws.proofs.Bools.{or-true, or-none, and_one}
