@@ -51,20 +51,18 @@ impl Said {
     }
 }
 
-impl Arrival {
+impl From<Arrival> for Said {
+    ghost from_gives = { λ arrival words. words ≡ arrived arrival };
+
     // Number and values of what a piece is answered.
-    pub fn arrived(self) -> Said
-        ensures { result ≡ arrived self }
-    {
-        match self {
-            Arrival::Refused(n) => Said::refused(n),
+    fn from(arrival: Arrival) -> Said {
+        match arrival {
+            Arrival::Refused(refused) => Said::refused(refused.number()),
             Arrival::Taken(heard) => Said::words(TAKEN, heard as u64, 0),
             Arrival::Repeat(heard) => Said::words(REPEAT, heard as u64, 0),
-            Arrival::Complete { length, heard } => Said::words(
-                COMPLETE,
-                heard as u64,
-                length as u64,
-            ),
+            Arrival::Complete { length, heard } => {
+                Said::words(COMPLETE, heard as u64, length as u64)
+            }
         }
     }
 }
