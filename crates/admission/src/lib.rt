@@ -14,6 +14,7 @@ use wire::refusals::{Refusal, Refused};
 pub const AGAIN: u64 = 2;
 
 // What the reader answers, or 25 or 24 before it: these look at no message.
+#[tactic(auto, unfolding(crate::specs::Admission::admit, crate::specs::Admission::working_admitted))]
 pub fn admit(
     size: usize,
     verdict: u8,
