@@ -25,6 +25,7 @@ fn certificate_digest(payload: &[u8]) -> [u8; 32]
 
 impl Connection {
     // A Connect message.
+    #[tactic(auto, unfolding(crate::specs::Hear::connect, crate::specs::Host::host))]
     fn connect(self, session: u64, payload: &[u8], verdict: u8) -> Stepped
         ensures { result ≡ connect self session payload.now verdict }
     {
@@ -71,6 +72,7 @@ impl Connection {
     }
 
     // A message that the reader read.
+    #[tactic(auto, unfolding(crate::specs::Hear::hear, crate::specs::Hear::report_heard))]
     pub(crate) fn hear(
         self,
         header: Header,

@@ -140,6 +140,7 @@ impl Connection {
     }
 
     // Opens a connection of this fragment size; outside 1 to 16,384 it is refused with 24, and the connection is all zero.
+    #[tactic(auto, unfolding(crate::specs::Opening::opened))]
     pub fn open(size: usize) -> Opened
         ensures { result ≡ opened size }
     {
