@@ -8,6 +8,7 @@ use super::{Connection, Stepped};
 
 impl Connection {
     // One message, with the keys, the working buffer, the report buffer and the verdict on the gateway's certificate.
+    #[tactic(auto, unfolding(crate::specs::Step::step, crate::specs::Step::report_stepped))]
     pub fn step(
         self,
         message: &[u8],
