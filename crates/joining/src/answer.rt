@@ -5,7 +5,8 @@ ghost use Rattle.joining.specs.Answers.{words, refused, arrived};
 
 use super::Arrival;
 
-// The kinds of a piece's answers; a refusal is 0. A step of the hub has 1 to 3 besides, one of the gateway 2 and 7 to 9.
+// The kinds of a piece's answers; a refusal is 0. A step of the hub has 1 to 3 besides, one of the gateway 2 and 7 to 9. They are numbers, since C is
+// handed them so.
 pub const TAKEN: u64 = 4;
 
 pub const REPEAT: u64 = 5;

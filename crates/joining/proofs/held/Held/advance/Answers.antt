@@ -4,7 +4,7 @@ use Rattle.laws.proofs.Kit.{◌-◌, arith}
 use Rattle.joining.specs.Heard.{most}
 use Rattle.wire.specs.Fields.{most_pieces}
 use Rattle.joining.proofs.Cuts.{place-bound}
-use Rattle.joining.proofs.Progress.advance.Goals as goal
+use Rattle.joining.proofs.held.Held.advance.Goals as goal
 
 -- F × (count - 1): a bound that omega takes.
 pub overflow_mul-length : goal.overflow_mul-length

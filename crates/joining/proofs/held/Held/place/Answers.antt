@@ -2,7 +2,7 @@
 -- Three tables one after the other: where the code stops, the answer is that of all three.
 use Rattle.std.proofs.lemmas.Result.{err_from_is_err_and}
 use Rattle.joining.proofs.Refusals.{first-refuses, second-refuses, third-refuses, none-refuses}
-use Rattle.joining.proofs.Progress.place.Goals as goal
+use Rattle.joining.proofs.held.Held.place.Goals as goal
 
 pub returns-in_err-expects-clause-refused : goal.returns-in_err-expects-clause-refused
 returns-in_err-expects-clause-refused c =
