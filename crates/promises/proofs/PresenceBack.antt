@@ -166,7 +166,7 @@ admitted p (is_response r w e) = rw e (good r w)
 module _ (p : List ℕ) where
   unrefused : bad_payload 1 false p ≡ false → refusal_in (read_discovery p) ≡ 0
   unfolding read_discovery
-  unrefused e = rw e (on (eqb (be8 p 0) 0) (λ z. rw z) (λ z. rw z))
+  unrefused e = rw e
 
   refused : bad_payload 1 false p ≡ true → refusal_in (read_discovery p) ≡ 14
   unfolding read_discovery

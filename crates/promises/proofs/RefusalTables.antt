@@ -6,6 +6,7 @@ use Rattle.laws.specs.Bytes.{AreBytes, be8, be16}
 use Rattle.laws.specs.Rows.{first, or_else, unless}
 use Rattle.laws.proofs.Cases.{on}
 use Rattle.laws.proofs.Firsts.{first-append}
+use Rattle.laws.proofs.Refusals.{refused as number-refused}
 use Rattle.wire.specs.Chain.{leaves}
 use Rattle.wire.specs.Reader.{chain_of, header_rows, rows_of, refusal_with, refusal_of, header_found, read_header}
 use Rattle.std.specs.Prelude.{Result, Ok, Err}
@@ -21,7 +22,6 @@ use Rattle.message.proofs.Told.{message-refused, refused-message}
 use Rattle.writer.specs.declared.Wrote.{Wrote}
 use Rattle.writer.specs.Answers.{wrote}
 use Rattle.joining.specs.Cut.{bad_size, piece_count, cut_refusal, cut_count}
-use Rattle.joining.specs.declared.cut.Cutting.{Cutting}
 use Rattle.hub.specs.declared.Opened.{Opened}
 use Rattle.hub.specs.Opening.{opened}
 use Rattle.promises.specs.Refusals.{sealed, start, header_table, payload_in, sealed_table, reader_table, HeaderExact, ReaderExact}
@@ -31,23 +31,16 @@ use Rattle.promises.proofs.Apart.{apart}
 use Rattle.promises.proofs.Exactly.{exactly, answered-exactly}
 use Rattle.promises.proofs.ReaderNumber.{found_in, what_is_read, early, reader_number, read-by-number}
 
--- A report makes one piece or more.
-some : (F bytes : ℕ) → piece_count F bytes ≡ 0 → ⊥
-some F bytes e = on (eqb bytes 0) (λ z. let w : ◌≡◌ {A = ℕ} 1 0 = rw z at e in omega (arith, w)) (λ z. omega (arith, rw z at e))
-
-cut-some : (F bytes i : ℕ) → cut_refusal F bytes i ≡ 0 → cut_count F bytes i ≡ 0 → ⊥
-cut-some F bytes i z e = some F bytes (rw z at e)
-
 cut-refused : (F : ℕ) (report : List ℕ) (i n : ℕ) → (n ≡ 0 → ⊥) → cut_refusal F (length report) i ≡ n → CutRefused F report i n
-cut-refused F report i n z e = (rw (e, ne_eqb n 0 z), rw (e, ne_eqb n 0 z))
+cut-refused F report i n z e = (rw (e, ne_eqb n 0 z), rw (e, ne_eqb n 0 z), rw (e, ne_eqb n 0 z))
 
 pub cutter-exact : CutterExact
 unfolding cut_refusal
 cutter-exact F report i n =
     exactly (CutRefused F report i n) n (cut_table F (length report) i) refl
     (λ p.
-    let e = ap (λ (a : Cutting). a.refusal) p.0 in
-    (λ z. cut-some F (length report) i (e ∙ z) (ap (λ (a : Cutting). a.count) p.0), e))
+    let w = number-refused _ _ (sym p.0) in
+    (λ z. w.1 (sym w.0 ∙ z), sym w.0))
     (cut-refused F report i n)
 
 pub opener-exact : OpenerExact
