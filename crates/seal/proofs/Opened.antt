@@ -40,16 +40,21 @@ module _ (keys : List (List ℕ)) (v sealed : List ℕ) (some : 16 ≤ length se
       take_all 16 (drop (16 * n) plain) (simp length-drop (omega (arith, long))) in
       rw last (sym (cbc_decrypt-last keys v sealed n (omega arith)) ∙ in_one)
 
-  -- So two blocks decide 13.
-  pub part-judged : bad_blocks (length sealed) (cbc_decrypt_block keys v (take 16 sealed))
-      (cbc_decrypt_block keys (block_before (length sealed / 16 - 1) v sealed) (drop (length sealed - 16) sealed))
-      ≡ bad_plain (cbc_decrypt keys v sealed)
-  part-judged = rw (← cbc_decrypt-first keys v sealed some, last-decrypted, ← long) (sym (bad_plain-blocks plain))
+  -- So two blocks decide 13: decrypted by themselves,
+  pub judged : {first before last front end : List ℕ} {bad : Bool} → first ≡ take 16 sealed → before ≡ block_before (length sealed / 16 - 1) v sealed
+      → last ≡ drop (length sealed - 16) sealed → front ≡ cbc_decrypt_block keys v first → end ≡ cbc_decrypt_block keys before last
+      → bad ≡ bad_blocks (length sealed) front end → bad ≡ bad_plain (cbc_decrypt keys v sealed)
+  judged f b l p q e =
+      rw (e, p, q, f, b, l, ← cbc_decrypt-first keys v sealed some, last-decrypted, ← long) (sym (bad_plain-blocks plain))
 
-  -- A part that was opened into the front of a local, which is judged there and copied.
+  -- or at the ends of the part, opened into the front of a local.
   pub in-front : (zeros : List ℕ) {size given local front : List ℕ} → size ≡ sealed → given ≡ sealed → length sealed ≤ length zeros
       → local ≡ written given (cbc_decrypt keys v given) zeros → front ≡ take (length size) local → front ≡ cbc_decrypt keys v sealed
   in-front zeros n g room e f = rw (f, e, n, g, blocks, le-leb _ _ room) (take_at plain (drop (length sealed) zeros) (length sealed) long)
+
+  pub front-judged : {front first last : List ℕ} {bad : Bool} → front ≡ cbc_decrypt keys v sealed → first ≡ take 16 front
+      → last ≡ drop (length front - 16) front → bad ≡ bad_blocks (length sealed) first last → bad ≡ bad_plain (cbc_decrypt keys v sealed)
+  front-judged f one end e = rw (e, one, end, f, ← long) (sym (bad_plain-blocks plain))
 
 -- What was chained into the last block of whole blocks: the block before it, if what stands before it has one.
 pub before-last : (bytes v : List ℕ) (before : Option (Bor (List ℕ))) → 16 ≤ length bytes → length bytes % 16 ≡ 0

@@ -7,7 +7,6 @@ ghost use Rattle.seal.specs.Keys.{encryption_key, vector_key, vector_block, vect
 ghost use Rattle.seal.specs.Opening.{key_rows};
 
 use crate::KEYS;
-use crate::cipher::Cipher;
 use std::marker::Model;
 use wire::refusals::{Refusal, Refused};
 
@@ -49,12 +48,12 @@ impl<'a> Keys<'a> {
         }
     }
 
-    // The key of the cipher.
-    fn encryption(&self) -> [u8; 16]
-        ensures { result ≡ encryption_key self.now }
+    // The round keys of the cipher.
+    pub(crate) fn round_keys(&self) -> [[u8; 16]; 11]
+        ensures { result ≡ expand_key (encryption_key self.now) }
     {
         let bytes = self.bytes;
-        *bytes.first_chunk().unwrap()
+        aes::key::expand_key(*bytes.first_chunk().unwrap())
     }
 
     // The key of the block that is the vector.
@@ -67,24 +66,12 @@ impl<'a> Keys<'a> {
 
     // The vector of a message: one AES block under the vector key, by the code that encrypts the sealed part.
     #[tactic(auto, unfolding(crate::specs::Keys::vector))]
-    fn vector(&self, message: &[u8]) -> [u8; 16]
+    pub(crate) fn vector(&self, message: &[u8]) -> [u8; 16]
         requires { 40 ≤ length message.now }
         ensures { result ≡ vector self.now message.now }
     {
         let round_keys = aes::key::expand_key(self.vector_key());
         aes::cbc::cbc_encrypt_one(round_keys, vector_block(message))
-    }
-
-    // The cipher of a message's sealed part.
-    pub(crate) fn cipher(&self, message: &[u8]) -> Cipher
-        requires { 40 ≤ length message.now }
-        ensures round_keys { result.round_keys ≡ expand_key (encryption_key self.now) }
-        ensures vector { result.vector ≡ vector self.now message.now }
-    {
-        Cipher {
-            round_keys: aes::key::expand_key(self.encryption()),
-            vector: self.vector(message),
-        }
     }
 
     // The tag of a message that is given without its last 32 bytes. It sees, for MessageLength, the length of what it is given.

@@ -3,7 +3,6 @@
 #![tactic(auto)]
 
 mod blocks;
-mod cipher;
 mod key;
 pub mod opening;
 pub mod padding;

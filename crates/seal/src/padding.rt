@@ -4,9 +4,8 @@
 //     | size, 4 bytes | payload, size bytes | padding, each byte the number of padding bytes |
 //
 ghost use Rattle.std.specs.Prelude.{◌≡◌, ◌≤◌, ◌||◌, not, false, eqb, fold};
-ghost use Rattle.seal.specs.Padding.{padding, sealed_size, bad_plain, bad_blocks};
+ghost use Rattle.seal.specs.Padding.{padding, sealed_size, bad_blocks};
 
-use crate::blocks::Blocks;
 use octets::numbers::number32;
 
 // How many padding bytes follow a payload of n bytes.
@@ -40,11 +39,4 @@ pub(crate) fn bad_blocks(size: usize, front: [u8; 16], end: [u8; 16]) -> bool
     let count = padding(told);
     let past = 16 - usize::from(count);
     (size != sealed_size(told)) | differ(&end[past..], count)
-}
-
-// Refusal 13 of an opened sealed part.
-pub(crate) fn bad_plain(plain: &Blocks) -> bool
-    ensures { result ≡ bad_plain plain.now }
-{
-    bad_blocks(plain.bytes().len(), plain.first(), plain.last())
 }

@@ -8,7 +8,9 @@ ghost use Rattle.std.specs.Prelude.{◌≡◌, ◌+◌, ◌≤◌, ◌<◌, ◌^
 ghost use Rattle.std.proofs.lemmas.List.Edits.{sets};
 ghost use Rattle.laws.specs.Rows.{first, unless};
 ghost use Rattle.seal.specs.Padding.{sealed_size, plain_text};
-ghost use Rattle.seal.specs.Keys.{tag_of};
+ghost use Rattle.aes.specs.Key.{expand_key};
+ghost use Rattle.aes.specs.Cbc.{cbc_encrypt};
+ghost use Rattle.seal.specs.Keys.{encryption_key, tag_of};
 ghost use Rattle.seal.specs.Sealed.{body_rows, seal_refusal, sealed_into};
 
 use crate::key::Keys;
@@ -29,6 +31,15 @@ fn put_plain(payload: &[u8], room: &mut [u8])
     store32(room, 0, size);
     store_bytes(room, 4, payload);
     store_bytes(room, 4 + payload.len(), &[padding(size); 16]);
+}
+
+// Size, payload and padding, encrypted over the whole of their room.
+fn encrypt_part(keys: &Keys, vector: [u8; 16], payload: &[u8], room: &mut [u8])
+    requires { (length payload.now < 2 ^ 32) × (length room.old ≡ sealed_size (length payload.now)) }
+    ensures { room.new ≡ cbc_encrypt (expand_key (encryption_key keys.now)) vector (plain_text payload.now) }
+{
+    put_plain(payload, room);
+    aes::cbc::cbc_encrypt_in_place(keys.round_keys(), vector, room);
 }
 
 // The tag of the first `end` bytes, after them.
@@ -62,10 +73,8 @@ pub fn seal(keys: &[u8], payload: &[u8], start: usize, out: &mut [u8]) -> Result
     let end = sealed_end(start, payload.len())?;
     let keys = Keys::of(keys)?;
     Refusal::NoRoom.when(out.len() < end + TAG)?;
-    let cipher = keys.cipher(out);
-    let room = &mut out[start..end];
-    put_plain(payload, room);
-    cipher.encrypt(room);
+    let vector = keys.vector(out);
+    encrypt_part(&keys, vector, payload, &mut out[start..end]);
     put_tag(&keys, end, out);
     Ok(())
 }

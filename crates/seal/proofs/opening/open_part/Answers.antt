@@ -1,6 +1,6 @@
 -- SPDX-License-Identifier: MPL-2.0
 -- Keys and vector are the definition's, so what is judged and written is the opened sealed part.
-use Rattle.laws.proofs.Kit.{◌≡◌}
+use Rattle.laws.proofs.Kit.{◌≡◌, ◌∙◌}
 use Rattle.aes.specs.Cbc.{cbc_decrypt}
 use Rattle.seal.specs.Opening.{plain_of}
 use Rattle.seal.proofs.Opened.{left, no-room, part-opened}
@@ -17,8 +17,9 @@ pub returns : goal.returns
 unfolding plain_of
 returns c =
     let a = c.args in
-    let plain : plain_of a.keys.now a.message.now a.sealed.now ≡ cbc_decrypt c.cipher.result.round_keys c.cipher.result.vector a.sealed.now =
-    rw (c.cipher.ensures.round_keys, c.cipher.ensures.vector) in
+    let o = c.open_blocks.ensures in
+    let plain : plain_of a.keys.now a.message.now a.sealed.now ≡ cbc_decrypt c.round_keys.result c.vector-vector.result a.sealed.now =
+    rw (c.round_keys.ensures, c.vector-vector.ensures) in
     let e = part-opened a.keys.now a.message.now a.sealed.now a.working.now (rw c.bytes.ensures.value at c.in_ok-when.ensures.passed) plain
-    c.open.ensures.value c.open.ensures.new_working in
+    o.value o.new_working in
     record { value = e.0; new_working = e.1 }

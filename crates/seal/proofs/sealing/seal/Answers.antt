@@ -26,16 +26,13 @@ returns-in_err-when c =
     let e = no-room a.keys.now a.payload.now a.out.now a.start c.in_ok-end.ensures.value c.in_ok-keys.ensures (rw at at r.0) in
     record { value = rw (left _ c.from_residual-in_err-when.ensures.1, r.1) e.0; new_out = e.1 }
 
-pub put_plain-requires : goal.put_plain-requires
-put_plain-requires c =
+pub encrypt_part-requires : goal.encrypt_part-requires
+encrypt_part-requires c =
     let a = c.args in
     let s = sizes (length a.payload.now) in
     let f = c.in_ok-end.ensures.fits in
     let room = ltb-false _ _ c.in_ok-when.ensures.passed in
     (omega arith, length-take-le (c.in_ok-end.end - a.start) (drop a.start a.out.now) (simp length-drop (omega arith)) ∙ omega arith)
-
-pub encrypt-requires : goal.encrypt-requires
-encrypt-requires c = rw c.put_plain.ensures (plain_text-blocks c.args.payload.now)
 
 pub returns : goal.returns
 returns c =
@@ -46,7 +43,6 @@ returns c =
     let s = sizes (length a.payload.now) in
     let fit : Fit (length a.keys.now) a.start (length a.payload.now) (length a.out.now) =
     record { keys64 = k.1; past = f.0; short = omega arith; small = omega arith; roomy = omega arith } in
-    let part = rw (c.put_plain.ensures, c.cipher-cipher.ensures.round_keys, k.0) at c.encrypt.ensures in
-    let e = sealed-into a.keys.now a.payload.now a.out.now a.start c.in_ok-end.end fit f.1 c.cipher-cipher.result.vector c.encrypt.new.room
-    c.put_tag.new.out (rw k.0 at c.cipher-cipher.ensures.vector) part (rw k.0 at c.put_tag.ensures) in
+    let e = sealed-into a.keys.now a.payload.now a.out.now a.start c.in_ok-end.end fit f.1 c.vector-vector.result c.encrypt_part.new.room
+    c.put_tag.new.out (rw k.0 at c.vector-vector.ensures) (rw k.0 at c.encrypt_part.ensures) (rw k.0 at c.put_tag.ensures) in
     record { value = e.0; new_out = e.1 }

@@ -3,8 +3,8 @@
 use Rattle.laws.proofs.Kit.{sym, ◌∙◌, replicate}
 use Rattle.aes.proofs.Chain.{cbc_decrypt-length}
 use Rattle.seal.specs.Opening.{into_unless, unless_bad}
-use Rattle.seal.proofs.Opened.{left, in-front}
-use Rattle.seal.proofs.cipher.Cipher.open_small.Goals as goal
+use Rattle.seal.proofs.Opened.{left, in-front, front-judged}
+use Rattle.seal.proofs.opening.open_small.Goals as goal
 
 pub returns-in_err-when : goal.returns-in_err-when
 unfolding unless_bad into_unless
@@ -13,7 +13,7 @@ returns-in_err-when c =
     let r = c.in_err-when.ensures.refused in
     let plain = in-front _ _ c.args.sealed.now b.some b.whole (replicate 128 0) b.value c.bytes.ensures.value c.requires.small
     c.cbc_decrypt.ensures.new_target c.of-plain.ensures in
-    let bad = rw plain at (sym c.bad_plain.ensures ∙ r.0) in
+    let bad = sym (front-judged _ _ c.args.sealed.now b.some b.whole plain c.first.ensures c.last.ensures (rw b.value at c.bad_blocks.ensures)) ∙ r.0 in
     record { value = rw (left _ c.from_residual.ensures.1, r.1, bad); new_working = rw bad }
 
 pub returns : goal.returns
@@ -22,7 +22,8 @@ returns c =
     let b = c.bytes-size.ensures in
     let plain = in-front _ _ c.args.sealed.now b.some b.whole (replicate 128 0) b.value c.bytes.ensures.value c.requires.small
     c.cbc_decrypt.ensures.new_target c.of-plain.ensures in
-    let good = rw plain at (sym c.bad_plain.ensures ∙ c.in_ok-when.ensures.passed) in
+    let good = sym (front-judged _ _ c.args.sealed.now b.some b.whole plain c.first.ensures c.last.ensures (rw b.value at c.bad_blocks.ensures))
+    ∙ c.in_ok-when.ensures.passed in
     record {
       value = rw good;
       new_working = rw (good, c.copy_from_slice.ensures.after, c.bytes-2.ensures.value, plain, b.value, cbc_decrypt-length _ _ _ b.whole);
