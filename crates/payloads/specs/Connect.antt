@@ -1,5 +1,6 @@
 -- SPDX-License-Identifier: MPL-2.0
 -- A Connect payload taken apart: which of the six it is, and where in it what it says stands.
+use Rattle.std.specs.Result.{result_unwrap_or}
 use Rattle.std.specs.Prelude.{ℕ, List, Bool, true, false, cond, ◌&&◌, ◌||◌, eqb, Result, Ok, Err}
 use Rattle.wire.specs.Refusals.{wrong_payload}
 use Rattle.payloads.specs.Shapes.{either, bad_payload}
@@ -65,3 +66,7 @@ unfoldable pub read_connect : List ℕ → Result FoundConnect ℕ
 read_connect p =
     cond (not_connect p) (Err wrong_payload)
     (Ok (said_connect (connect_type p) (connection_mode p) (code_of p) (certificate_of p) (thumbprint_of p)))
+
+-- What an answer says: a refusal says nothing.
+abbrev pub connect_told : Result FoundConnect ℕ → FoundConnect
+connect_told answer = result_unwrap_or answer nothing_connect

@@ -1,5 +1,6 @@
 -- SPDX-License-Identifier: MPL-2.0
 -- A Discovery payload taken apart: which of the two it is, and where in it what it says stands.
+use Rattle.std.specs.Result.{result_unwrap_or}
 use Rattle.std.specs.Prelude.{ℕ, ◌+◌, List, false, cond, eqb, Result, Ok, Err}
 use Rattle.laws.specs.Bytes.{be8, be16}
 use Rattle.wire.specs.Refusals.{wrong_payload}
@@ -37,3 +38,7 @@ unfoldable pub read_discovery : List ℕ → Result FoundDiscovery ℕ
 read_discovery p =
     cond (bad_payload 1 false p) (Err wrong_payload)
     (Ok (cond (eqb (be8 p 0) 0) nothing_discovery (said_response (be16 p 1) (be16 p 3) (be16 p 5))))
+
+-- What an answer says: a refusal says nothing.
+abbrev pub discovery_told : Result FoundDiscovery ℕ → FoundDiscovery
+discovery_told answer = result_unwrap_or answer nothing_discovery
