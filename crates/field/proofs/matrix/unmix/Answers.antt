@@ -8,5 +8,5 @@ use Rattle.field.proofs.matrix.unmix.Goals as goal
 pub returns : goal.returns
 unfolding xor unmixed_word
 returns c =
-    column-by c.args.x _ _ _ c.ranges.x.fits c.double-x2.ensures c.double-x4.ensures c.double-x8.ensures _ _ _
-    c.up1.ensures c.up2.ensures c.up3.ensures
+    rw (c.rotate_right.ensures, c.rotate_right-2.ensures, c.rotate_right-3.ensures)
+    (column-by c.args.x _ _ _ c.ranges.x.fits c.double-x2.ensures c.double-x4.ensures c.double-x8.ensures)
