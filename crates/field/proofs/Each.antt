@@ -185,11 +185,11 @@ module _ (x x2 x4 x8 : ℕ) (h : x < 4294967296) (e2 : x2 ≡ each (mul 2) x) (f
   by14 : xor (xor x8 x4) x2 ≡ each (mul 14) x
   by14 = ap₂ xor (ap₂ xor by8 by4 ∙ each-sum 8 4 12 x numbers.5) e2 ∙ each-sum 12 2 14 x numbers.6
 
-  pub column-by :
+  pub column_by :
       xor (xor (xor (xor (xor x8 x4) x2) (rotate_right w32 (xor (xor x8 x) x2) 8)) (rotate_right w32 (xor (xor x8 x) x4) 16)) (rotate_right w32 (xor x8 x) 24)
       ≡ column 14 11 13 9 (byte_at x 0) (byte_at x 1) (byte_at x 2) (byte_at x 3)
   unfolding each
-  column-by =
+  column_by =
       let f : (k i : ℕ) → mul k (byte_at x i) < 256 = m-byte x in
       rw (
         by14,
