@@ -1,75 +1,45 @@
 // SPDX-License-Identifier: MPL-2.0
-// The round keys as the rounds read them: words, four to a key, in FIPS 197's order (5.2); and those of the way back.
-ghost use Rattle.std.specs.Prelude.{◌≡◌, ◌<◌, get_or};
-ghost use Rattle.laws.specs.Runs.{run};
-ghost use Rattle.field.specs.Words.{unmixed_word};
-ghost use Rattle.aes.specs.State.{Keys};
-ghost use Rattle.aes.specs.Words.{key_at, put_key, keys_of};
-ghost use Rattle.aes.specs.Cipher.{eq_keys};
+// The round keys as the rounds take them: as words, number n where n more rounds come (FIPS 197, 5.2 and 5.3.5).
+ghost use Rattle.std.specs.Prelude.{◌≡◌, map};
+ghost use Rattle.aes.specs.State.{Keys, inv_mix_columns};
+ghost use Rattle.aes.specs.Words.{bytes_of, reversed_bytes};
+ghost use Rattle.aes.specs.Cipher.{keys_back, eq_keys};
 
-use super::columns::{State, words};
+use super::columns::{State, reversed_words, words};
 use field::matrix::unmix;
 
-// Round key i.
-#[tactic(auto, unfolding(crate::specs::Words::key_at))]
-pub(crate) fn key_at(w: &[u32; 44], i: usize) -> State
-    requires { i < 11 }
-    ensures { result ≡ key_at w.now i }
+// Those of the cipher.
+pub(crate) fn key_words(keys: [[u8; 16]; 11]) -> [State; 11]
+    ensures { map reversed_bytes result ≡ keys_back keys }
 {
-    State {
-        a: w[4 * i],
-        b: w[4 * i + 1],
-        c: w[4 * i + 2],
-        d: w[4 * i + 3],
-    }
-}
-
-// Puts round key i among the words.
-#[tactic(auto, unfolding(crate::specs::Words::put_key))]
-fn put_key(w: &mut [u32; 44], i: usize, k: State)
-    requires { i < 11 }
-    ensures { w.new ≡ put_key w.old i k }
-{
-    w[4 * i] = k.a;
-    w[4 * i + 1] = k.b;
-    w[4 * i + 2] = k.c;
-    w[4 * i + 3] = k.d;
-}
-
-// The words of all round keys.
-pub(crate) fn key_words(keys: [[u8; 16]; 11]) -> [u32; 44]
-    ensures { keys_of result ≡ keys }
-{
-    let mut w = [0u32; 44];
-    let mut i: usize = 0;
-    while i < 11 {
-        let k = keys[i];
-        put_key(&mut w, i, words(k));
-        i += 1;
-    }
-    w
-}
-
-// InvMixColumns of every word of the round keys.
-fn unmix_words(w: &[u32; 44]) -> [u32; 44]
-    ensures { result ≡ run (λ j. unmixed_word (get_or w.now j 0)) 0 44 }
-{
-    let mut r = [0u32; 44];
-    let mut j: usize = 0;
-    while j < 44 {
-        r[j] = unmix(w[j]);
-        j += 1;
+    let mut r = [reversed_words(keys[10]); 11];
+    for n in 1..11 {
+        r[n] = reversed_words(keys[10 - n]);
     }
     r
 }
 
-// The words of the round keys of EqInvCipher() (FIPS 197, 5.3.5): the first and the last are as they were. The keys are blocks, as its callers cite.
-pub(crate) fn inverse_words(keys: [[u8; 16]; 11]) -> [u32; 44]
-    ensures { (keys_of result ≡ eq_keys keys) × Keys keys }
+// InvMixColumns of a round key.
+fn unmixed(k: State) -> State
+    ensures { bytes_of result ≡ inv_mix_columns (bytes_of k) }
 {
-    let w = key_words(keys);
-    let mut r = unmix_words(&w);
-    put_key(&mut r, 0, key_at(&w, 0));
-    put_key(&mut r, 10, key_at(&w, 10));
+    State {
+        a: unmix(k.a),
+        b: unmix(k.b),
+        c: unmix(k.c),
+        d: unmix(k.d),
+    }
+}
+
+// Those of EqInvCipher(): the first and the last are as they were. The keys are blocks, as its callers cite.
+pub(crate) fn inverse_words(keys: [[u8; 16]; 11]) -> [State; 11]
+    ensures words { map bytes_of result ≡ eq_keys keys }
+    ensures are_blocks { Keys keys }
+{
+    let mut r = [words(keys[0]); 11];
+    for n in 1..10 {
+        r[n] = unmixed(words(keys[n]));
+    }
+    r[10] = words(keys[10]);
     r
 }
