@@ -5,6 +5,7 @@ use Rattle.laws.proofs.Kit.{ℕ, zero, suc, ◌+◌, ◌-◌, ◌≤◌, ◌<◌
 use Rattle.laws.specs.Runs.{run}
 use Rattle.laws.proofs.Runs.{run_length, run-from-zero, run_is, Filled}
 use Rattle.std.specs.Prelude.{map}
+use mathlib.Core.Logic.{◌⊎◌, inl, inr}
 use Rattle.std.proofs.lemmas.List.{get_or-map, length-map}
 use Rattle.field.specs.Xor.{xor}
 use Rattle.field.specs.Sbox.{sbox, inv_sbox}
@@ -96,12 +97,11 @@ module _ (t f : ℕ → ℕ) (ks : List State) where
 
 -- ---- the round keys as words
 
--- a list of words that was filled by what they are is the list of that
-pub filled-keys : (f : State → List ℕ) (g : ℕ → List ℕ) (w : List State) (i : ℕ) → Filled 11 no_words (λ n k. f k ≡ g n) w i → 11 ≤ i
+-- a list of eleven by what each is, and back
+pub keys-are : (f : State → List ℕ) (g : ℕ → List ℕ) (w : List State) → length w ≡ 11 → ((n : ℕ) → n < 11 → f (get_or w n no_words) ≡ g n)
     → map f w ≡ run g 0 11
-filled-keys f g w i b h =
-    run_is [] g 11 (map f w) (length-map w f ∙ b.len)
-    (λ n l. get_or-map f w n no_words [] (omega (arith, b.len)) ∙ b.done n (omega arith))
+keys-are f g w l h =
+    run_is [] g 11 (map f w) (length-map w f ∙ l) (λ n b. get_or-map f w n no_words [] (omega arith) ∙ h n b)
 
 key_at : (f : State → List ℕ) (g : ℕ → List ℕ) (w : List State) → map f w ≡ run g 0 11 → (n : ℕ) → n < 11 → f (get_or w n no_words) ≡ g n
 key_at f g w e n h =
@@ -109,9 +109,13 @@ key_at f g w e n h =
     sym (get_or-map f w n no_words [] (omega arith)) ∙ rw e (run-from-zero g 11 n [] h)
 
 module _ (ks : List (List ℕ)) where
-  pub at_ends : (eq_key ks 0 ≡ get_or ks 0 []) × (eq_key ks 10 ≡ get_or ks 10 [])
+  at_ends : (eq_key ks 0 ≡ get_or ks 0 []) × (eq_key ks 10 ≡ get_or ks 10 [])
   unfolding eq_key
   at_ends = (refl, refl)
+
+  pub at_end : (n : ℕ) → n < 11 → ((0 < n) × (10 ≤ n)) ⊎ (n ≤ 0) → eq_key ks n ≡ get_or ks n []
+  at_end n h (inl g) = let z : n ≡ 10 = omega arith in rw (z, at_ends.1)
+  at_end n h (inr g) = let z : n ≡ 0 = omega arith in rw (z, at_ends.0)
 
   pub between : (n : ℕ) → 0 < n → n < 10 → eq_key ks n ≡ inv_mix_columns (get_or ks n [])
   unfolding eq_key

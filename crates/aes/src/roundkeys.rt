@@ -1,9 +1,11 @@
 // SPDX-License-Identifier: MPL-2.0
 // The round keys as the rounds take them: as words, number n where n more rounds come (FIPS 197, 5.2 and 5.3.5).
-ghost use Rattle.std.specs.Prelude.{◌≡◌, map};
-ghost use Rattle.aes.specs.State.{Keys, inv_mix_columns};
+ghost use Rattle.std.specs.Prelude.{◌≡◌, ◌<◌, List, [], get_or, map};
+ghost use Rattle.aes.specs.State.{Block, Keys, inv_mix_columns};
 ghost use Rattle.aes.specs.Words.{bytes_of, reversed_bytes};
-ghost use Rattle.aes.specs.Cipher.{keys_back, eq_keys};
+ghost use Rattle.aes.specs.Cipher.{keys_back, eq_key, eq_keys};
+
+use std::array;
 
 use super::columns::{State, reversed_words, words};
 use field::matrix::unmix;
@@ -12,11 +14,7 @@ use field::matrix::unmix;
 pub(crate) fn key_words(keys: [[u8; 16]; 11]) -> [State; 11]
     ensures { map reversed_bytes result ≡ keys_back keys }
 {
-    let mut r = [reversed_words(keys[10]); 11];
-    for n in 1..11 {
-        r[n] = reversed_words(keys[10 - n]);
-    }
-    r
+    array::from_fn(|n| reversed_words(keys[10 - n]))
 }
 
 // InvMixColumns of a round key.
@@ -31,15 +29,20 @@ fn unmixed(k: State) -> State
     }
 }
 
-// Those of EqInvCipher(): the first and the last are as they were. The keys are blocks, as its callers cite.
+// Round key n of EqInvCipher(): the first and the last are as they were.
+fn inverse_key(keys: &[[u8; 16]; 11], n: usize) -> State
+    requires { n < 11 }
+    ensures key { bytes_of result ≡ eq_key keys.now n }
+    ensures is_block { Block (get_or keys.now n []) }
+{
+    let k = words(keys[n]);
+    if 0 < n && n < 10 { unmixed(k) } else { k }
+}
+
+// Those of EqInvCipher(). The keys are blocks, as its callers cite.
 pub(crate) fn inverse_words(keys: [[u8; 16]; 11]) -> [State; 11]
     ensures words { map bytes_of result ≡ eq_keys keys }
     ensures are_blocks { Keys keys }
 {
-    let mut r = [words(keys[0]); 11];
-    for n in 1..10 {
-        r[n] = unmixed(words(keys[n]));
-    }
-    r[10] = words(keys[10]);
-    r
+    array::from_fn(|n| inverse_key(&keys, n))
 }
