@@ -3,7 +3,7 @@
 -- columns: the cipher's words are the last one first.
 use Rattle.laws.proofs.Kit.{ℕ, zero, suc, ◌+◌, ◌-◌, ◌≤◌, ◌<◌, ◌≡◌, refl, sym, ◌∙◌, List, [], length, get_or, lt-ltb, lit<, arith}
 use Rattle.laws.specs.Runs.{run}
-use Rattle.laws.proofs.Runs.{run_length, run-from-zero, run_is, Filled}
+use Rattle.laws.proofs.Runs.{run_length, run-from-zero, run_is}
 use Rattle.std.specs.Prelude.{map}
 use mathlib.Core.Logic.{◌⊎◌, inl, inr}
 use Rattle.std.proofs.lemmas.List.{get_or-map, length-map}
@@ -18,7 +18,7 @@ use Rattle.field.proofs.Each.{byte_at-lt}
 use Rattle.aes.specs.declared.columns.State.{State}
 use Rattle.aes.specs.State.{block, Keys, sub_bytes, shifted, shift_rows, down, mix_columns, add_round_key}
 use Rattle.aes.specs.State.{unshifted, inv_shift_rows, inv_sub_bytes, inv_mix_columns}
-use Rattle.aes.specs.Words.{bytes_of, sum, reversed, reversed_bytes, looked_up, substituted, round_words, last_words, no_words, rounds_left, by_tables}
+use Rattle.aes.specs.Words.{bytes_of, sum, reversed, reversed_bytes, rows_added, substituted, round_words, last_words, no_words, rounds_left, by_tables}
 use Rattle.aes.specs.Cipher.{rounds, cipher, unrounds, inv_cipher, keys_back, eq_key, eq_keys}
 use Rattle.aes.proofs.Steps.{sub-block, shift-block, mix-block, unsub-block, unshift-block, unmix-block, unmix-add}
 use Rattle.aes.proofs.StateWords.{bytes_of-block, columns-bytes, columns-added, words-added}
@@ -38,8 +38,8 @@ abbrev taken : (ℕ → ℕ → ℕ → ℕ → ℕ) → (ℕ → ℕ) → ℕ �
 taken made f a b c d = made (f (byte_at a 0)) (f (byte_at b 1)) (f (byte_at c 2)) (f (byte_at d 3))
 
 by-words : (f : ℕ → ℕ) → ((x : ℕ) → x < 256 → f x < 256) → (k l m n a b c d j : ℕ)
-    → looked_up (λ x. twice (spread k l m n (f x))) a b c d j ≡ xor (taken (column k l m n) f a b c d) j
-unfolding looked_up
+    → rows_added (λ x. twice (spread k l m n (f x))) a b c d j ≡ xor (taken (column k l m n) f a b c d) j
+unfolding rows_added
 by-words f fits k l m n a b c d j =
     looked-up f k l m n fits j _ _ _ _ (byte_at-lt a 0) (byte_at-lt b 1) (byte_at-lt c 2) (byte_at-lt d 3) ∙ comm _ _
 

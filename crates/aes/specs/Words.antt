@@ -26,8 +26,8 @@ abbrev pub reversed_bytes : State → List ℕ
 reversed_bytes s = bytes_of (reversed s)
 
 -- The word k with what four rows add to it: the first is looked up in t by the lowest byte of a, the last by the highest of d, turned by three bytes.
-unfoldable pub looked_up : (ℕ → ℕ) → ℕ → ℕ → ℕ → ℕ → ℕ → ℕ
-looked_up t a b c d k =
+unfoldable pub rows_added : (ℕ → ℕ) → ℕ → ℕ → ℕ → ℕ → ℕ → ℕ
+rows_added t a b c d k =
     xor (xor (xor (xor k (turned (t (byte_at a 0)) 0)) (turned (t (byte_at b 1)) 1)) (turned (t (byte_at c 2)) 2)) (turned (t (byte_at d 3)) 3)
 
 -- What f makes of four bytes, as a word: of the lowest of a first, of the highest of d last.
@@ -38,10 +38,10 @@ substituted f a b c d = word (f (byte_at a 0)) (f (byte_at b 1)) (f (byte_at c 2
 unfoldable pub round_words : (ℕ → ℕ) → State → State → State
 round_words t s k =
     record {
-      a = looked_up t s.a s.d s.c s.b k.a;
-      b = looked_up t s.b s.a s.d s.c k.b;
-      c = looked_up t s.c s.b s.a s.d k.c;
-      d = looked_up t s.d s.c s.b s.a k.d;
+      a = rows_added t s.a s.d s.c s.b k.a;
+      b = rows_added t s.b s.a s.d s.c k.b;
+      c = rows_added t s.c s.b s.a s.d k.c;
+      d = rows_added t s.d s.c s.b s.a k.d;
     }
 
 -- The last round on words.

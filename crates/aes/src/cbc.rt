@@ -8,6 +8,8 @@ use super::block::{decrypt, encrypt, encrypt_block, front};
 use super::columns::{add, bytes_of, reversed_bytes, reversed_words, words};
 use super::roundkeys::{inverse_words, key_words};
 
+// In both loops a block is stored by its place: of a slice that was lent to `chunks_exact_mut` a proof would know the length alone.
+
 // Encrypts a buffer in place. False, with the buffer left alone, where it is not whole blocks.
 pub fn cbc_encrypt_in_place(keys: [[u8; 16]; 11], vector: [u8; 16], buffer: &mut [u8]) -> bool
     ensures value { result ≡ eqb (length buffer.old % 16) 0 }
@@ -43,7 +45,7 @@ pub fn cbc_encrypt(keys: [[u8; 16]; 11], vector: [u8; 16], source: &[u8], target
     cbc_encrypt_in_place(keys, vector, &mut target[0..n])
 }
 
-// Cipher().
+// Cipher(), as `encrypt_block`: a chain of one block after zeros, which add nothing.
 pub fn cbc_encrypt_one(keys: [[u8; 16]; 11], block: [u8; 16]) -> [u8; 16]
     ensures { result ≡ cipher keys block }
 {

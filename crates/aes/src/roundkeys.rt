@@ -5,10 +5,9 @@ ghost use Rattle.aes.specs.State.{Block, Keys, inv_mix_columns};
 ghost use Rattle.aes.specs.Words.{bytes_of, reversed_bytes};
 ghost use Rattle.aes.specs.Cipher.{keys_back, eq_key, eq_keys};
 
-use std::array;
-
 use super::columns::{State, reversed_words, words};
 use field::matrix::unmix;
+use std::array;
 
 // Those of the cipher.
 pub(crate) fn key_words(keys: [[u8; 16]; 11]) -> [State; 11]

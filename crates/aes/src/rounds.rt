@@ -8,7 +8,7 @@
 ghost use Rattle.std.specs.Prelude.{◌≡◌, ◌<◌, ℕ};
 ghost use Rattle.field.specs.Sbox.{sbox, inv_sbox};
 ghost use Rattle.field.specs.Words as words;
-ghost use Rattle.aes.specs.Words.{looked_up, substituted, round_words, last_words, by_tables};
+ghost use Rattle.aes.specs.Words.{rows_added, substituted, round_words, last_words, by_tables};
 
 use super::columns::{State, add};
 use field::tables::{mixing, substitute, unmixing, unsubstitute};
@@ -71,9 +71,9 @@ fn turned(x: u64, m: usize) -> u32
 }
 
 // A column of a round: what a, b, c and d have in its four rows is looked up and added to the word of the round key.
-#[tactic(auto, unfolding(crate::specs::Words::looked_up, field::specs::Xor::xor))]
+#[tactic(auto, unfolding(crate::specs::Words::rows_added, field::specs::Xor::xor))]
 fn column<D: Direction>(a: u32, b: u32, c: u32, d: u32, k: u32) -> u32
-    ensures { result ≡ looked_up D.of_word a b c d k }
+    ensures { result ≡ rows_added D.of_word a b c d k }
 {
     k ^ turned(D::word(a.to_le_bytes()[0]), 0)
         ^ turned(D::word(b.to_le_bytes()[1]), 1)
@@ -120,7 +120,8 @@ fn last_round<D: Direction>(s: State, k: State) -> State
     }
 }
 
-// All rounds on four words; the round keys stand in the order in which they are taken, the last one first.
+// All rounds on four words; round key n is that of the round before which n more come. Where it has two callers, a call of it in the loop of a chain
+// would cost: 622,007 instructions to decrypt 16 KiB, by valgrind, for 584,165 with the hint.
 #[inline(always)]
 pub(crate) fn crypt<D: Direction>(keys: &[State; 11], b: State) -> State
     ensures { result ≡ by_tables D.of_word D.of_byte keys.now b }
