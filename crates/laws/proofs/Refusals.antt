@@ -14,6 +14,10 @@ abbrev number_or : {A : Type 0} → ℕ → Result A ℕ → ℕ
 number_or m (Ok a) = m
 number_or m (Err n) = n
 
+abbrev value_or : {A : Type 0} → A → Result A ℕ → A
+value_or other (Ok a) = a
+value_or other (Err n) = other
+
 module _ {A : Type 0} (n : ℕ) (a : A) where
   pub unless-none : n ≡ 0 → unless n a ≡ Ok a
   unless-none z = rw (eq-eqb n 0 z)
@@ -30,6 +34,10 @@ module _ {A : Type 0} (n : ℕ) (a : A) where
   refused e =
       let some : n ≡ 0 → ⊥ = λ z. true≢false (ap is_value (sym (e ∙ unless-none z))) in
       (ap (number_or 0) (e ∙ unless-some some), some)
+
+-- Of two values that are answered alike each is the other.
+pub value : {A : Type 0} {a b : A} → ◌≡◌ {A = Result A ℕ} (Ok a) (Ok b) → a ≡ b
+value {A} {a} {b} e = ap (λ (r : Result A ℕ). value_or a r) e
 
 -- A refusal goes on, whatever the value would have been.
 pub goes-on : {A B : Type 0} (n : ℕ) (a : A) (b : B) {k : ℕ} → Err k ≡ unless n a → Err k ≡ unless n b

@@ -16,6 +16,11 @@ or_else n m = cond (eqb n 0) m n
 abbrev pub unless : {A : Type 0} → ℕ → A → Result A ℕ
 unless n value = cond (eqb n 0) (Ok value) (Err n)
 
+-- The number of the refusal that an answer is; 0 is none.
+abbrev pub refusal_in : {A : Type 0} → Result A ℕ → ℕ
+refusal_in (Ok a) = 0
+refusal_in (Err n) = n
+
 -- One row more: what the rows above it answered, and where that is 0 its own number if its test holds. It stays shut, since it names
 -- `above` twice: opened, its text would double with each row.
 unfoldable pub after : (above number : ℕ) (test : Bool) → ℕ

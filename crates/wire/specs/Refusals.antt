@@ -1,5 +1,5 @@
 -- SPDX-License-Identifier: MPL-2.0
--- The numbers of document 01's table "Refusal numbers", each named by the fault.
+-- The numbers of document 01's table "Refusal numbers", each named by the fault; and the refusals that have them.
 use Rattle.std.specs.Prelude.{ℕ, ◌-◌, ◌≡◌, refl, List, [], ◌∷◌, get_or}
 use Rattle.wire.specs.declared.refusals.Refusal.{Refusal}
 use Rattle.wire.specs.declared.refusals.Refusal.TheVariants as fault
@@ -109,6 +109,7 @@ wrong_verdict = 25
 
 -- The number of each.
 abbrev pub number : Refusal → ℕ
+-- tests/refusals/write: numbers
 number fault.TooShort = too_short
 number fault.WrongSignature = wrong_signature
 number fault.WrongLength = wrong_length
@@ -135,9 +136,12 @@ number fault.UnlikeRepeat = unlike_repeat
 number fault.WrongFragmentSize = wrong_fragment_size
 number fault.WrongVerdict = wrong_verdict
 
+-- tests/refusals/write: end
+
 -- All of them, in the order of their numbers.
-abbrev pub all : List Refusal
-all =
+abbrev pub refusals : List Refusal
+refusals =
+    -- tests/refusals/write: refusals
     fault.TooShort
     ∷ fault.WrongSignature
     ∷ fault.WrongLength
@@ -164,12 +168,15 @@ all =
     ∷ fault.WrongFragmentSize
     ∷ fault.WrongVerdict
     ∷ []
+    -- tests/refusals/write: end
 
 -- The refusal of a number.
 abbrev pub refusal_of : ℕ → Refusal
-refusal_of n = get_or all (n - 1) fault.TooShort
+refusal_of n = get_or refusals (n - 1) fault.TooShort
 
+-- Its number says which refusal it is.
 pub refusal_of-number : (r : Refusal) → refusal_of (number r) ≡ r
+-- tests/refusals/write: inverses
 refusal_of-number fault.TooShort = refl
 refusal_of-number fault.WrongSignature = refl
 refusal_of-number fault.WrongLength = refl
@@ -195,3 +202,5 @@ refusal_of-number fault.NoRoom = refl
 refusal_of-number fault.UnlikeRepeat = refl
 refusal_of-number fault.WrongFragmentSize = refl
 refusal_of-number fault.WrongVerdict = refl
+
+-- tests/refusals/write: end
