@@ -143,13 +143,13 @@ function borrows(type,    word, n, i) {
 }
 
 # Whether a type may do so: it does, or it has a word that is neither the language's own, a number or a constant (the length of an array), nor a type
-# of one of these sources.
+# of one of these sources. An Option or a Result holds what its arguments hold, which are words too.
 function may_borrow(type,    word, n, i) {
     if (borrows(type)) return 1
     gsub(/[A-Za-z0-9_]+::/, "", type)
     gsub(/[^A-Za-z0-9_]+/, " ", type)
     n = split(type, word, " ")
-    for (i = 1; i <= n; i++) if (word[i] !~ /^([iu](8|16|32|64|size)|f32|f64|bool|mut|Self|[0-9]+|[A-Z0-9_]+)$/ && !(word[i] in body)) return 1
+    for (i = 1; i <= n; i++) if (word[i] !~ /^([iu](8|16|32|64|size)|f32|f64|bool|mut|Self|Option|Result|[0-9]+|[A-Z0-9_]+)$/ && !(word[i] in body)) return 1
     return 0
 }
 
@@ -209,7 +209,7 @@ function judge_lent(n,    i, x) {
 function judge(s,    from, to, n, type, word) {
     functions++
     claims = 0
-    if (s !~ /^[ \t\n\f]*(<('[A-Za-z0-9_]+|[ \t\n\f,:+])*>[ \t\n\f]*)?\(/) fault("contract", "has parameters that are types, which are not read here")
+    if (s !~ /^[ \t\n\f]*(<('[A-Za-z0-9_]+|const [A-Z]+: usize|[ \t\n\f,:+])*>[ \t\n\f]*)?\(/) fault("contract", "has parameters that are types, which are not read here")
     from = index(s, "(")
     to = closed(s, from, "(", ")")
     n = take_parameters(joined(substr(s, from + 1, to - from - 2)))
