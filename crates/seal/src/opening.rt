@@ -37,10 +37,9 @@ fn sealed_blocks(message: &[u8], start: usize) -> Result<Blocks<'_>, Refused>
     Ok(Blocks::of(&message[start..end]))
 }
 
-// Round keys and vector stand beside one another: as a struct with methods they are copied out of it at each call of aes, and `open_part` takes 664
-// bytes of stack and not 456.
-
-// Opens a small sealed part, for which the working buffer has room, or refuses with 13. Each block is decrypted once, into a local.
+// Opens a small sealed part, for which the working buffer has room, or refuses with 13. Each block is decrypted once, into a local. Round keys and
+// vector stand beside one another, here and below: as a struct with methods they are copied out of it at each call of aes, and `open_part` takes
+// 664 bytes of stack, not 456.
 fn open_small(
     round_keys: [[u8; 16]; 11],
     vector: [u8; 16],
