@@ -6,3 +6,4 @@ pub mod Formats
 pub mod TypedBytes
 pub mod Shaped
 pub mod ByKind
+pub mod TypeOf
