@@ -1,6 +1,6 @@
 -- SPDX-License-Identifier: MPL-2.0
--- A buffer that is read into: the place after a mark, what is kept at its front, and what a read leaves.
-use Rattle.std.specs.Prelude.{ℕ, ◌+◌, ◌-◌, ◌≤◌, min, ◌≡◌, List, ◌++◌, length, take, drop, eqb}
+-- A buffer that is read into: the place after a mark, what is kept of it, and what a read leaves.
+use Rattle.std.specs.Prelude.{ℕ, ◌+◌, ◌≤◌, min, ◌≡◌, List, length, take, drop, eqb}
 use Rattle.std.specs.List.{position_or_len}
 use Rattle.intake.specs.declared.Held.{Held}
 
@@ -11,10 +11,6 @@ after_mark text at mark = min (at + position_or_len (λ b. eqb b mark) (drop at 
 -- What stands between two places of a buffer; a place past its end counts as its end.
 abbrev pub between : List ℕ → (from to : ℕ) → List ℕ
 between buffer from to = drop from (take to buffer)
-
--- The buffer once that stands at its front too.
-unfoldable pub fronted : List ℕ → (from to : ℕ) → List ℕ
-fronted buffer from to = between buffer from to ++ drop (to - from) buffer
 
 -- What a read after the bytes kept leaves: they stand first; as many bytes are held, or more, and they lie in the buffer; the input has
 -- ended exactly where no more are held than were kept.

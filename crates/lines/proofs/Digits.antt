@@ -1,7 +1,7 @@
 -- SPDX-License-Identifier: MPL-2.0
 -- Digits: how many they are, and that they may be put into a buffer the last one first.
-use Rattle.laws.proofs.Kit.{ℕ, zero, suc, ◌+◌, ◌-◌, ◌/◌, ◌%◌, ◌≤◌, ◌<◌, ◌≡◌, refl, List, [], ◌∷◌, length, set, length-append, sets, arith}
-use native.Mathlib.Numerals.{sub-one}
+use Rattle.laws.proofs.Kit.{ℕ, zero, suc, ◌+◌, ◌/◌, ◌%◌, ◌≤◌, ◌<◌, ◌≡◌, refl, List, [], ◌∷◌, length, set, length-append, sets, arith}
+use Rattle.std.proofs.Common.{max, ◌*◌, ◌^◌}
 use lib.Seq.{set_comm}
 use Rattle.laws.proofs.Firsts.{first-up_to}
 use Rattle.laws.proofs.Stores.{sets-sets}
@@ -19,15 +19,29 @@ sets-set (v ∷ vs) l i j a h =
     let other : j ≡ i → ⊥ = λ e. omega arith in
     rw (set_comm l j i a v other) (sets-set vs (set l i v) (suc i) j a (omega arith))
 
--- One digit less is left to be put.
-pub put_last : (out : List ℕ) (at k n d : ℕ) → 0 < k → d ≡ 48 + n % 10
-    → sets (set out (at + (k - 1)) d) at (digits (k - 1) (n / 10)) ≡ sets out at (digits k n)
+-- One digit less is left to be put, before those that have been.
+pub put_last : (out : List ℕ) (at last left k n d : ℕ) → last ≡ at + k → left ≡ suc k → d ≡ 48 + n % 10
+    → sets (set out last d) at (digits k (n / 10)) ≡ sets out at (digits left n)
 unfolding digits
-put_last out at zero n d h e = absurd (omega arith)
-put_last out at (suc k) n d h e =
+put_last out at last left k n d p q e =
     let ds = digits k (n / 10) in
     let long : length ds ≡ k = length_digits k (n / 10) in
-    rw (sub-one, sets-set ds out at (at + k) d (omega arith), e) (sets-sets ds ((48 + n % 10) ∷ []) out at (at + k) (omega arith))
+    rw (p, q, sets-set ds out at (at + k) d (omega arith), e) (sets-sets ds ((48 + n % 10) ∷ []) out at (at + k) (omega arith))
+
+-- A number has a digit more than the tens that it reaches.
+pub digit_count-at : (n m k : ℕ) → m ≡ max n 1 → 10 ^ k ≤ m → m < 10 * 10 ^ k → k < 10 → k + 1 ≡ digit_count n
+unfolding digit_count
+digit_count-at n m zero e h l b = grind arith
+digit_count-at n m (suc zero) e h l b = grind arith
+digit_count-at n m (suc (suc zero)) e h l b = grind arith
+digit_count-at n m (suc (suc (suc zero))) e h l b = grind arith
+digit_count-at n m (suc (suc (suc (suc zero)))) e h l b = grind arith
+digit_count-at n m (suc (suc (suc (suc (suc zero))))) e h l b = grind arith
+digit_count-at n m (suc (suc (suc (suc (suc (suc zero)))))) e h l b = grind arith
+digit_count-at n m (suc (suc (suc (suc (suc (suc (suc zero))))))) e h l b = grind arith
+digit_count-at n m (suc (suc (suc (suc (suc (suc (suc (suc zero)))))))) e h l b = grind arith
+digit_count-at n m (suc (suc (suc (suc (suc (suc (suc (suc (suc zero))))))))) e h l b = grind arith
+digit_count-at n m _ e h l b = absurd (omega arith)
 
 -- A number below 2^32 has at most ten digits.
 pub few-digits : (n : ℕ) → digit_count n ≤ 10

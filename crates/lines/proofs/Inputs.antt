@@ -8,15 +8,23 @@ use Rattle.wire.specs.Reader.{read_header}
 use Rattle.lines.specs.declared.stream.Next.{Next}
 use Rattle.lines.specs.declared.stream.Next.TheVariants.{Message, More, End}
 use Rattle.lines.specs.Stream.{ahead}
-use Rattle.lines.specs.Listing.{is_refused, stops, begun, after_turn, turn_by, turn_at, Run, turn, many_turns, list}
+use Rattle.lines.specs.declared.listing.Stage.{Stage}
+use Rattle.lines.specs.declared.listing.Stage.TheVariants.{Going, Waiting, Over}
+use Rattle.lines.specs.Listing.{is_refused, is_going, is_over, stops, begun, after_turn, turn_by, turn_at, Run, turn, many_turns, list}
 use Rattle.laws.specs.Chunks.{Stand, stepped, given, standing, steps, turns, brought_by}
 use Rattle.lines.specs.Inputs.{NoState, step_of, line_step, listing, listed_of, listed_in, reading, ending, Roomy, ListedInTurns, TurnTakes}
 use Rattle.laws.proofs.Chunks.{steps-over, steps-suc, steps-add, steps-take, adds-up}
 use Rattle.lines.proofs.Steps.{line-steady}
 
+-- A run that goes on is not over.
+going-on : (stage : Stage) → is_going stage ≡ true → is_over stage ≡ false
+going-on Going g = refl
+going-on Waiting g = refl
+going-on Over g = absurd (true≢false (sym g))
+
 -- A turn is a step, where the run goes on.
 module _ (r : Stand NoState) (ended : Bool) (room : ℕ) where
-  step_by : (b : Run) (rest : List ℕ) (next : Next) → rest ≡ drop b.read r.left → b.over ≡ false
+  step_by : (b : Run) (rest : List ℕ) (next : Next) → rest ≡ drop b.read r.left → is_over b.stage ≡ false
       → listed_of r (after_turn b (turn_by rest next)) ≡ stepped (listed_of r b) (step_of (turn_by rest next))
   step_by b rest (Message size) e o =
       on (is_refused (read_header (take size rest)))
@@ -24,26 +32,21 @@ module _ (r : Stand NoState) (ended : Bool) (room : ℕ) where
   step_by b rest More e o = rw (o, add-zero, append-nil)
   step_by b rest End e o = rw (drop-drop, append_assoc)
 
-  going-by : (b : Run) (rest : List ℕ) (next : Next) → (after_turn b (turn_by rest next)).going ≡ true → (after_turn b (turn_by rest next)).over ≡ false
-  going-by b rest (Message size) = on (is_refused (read_header (take size rest))) (λ f. rw f (λ g. sym g)) (λ f. rw f (λ g. refl))
-  going-by b rest More = λ g. refl
-  going-by b rest End = λ g. absurd (true≢false (sym g))
-
   -- Turn after turn is step after step, one at least where there is room.
   record Many (n : ℕ) (b : Run) : Type 0 where
     pub count : ℕ
     pub is : listed_of r (many_turns n r.left ended room b) ≡ steps line_step ended count (listed_of r b)
-    pub some : 0 < n → b.going ≡ true → length b.text + 64 ≤ room → 0 < count
+    pub some : 0 < n → is_going b.stage ≡ true → length b.text + 64 ≤ room → 0 < count
 
   -- A run that makes no turn.
-  none : (n : ℕ) (b : Run) → (0 < n → b.going ≡ true → ⊥) → Many n b
+  none : (n : ℕ) (b : Run) → (0 < n → is_going b.stage ≡ true → ⊥) → Many n b
   unfolding many_turns steps
   none zero b h = record { count = 0; is = refl; some = λ p g. absurd (omega arith) }
   none (suc n) b h =
-      on b.going (λ g. absurd (h (omega arith) g)) λ g.
+      on (is_going b.stage) (λ g. absurd (h (omega arith) g)) λ g.
       record { count = 0; is = rw g; some = λ p q. absurd (h p q) }
 
-  module _ (n : ℕ) (b : Run) (o : b.over ≡ false) (g : b.going ≡ true) where
+  module _ (n : ℕ) (b : Run) (o : is_over b.stage ≡ false) (g : is_going b.stage ≡ true) where
     abbrev rest : List ℕ
     rest = drop b.read r.left
 
@@ -51,7 +54,7 @@ module _ (r : Stand NoState) (ended : Bool) (room : ℕ) where
     unfolding many_turns turn
     many-suc e = rw (g, e)
 
-    turn-full : room < length b.text + 64 → turn r.left ended room b ≡ after_turn b (stops false)
+    turn-full : room < length b.text + 64 → turn r.left ended room b ≡ after_turn b (stops Waiting)
     unfolding turn turn_at
     turn-full h = rw (lt-ltb room (length b.text + 64) h)
 
@@ -59,11 +62,11 @@ module _ (r : Stand NoState) (ended : Bool) (room : ℕ) where
     unfolding turn turn_at
     turn-roomy h = rw (le-ltb room (length b.text + 64) h)
 
-    stays : listed_of r (after_turn b (stops false)) ≡ listed_of r b
+    stays : listed_of r (after_turn b (stops Waiting)) ≡ listed_of r b
     stays = rw (o, add-zero, append-nil)
 
     -- A turn without room, then the others.
-    full : room < length b.text + 64 → Many n (after_turn b (stops false)) → Many (suc n) b
+    full : room < length b.text + 64 → Many n (after_turn b (stops Waiting)) → Many (suc n) b
     full h m =
         record { count = m.count; is = rw (many-suc (turn-full h), ← stays) m.is; some = λ p q k. absurd (omega arith) }
 
@@ -78,13 +81,13 @@ module _ (r : Stand NoState) (ended : Bool) (room : ℕ) where
           some = λ p q k. omega arith;
         }
 
-  many : (n : ℕ) (b : Run) → (b.going ≡ true → b.over ≡ false) → Many n b
+  many : (n : ℕ) (b : Run) → (is_going b.stage ≡ true → is_over b.stage ≡ false) → Many n b
   many zero b f = none zero b (λ p g. omega arith)
   many (suc n) b f =
-      on b.going (λ g.
+      on (is_going b.stage) (λ g.
       on (ltb room (length b.text + 64))
-      (λ l. full n b (f g) g (ltb-true room (length b.text + 64) l) (many n (after_turn b (stops false)) (λ h. refl)))
-      (λ l. more n b (f g) g (ltb-false room (length b.text + 64) l) (many n _ (going-by b _ (ahead (drop b.read r.left) ended)))))
+      (λ l. full n b (f g) g (ltb-true room (length b.text + 64) l) (many n (after_turn b (stops Waiting)) (λ h. refl)))
+      (λ l. more n b (f g) g (ltb-false room (length b.text + 64) l) (many n _ (going-on _))))
       λ g. none (suc n) b (λ p h. true≢false (sym h ∙ g))
 
   -- What the listing of a chunk does, in steps.

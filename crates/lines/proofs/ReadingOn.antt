@@ -1,12 +1,12 @@
 -- SPDX-License-Identifier: MPL-2.0
 -- A listing takes a byte of what it holds, or all that it holds is a part of one message.
-use Rattle.laws.proofs.Kit.{ℕ, zero, suc, ◌+◌, ◌-◌, ◌/◌, ◌≤◌, ◌<◌, ◌≡◌, refl, Bool, List, length, length-drop, leb, le-ltb, leb-false}
+use Rattle.laws.proofs.Kit.{ℕ, zero, suc, ◌+◌, ◌/◌, ◌≤◌, ◌<◌, ◌≡◌, refl, Bool, List, length, length-drop, leb, le-ltb, leb-false}
 use Rattle.laws.proofs.Kit.{zero-add, inl, inr, ⊎_elim, arith}
 use mathlib.Core.Logic.{◌⊎◌}
 use Rattle.laws.proofs.Cases.{on}
 use Rattle.wire.specs.Reader.{wanted}
 use Rattle.lines.specs.Stream.{ahead}
-use Rattle.lines.specs.Listing.{line_room, Run, begun, turn_by, turn_at, turn, many_turns, list}
+use Rattle.lines.specs.Listing.{is_going, line_room, Run, begun, turn_by, turn_at, turn, many_turns, list}
 use Rattle.lines.specs.Inputs.{RoomToRead}
 use Rattle.lines.proofs.Turns.{many_more}
 use Rattle.lines.proofs.Streams.{wanted-least, wanted-below}
@@ -24,7 +24,7 @@ module _ (bytes : List ℕ) (ended : Bool) where
     many-onward : (n : ℕ) (b : Run) → b.read ≤ (many_turns n bytes ended room b).read
     unfolding many_turns turn
     many-onward zero b = omega arith
-    many-onward (suc n) b = on b.going (λ g. rw g (omega (arith, many-onward n (turn bytes ended room b)))) (λ g. rw g (omega arith))
+    many-onward (suc n) b = on (is_going b.stage) (λ g. rw g (omega (arith, many-onward n (turn bytes ended room b)))) (λ g. rw g (omega arith))
 
     first-turn : line_room ≤ room → (turn bytes ended room begun).read ≡ (turn_by bytes (ahead bytes ended)).size
     unfolding turn turn_at
@@ -33,9 +33,9 @@ module _ (bytes : List ℕ) (ended : Bool) where
     list-or-part : line_room ≤ room → (0 < (list bytes ended room).read) ⊎ (length bytes < wanted bytes)
     unfolding list
     list-or-part h =
-        let n = length bytes / 42 + 2 in
-        let more = many-onward (n - 1) (turn bytes ended room begun) in
-        rw (many_more bytes ended room n begun (omega arith) refl)
+        let left = length bytes / 42 + 1 in
+        let more = many-onward left (turn bytes ended room begun) in
+        rw (many_more bytes ended room (length bytes / 42 + 2) left begun (omega arith) refl)
         (⊎_elim (λ some. inl (omega (arith, more, first-turn h))) inr ahead-or-part)
 
 pub room-to-read : RoomToRead

@@ -1,15 +1,17 @@
 -- SPDX-License-Identifier: MPL-2.0
 -- The listing's step is steady: what it does is decided by the message that it takes.
-use Rattle.laws.proofs.Kit.{ℕ, ◌≤◌, ◌<◌, ◌≡◌, Bool, true, false, List, [], ◌++◌, append-nil, length, take, eqb, leb, leb-true, leb-false, inl, inr}
+use Rattle.laws.proofs.Kit.{ℕ, ◌≤◌, ◌<◌, ◌≡◌, refl, Bool, true, false, List, [], ◌++◌, append-nil, length, take, eqb, leb, leb-true, leb-false, inl, inr}
 use mathlib.Core.Logic.{◌⊎◌}
 use lib.Seq.{take-append-le}
 use Rattle.laws.proofs.Cases.{on}
 use Rattle.wire.specs.Reader.{read_header, wanted}
 use Rattle.lines.specs.declared.stream.Next.TheVariants.{Message}
+use Rattle.lines.specs.declared.listing.Stage.{Stage}
+use Rattle.lines.specs.declared.listing.Stage.TheVariants.{Going, Waiting, Over}
 use Rattle.lines.specs.Stream.{ahead}
-use Rattle.lines.specs.Listing.{is_refused, Turn, turn_by}
+use Rattle.lines.specs.Listing.{is_refused, turn_by}
 use Rattle.laws.specs.Chunks.{waits, is_waiting, Moves, Steady}
-use Rattle.lines.specs.Inputs.{NoState, step_of, line_step}
+use Rattle.lines.specs.Inputs.{NoState, step_at, step_of, line_step}
 use Rattle.lines.proofs.Streams.{ahead-fits, ahead-whole, ahead-part, ahead-moves}
 
 module _ (s : NoState) (bytes : List ℕ) where
@@ -22,12 +24,16 @@ module _ (s : NoState) (bytes : List ℕ) where
       inr (rw (e, ahead-whole bytes more ended h, take-append-le (wanted bytes) bytes more h)))
       λ p. inl (rw (ahead-part bytes (leb-false (wanted bytes) (length bytes) p)))
 
-  moves-by : (k : ℕ) (t : Turn) → (t.going ≡ true → 0 < t.size) → t.size ≤ k → Moves k (step_of t)
-  moves-by k t h fits = on t.over (λ o. rw o tt) (λ o. on t.going (λ g. rw (o, g) (h g, fits)) (λ g. rw (o, g) tt))
+  moves-by : (k size : ℕ) (line : List ℕ) (stage : Stage) → (stage ≡ Going → 0 < size) → size ≤ k → Moves k (step_at stage size line)
+  moves-by k size line Going h fits = (h refl, fits)
+  moves-by k size line Waiting h fits = tt
+  moves-by k size line Over h fits = tt
 
   moves : (ended : Bool) → Moves (length bytes) (line_step s bytes ended)
   unfolding line_step
-  moves ended = moves-by (length bytes) (turn_by bytes (ahead bytes ended)) (ahead-moves bytes ended) (ahead-fits bytes ended)
+  moves ended =
+      let t = turn_by bytes (ahead bytes ended) in
+      moves-by (length bytes) t.size t.line t.stage (ahead-moves bytes ended) (ahead-fits bytes ended)
 
   decides-by : (size : ℕ) → is_waiting (step_of (turn_by bytes (Message size))) ≡ false
   decides-by size = on (is_refused (read_header (take size bytes))) (λ e. rw e) (λ e. rw e)

@@ -1,6 +1,6 @@
 -- SPDX-License-Identifier: MPL-2.0
 -- The first message of a stream: its bounds, and that it is the same whatever follows it.
-use Rattle.laws.proofs.Kit.{ℕ, ◌≤◌, ◌<◌, ◌≡◌, sym, Bool, true, false, true≢false, List, ◌++◌, length, length-append, eqb, ltb, leb, le-leb, lt-leb}
+use Rattle.laws.proofs.Kit.{ℕ, ◌≤◌, ◌<◌, ◌≡◌, Bool, false, List, ◌++◌, length, length-append, eqb, ltb, leb, le-leb, lt-leb}
 use Rattle.laws.proofs.Kit.{leb-true, ltb-false, eqb-false, arith}
 use lib.ListN.{get_or-append}
 use Rattle.laws.specs.Bytes.{AreBytes, be16}
@@ -8,6 +8,7 @@ use Rattle.laws.proofs.Cases.{on}
 use Rattle.laws.proofs.Numbers.{be16-below}
 use Rattle.wire.specs.Reader.{wanted}
 use Rattle.lines.specs.declared.stream.Next.TheVariants.{Message, More}
+use Rattle.lines.specs.declared.listing.Stage.TheVariants.{Going}
 use Rattle.lines.specs.Stream.{ahead}
 use Rattle.lines.specs.Listing.{turn_by}
 
@@ -49,10 +50,10 @@ unfolding ahead
 ahead-part s h = rw (lt-leb (wanted s) (length s) h)
 
 -- A turn on what is ahead that goes on takes a byte.
-pub ahead-moves : (s : List ℕ) (ended : Bool) → (turn_by s (ahead s ended)).going ≡ true → 0 < (turn_by s (ahead s ended)).size
+pub ahead-moves : (s : List ℕ) (ended : Bool) → (turn_by s (ahead s ended)).stage ≡ Going → 0 < (turn_by s (ahead s ended)).size
 unfolding ahead
 ahead-moves s ended =
     on (leb (wanted s) (length s)) (λ p. rw p (λ g. omega (arith, wanted-least s))) λ p.
-    on ended (λ q. on (eqb (length s) 0) (λ r. rw (p, q, r) (λ g. absurd (true≢false (sym g))))
+    on ended (λ q. on (eqb (length s) 0) (λ r. rw (p, q, r) (λ g. cc))
     (λ r. rw (p, q, r) (λ g. omega (arith, eqb-false (length s) 0 r))))
-    λ q. rw (p, q) (λ g. absurd (true≢false (sym g)))
+    λ q. rw (p, q) (λ g. cc)

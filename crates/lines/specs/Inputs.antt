@@ -2,7 +2,9 @@
 -- The listing of a whole input, and that of a program which reads the input part by part and lists, in each turn, what it holds.
 use Rattle.std.specs.Prelude.{ℕ, ◌≤◌, ◌<◌, ◌≡◌, List, [], ◌∷◌, ◌++◌, Bool, true, false, cond, length, drop}
 use Rattle.lines.specs.Stream.{ahead}
-use Rattle.lines.specs.Listing.{line_room, Turn, turn_by, Run, list}
+use Rattle.lines.specs.declared.listing.Stage.{Stage}
+use Rattle.lines.specs.declared.listing.Stage.TheVariants.{Going, Waiting, Over}
+use Rattle.lines.specs.Listing.{is_over, line_room, Turn, turn_by, Run, list}
 use Rattle.laws.specs.Bytes.{AreBytes}
 use Rattle.laws.specs.Chunks.{Step, waits, ends, goes, Stand, standing, given, whole, brought_by}
 
@@ -14,9 +16,15 @@ longest_message = 65535
 abbrev pub NoState : Type 0
 NoState = Unit
 
+-- A turn as a step, by what it leaves the run to do.
+abbrev pub step_at : Stage → ℕ → List ℕ → Step NoState
+step_at Going size line = goes size line tt
+step_at Waiting size line = waits
+step_at Over size line = ends size line tt
+
 -- A turn as a step.
 abbrev pub step_of : Turn → Step NoState
-step_of t = cond t.over (ends t.size t.line tt) (cond t.going (goes t.size t.line tt) waits)
+step_of t = step_at t.stage t.size t.line
 
 -- "MessageLength bytes at a time, at least 42, or what is left .. Each gives one line".
 unfoldable pub line_step : NoState → List ℕ → Bool → Step NoState
@@ -29,7 +37,7 @@ listing input = (whole line_step tt input).text
 
 -- Where the program stands after it has listed what it held.
 abbrev pub listed_of : Stand NoState → Run → Stand NoState
-listed_of r b = record { state = tt; left = drop b.read r.left; text = r.text ++ b.text; over = b.over }
+listed_of r b = record { state = tt; left = drop b.read r.left; text = r.text ++ b.text; over = is_over b.stage }
 
 -- The program after a turn on what it holds, with an output of `room` bytes; once the run is over there is none.
 abbrev pub listed_in : Bool → Stand NoState → ℕ → Stand NoState

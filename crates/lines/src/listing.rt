@@ -4,12 +4,13 @@ ghost use Rattle.std.specs.Prelude.{◌≡◌, ◌+◌, ◌^◌, ◌≤◌, ◌<
 ghost use Rattle.std.proofs.lemmas.List.Edits.{sets};
 ghost use Rattle.wire.specs.Reader.{read_header};
 ghost use Rattle.lines.specs.Text.{put, put_end};
-ghost use Rattle.lines.specs.Listing.{header_line, line_of, is_refused, stops, tells, turn_at, turned, list, listed};
+ghost use Rattle.lines.specs.Listing.{header_line, line_of, stops, tells, turn_at, turned, list, listed};
 
 use super::stream::{Next, ahead};
 use super::text::{put_field, put_name};
 use octets::bounds::lacks;
-use wire::header::{Header, HeaderRead, read_header};
+use wire::header::{FoundHeader, Header, read_header};
+use wire::refusals::Refused;
 
 // The room that a line needs in the output.
 pub const LINE: usize = 64;
@@ -30,7 +31,12 @@ fn put_header(header: Header, size: u16, out: &mut [u8], at: usize) -> usize
 // Puts the line of a message of n bytes at a place, and answers the place after it; where there is less room than a line
 // needs, nothing is put and the place itself is the answer.
 #[tactic(auto, unfolding(crate::specs::Listing::line_of, crate::specs::Text::put, crate::specs::Text::put_end))]
-pub fn put_line(answer: HeaderRead, size: u16, out: &mut [u8], at: usize) -> usize
+pub fn put_line(
+    answer: Result<FoundHeader, Refused>,
+    size: u16,
+    out: &mut [u8],
+    at: usize,
+) -> usize
     ensures value { result ≡ put_end 64 at (line_of answer size) out.old }
     ensures new_out { out.new ≡ put 64 at (line_of answer size) out.old }
 {
@@ -38,19 +44,20 @@ pub fn put_line(answer: HeaderRead, size: u16, out: &mut [u8], at: usize) -> usi
         return at;
     }
     match answer {
-        HeaderRead::Refused(number) => put_name(b"refused ", number as u32, out, at),
-        HeaderRead::Read(found) => put_header(found.header, size, out, at),
+        Err(refused) => put_name(b"refused ", u32::from(refused.number()), out, at),
+        Ok(found) => put_header(found.header, size, out, at),
     }
 }
 
-// Whether a message was refused.
-pub fn is_refused(answer: HeaderRead) -> bool
-    ensures { result ≡ is_refused answer }
-{
-    match answer {
-        HeaderRead::Refused(_) => true,
-        HeaderRead::Read(_) => false,
-    }
+// Whether a run has more to do.
+#[derive(Clone, Copy)]
+pub enum Stage {
+    // There may be more to do with this stream and this output.
+    Going,
+    // It waits for more of the stream, or for room.
+    Waiting,
+    // It is over: a message was refused, or the input has ended.
+    Over,
 }
 
 // How far a listing has come.
@@ -60,64 +67,54 @@ pub struct Listed {
     pub read: usize,
     // The bytes of the output that were written.
     pub written: usize,
-    // Whether there may be more to do with this stream and this output.
-    pub going: bool,
-    // Whether the run is over: a message was refused, or the input has ended.
-    pub over: bool,
+    pub stage: Stage,
 }
 
-// No more is to be done with this stream.
-fn stopped(run: Listed, over: bool) -> Listed
-    ensures { result ≡ turned run (stops over) }
-{
-    Listed {
-        read: run.read,
-        written: run.written,
-        going: false,
-        over,
+impl Listed {
+    // No more is to be done with this stream.
+    fn stopped(self, stage: Stage) -> Listed
+        ensures { result ≡ turned self (stops stage) }
+    {
+        Listed { stage, ..self }
     }
-}
 
-// Writes the line of a message that has n bytes.
-#[tactic(auto, unfolding(crate::specs::Text::put, crate::specs::Text::put_end))]
-fn tell(run: Listed, message: &[u8], size: u16, out: &mut [u8]) -> Listed
-    requires size_bound { run.read + size < 2 ^ 64 }
-    requires written_in_bounds { run.written + 64 ≤ length out.old }
-    ensures value { result ≡ turned run (tells size (read_header message.now)) }
-    ensures new_out { out.new ≡ sets out.old run.written (line_of (read_header message.now) size) }
-{
-    let answer = read_header(message);
-    let written = put_line(answer, size, out, run.written);
-    let over = is_refused(answer);
-    Listed {
-        read: run.read + size as usize,
-        written,
-        going: !over,
-        over,
-    }
-}
-
-// One turn: a message is listed if there is a whole one and room for its line.
-#[tactic(auto, unfolding(crate::specs::Listing::turn_at))]
-fn turn(run: Listed, stream: &[u8], ended: bool, out: &mut [u8]) -> Listed
-    requires { run.read ≤ length stream.now }
-    ensures value { result ≡ turned run (turn_at (drop run.read stream.now) ended (length out.old) run.written) }
-    ensures new_out { out.new ≡ sets out.old run.written
-        (turn_at (drop run.read stream.now) ended (length out.old) run.written).line }
-{
-    let from = run.read;
-    let at = run.written;
-    if lacks(out.len(), at, LINE) {
-        return stopped(run, false);
-    }
-    let found = ahead(&stream[from..], ended);
-    match found {
-        Next::Message(size) => {
-            let end = from + size as usize;
-            tell(run, &stream[from..end], size, out)
+    // Writes the line of a message that has n bytes.
+    #[tactic(auto, unfolding(crate::specs::Text::put, crate::specs::Text::put_end))]
+    fn tell(self, message: &[u8], size: u16, out: &mut [u8]) -> Listed
+        requires size_bound { self.read + size < 2 ^ 64 }
+        requires written_in_bounds { self.written + 64 ≤ length out.old }
+        ensures value { result ≡ turned self (tells size (read_header message.now)) }
+        ensures new_out { out.new ≡ sets out.old self.written (line_of (read_header message.now) size) }
+    {
+        let answer = read_header(message);
+        Listed {
+            read: self.read + size as usize,
+            written: put_line(answer, size, out, self.written),
+            stage: if answer.is_err() {
+                Stage::Over
+            } else {
+                Stage::Going
+            },
         }
-        Next::More => stopped(run, false),
-        Next::End => stopped(run, true),
+    }
+
+    // One turn: a message is listed if there is a whole one and room for its line.
+    #[tactic(auto, unfolding(crate::specs::Listing::turn_at))]
+    fn turn(self, stream: &[u8], ended: bool, out: &mut [u8]) -> Listed
+        requires { self.read ≤ length stream.now }
+        ensures value { result ≡ turned self (turn_at (drop self.read stream.now) ended (length out.old) self.written) }
+        ensures new_out { out.new ≡ sets out.old self.written
+            (turn_at (drop self.read stream.now) ended (length out.old) self.written).line }
+    {
+        if lacks(out.len(), self.written, LINE) {
+            return self.stopped(Stage::Waiting);
+        }
+        let rest = &stream[self.read..];
+        match ahead(rest, ended) {
+            Next::Message(size) => self.tell(&rest[..size as usize], size, out),
+            Next::More => self.stopped(Stage::Waiting),
+            Next::End => self.stopped(Stage::Over),
+        }
     }
 }
 
@@ -130,14 +127,11 @@ pub fn list(stream: &[u8], ended: bool, out: &mut [u8]) -> Listed
     let mut run = Listed {
         read: 0,
         written: 0,
-        going: true,
-        over: false,
+        stage: Stage::Going,
     };
-    let mut turns = stream.len() / 42 + 2;
-    while 0 < turns && run.going {
-        let next = turn(run, stream, ended, out);
-        run = next;
-        turns -= 1;
+    for _ in 0..stream.len() / 42 + 2 {
+        let Stage::Going = run.stage else { break };
+        run = run.turn(stream, ended, out);
     }
     run
 }

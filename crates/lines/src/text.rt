@@ -16,11 +16,9 @@ fn put_digits(number: u32, count: usize, out: &mut [u8], at: usize)
     requires { at + count ≤ length out.old }
     ensures { out.new ≡ sets out.old at (digits count number) }
 {
-    let mut left = count;
     let mut rest = number;
-    while 0 < left {
-        left -= 1;
-        out[at + left] = digit(rest);
+    for place in (at..at + count).rev() {
+        out[place] = digit(rest);
         rest /= 10;
     }
 }
@@ -63,10 +61,7 @@ pub fn put_named(name: &[u8], number: u32, out: &mut [u8], at: usize) -> usize
     ensures value { result ≡ put_end (length name.now + 11) at (named name.now number) out.old }
     ensures new_out { out.new ≡ put (length name.now + 11) at (named name.now number) out.old }
 {
-    if out.len() < FIELD {
-        return at;
-    }
-    if lacks(out.len() - FIELD, at, name.len()) {
+    if lacks(out.len(), at, name.len() + FIELD) {
         return at;
     }
     put_name(name, number, out, at)

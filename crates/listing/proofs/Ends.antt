@@ -4,6 +4,7 @@
 use Rattle.laws.proofs.Kit.{ℕ, zero, suc, ◌+◌, ◌-◌, ◌*◌, ◌≤◌, ◌<◌, ◌≡◌, refl, sym, ◌∙◌, ap, Bool, true, false, not, ◌||◌, List, [], ◌∷◌}
 use Rattle.laws.proofs.Kit.{◌++◌, length, take, drop, length-append, length-drop, length-take, drop_of_length-le, eqb, eqb-true, eqb-false, eq-eqb}
 use Rattle.laws.proofs.Kit.{inl, inr, ⊎_elim, arith}
+use Rattle.std.proofs.Common.{is_ok}
 use lib.ListN.{take-append-drop}
 use mathlib.Core.Logic.{◌⊎◌}
 use Rattle.laws.proofs.Cases.{on}
@@ -13,7 +14,7 @@ use Rattle.laws.specs.Chunks.{Stand}
 use Rattle.lines.specs.Listing.{line_room, list}
 use Rattle.lines.specs.Inputs.{NoState}
 use Rattle.lines.proofs.Inputs.{turn-takes}
-use Rattle.listing.specs.Turns.{turn_on, RunTo, RunEnds, ReadOf, RunStops, RunExists, RanLists}
+use Rattle.listing.specs.Turns.{is_over, turn_on, RunTo, RunEnds, ReadOf, RunStops, RunExists, RanLists}
 use Rattle.listing.proofs.Runs.{AllCame, reads-next, run-lists}
 
 module _ (test : Stand NoState → Bool) (room : ℕ) (roomy : line_room ≤ room) where
@@ -115,8 +116,8 @@ to-other test other f room (got ∷ reads) bytes ended r = (r.0, to-other test o
 -- The counter did not come to its end, so the run is over; its last turn was written, so the listing is.
 pub ran-lists : RanLists
 ran-lists buffer room input r ran bytes few long roomy d w =
-    on r.last.held.over (λ o.
-    let other = to-other (λ q. q.over || not r.last.whole) (λ q. q.over) (λ q e. rw (w, or-none) at e) in
+    on (is_over r.last) (λ o.
+    let other = to-other (λ q. q.over || not (is_ok r.last)) (λ q. q.over) (λ q e. rw (w, or-none) at e) in
     let ends = other room ran.reads [] false (ran.over o).0 in
     (o, run-lists buffer room input ran.reads bytes long roomy d ends))
     λ o.

@@ -3,6 +3,7 @@
 use Rattle.laws.proofs.Kit.{ℕ, ◌+◌, ◌-◌, ◌≤◌, ◌≡◌, refl, sym, ◌∙◌, ap, Bool, true, false, not, List, [], ◌∷◌, ◌++◌, append-nil, append_assoc}
 use Rattle.laws.proofs.Kit.{length, take, drop, length-append, length-drop, length-take-le, drop_at, take-append_seam, eqb, eqb-true, eqb-false}
 use Rattle.laws.proofs.Kit.{eq-eqb, ne_eqb, arith}
+use Rattle.std.proofs.Common.{is_ok}
 use lib.Seq.{take-add}
 use Rattle.laws.proofs.Cases.{on}
 use Rattle.laws.proofs.Bools.{or-false}
@@ -13,7 +14,7 @@ use Rattle.lines.specs.Listing.{line_room, list}
 use Rattle.lines.specs.Inputs.{NoState, longest_message, listing, listed_in, reading, ending}
 use Rattle.lines.proofs.Inputs.{listed-in-turns}
 use Rattle.lines.proofs.ReadingOn.{room-to-read}
-use Rattle.listing.specs.Turns.{turn_on, run_text, RunTo, RunEnds, ReadOf, RunLists, TurnLeads}
+use Rattle.listing.specs.Turns.{is_over, turn_on, run_text, RunTo, RunEnds, ReadOf, RunLists, TurnLeads}
 
 -- What a run needs of its reads: each brings the next bytes of the input, and after one that brings none there are none.
 pub record Came (got input : List ℕ) (Later : List ℕ → Type 0) : Type 0 where
@@ -176,17 +177,16 @@ same_none held left got h e =
 
 -- A read leaves what was left, and after it what was read.
 pub turn-leads : TurnLeads
-turn-leads q after w t o =
-    let r = w.held in
-    let f = t.goes o in
+turn-leads q after w r t e =
+    let f = t.goes r e in
     let k = length q.left in
-    let e : k + (r.held - k) ≡ r.held = omega (arith, f.more) in
+    let d : k + (r.held - k) ≡ r.held = omega (arith, f.more) in
     let got = take (r.held - k) (drop k after) in
     let n : length got ≡ r.held - k = length-take-le (r.held - k) (drop k after) (rw length-drop (omega (arith, f.more, f.fits))) in
     record {
-      going = (or-false q.over (not w.whole) (sym t.over ∙ o)).0;
+      going = (or-false q.over (not (is_ok w)) (sym t.over ∙ ap is_over e)).0;
       got = got;
-      holds = rw f.first at (rw e at (take-add k (r.held - k) after));
+      holds = rw f.first at (rw d at (take-add k (r.held - k) after));
       ended = f.ends ∙ same_none r.held k (length got) f.more n;
       fits = rw (length-append, n) (omega (arith, f.more, f.fits));
     }

@@ -1,9 +1,10 @@
 -- SPDX-License-Identifier: MPL-2.0
 -- The program: a turn lists what it holds and holds on what is left, with a read after it; turn after turn is a run.
 use Rattle.std.specs.Prelude.{ℕ, ◌+◌, ◌*◌, ◌≤◌, ◌<◌, ◌≡◌, List, [], ◌∷◌, ◌++◌, Bool, true, false, not, ◌||◌, length, take, eqb}
+use Rattle.std.specs.Prelude.{Option, Some, None, Result, Ok, Err, is_ok}
+use Rattle.std.specs.declared.io.Error.{Error}
 use Rattle.intake.specs.declared.Held.{Held}
 use Rattle.intake.specs.Buffer.{Refilled}
-use Rattle.listing.specs.declared.Went.{Went}
 use Rattle.listing.specs.declared.Finish.{Finish}
 use Rattle.laws.specs.Bytes.{AreBytes}
 use Rattle.laws.specs.Chunks.{Stand, standing}
@@ -14,16 +15,25 @@ use Rattle.lines.specs.Inputs.{NoState, longest_message, listing, listed_in}
 abbrev pub turn_on : List ℕ → Bool → ℕ → Stand NoState
 turn_on bytes ended room = listed_in ended (standing tt bytes) room
 
--- What a turn leaves in the buffer, by whether its listing is the last and whether that was written whole. The run is over exactly where it
--- is the last or was not written whole; else what is left stands first, as a read after it leaves it.
-pub record Turned (last whole : Bool) (left after : List ℕ) (r : Held) : Type 0 where
-  pub over : r.over ≡ (last || not whole)
-  pub goes : r.over ≡ false → Refilled left after r
-  pub fits : r.held ≤ length after
+-- What a turn leaves, as the code has it: what is then held, or nothing where the run is over; an error where what it listed was not written.
+abbrev pub Went : Type 0
+Went = Result (Option Held) Error
+
+-- The run is over after a turn: it leaves nothing to go on with.
+abbrev pub is_over : Went → Bool
+is_over (Ok (Some held)) = false
+is_over (Ok None) = true
+is_over (Err e) = true
+
+-- What a turn leaves in the buffer, by whether its listing is the last. The run is over exactly where it is the last or was not written
+-- whole; else what is left stands first, as a read after it leaves it.
+pub record Turned (last : Bool) (left after : List ℕ) (r : Went) : Type 0 where
+  pub over : is_over r ≡ (last || not (is_ok r))
+  pub goes : (held : Held) → r ≡ Ok (Some held) → Refilled left after held
 
 -- That of a turn, by its listing and by what it answers of the write.
 abbrev pub TurnedBy : Stand NoState → List ℕ → Went → Type 0
-TurnedBy q after r = Turned q.over r.whole q.left after r.held
+TurnedBy q after r = Turned q.over q.left after r
 
 -- A run, turn after turn from the bytes held on: all the text that it writes, by what each read brings. A read that brings nothing tells
 -- the next turn that the input has ended.
@@ -50,8 +60,8 @@ most_turns = 18446744073709551615
 -- the counter has fallen by one a turn. Or the counter is at its end, and as many turns as it had room for went on.
 pub record Ran (room : ℕ) (r : Finish) : Type 0 where
   pub reads : List (List ℕ)
-  pub over : r.last.held.over ≡ true → RunTo (λ q. q.over || not r.last.whole) room [] false reads × (length reads + 1 + r.turns ≡ most_turns)
-  pub counted : r.last.held.over ≡ false → RunTo (λ q. true) room [] false reads × (length reads ≡ most_turns) × (r.turns ≡ 0)
+  pub over : is_over r.last ≡ true → RunTo (λ q. q.over || not (is_ok r.last)) room [] false reads × (length reads + 1 + r.turns ≡ most_turns)
+  pub counted : is_over r.last ≡ false → RunTo (λ q. true) room [] false reads × (length reads ≡ most_turns) × (r.turns ≡ 0)
 
 -- A read brings the next bytes of an input, after those that are left in the buffer and no more than it has room for. Where there is room
 -- and it brings none, there are none.
@@ -94,8 +104,8 @@ RunExists = (buffer room : ℕ) (input : List ℕ) → AreBytes input → longes
 -- all that it writes is the listing of the input that its reads are of.
 abbrev pub RanLists : Type 0
 RanLists = (buffer room : ℕ) (input : List ℕ) (r : Finish) (ran : Ran room r) → AreBytes input → 2 * length input + 1 < most_turns
-    → longest_message ≤ buffer → line_room ≤ room → ReadOf buffer room [] false ran.reads input → r.last.whole ≡ true
-    → (r.last.held.over ≡ true) × (run_text room [] false ran.reads ≡ listing input)
+    → longest_message ≤ buffer → line_room ≤ room → ReadOf buffer room [] false ran.reads input → is_ok r.last ≡ true
+    → (is_over r.last ≡ true) × (run_text room [] false ran.reads ≡ listing input)
 
 -- A turn that goes on leads to the next turn of such a run: what is then held is what was left and, after
 -- it, bytes that count as what was read.
@@ -107,4 +117,4 @@ pub record Led (q : Stand NoState) (after : List ℕ) (r : Held) : Type 0 where
   pub fits : length (q.left ++ got) ≤ length after
 
 abbrev pub TurnLeads : Type 0
-TurnLeads = (q : Stand NoState) (after : List ℕ) (r : Went) → TurnedBy q after r → r.held.over ≡ false → Led q after r.held
+TurnLeads = (q : Stand NoState) (after : List ℕ) (r : Went) (held : Held) → TurnedBy q after r → r ≡ Ok (Some held) → Led q after held

@@ -4,23 +4,18 @@
 
 ghost use Rattle.std.specs.Prelude.{◌≡◌, ◌≤◌, length, take};
 ghost use Rattle.std.proofs.lemmas.List.Edits.{sets};
-ghost use Rattle.intake.specs.Buffer.{between};
-ghost use Rattle.listing.specs.Turns.{turn_on, Turned, TurnedBy, Ran};
+ghost use Rattle.listing.specs.Turns.{turn_on, TurnedBy, Ran};
 
 use intake::{Held, refill};
-use lines::listing::{Listed, list};
-use octets::bounds::lesser;
+use lines::listing::{Stage, list};
+use std::io;
 use std::io::{Read, Write};
 
-// What a turn leaves: what is held, and whether all that it listed was written.
-#[derive(Clone, Copy)]
-struct Went {
-    held: Held,
-    whole: bool,
-}
+// What a turn leaves: what is then held, or nothing where the run is over. An error where what it listed was not written.
+type Went = io::Result<Option<Held>>;
 
 // What a run comes to: what its last turn left, and the turns that its counter has left.
-#[derive(Clone, Copy)]
+#[derive(Drop)]
 struct Finish {
     last: Went,
     turns: u64,
@@ -31,21 +26,6 @@ fn buffer() -> [u8; 262144]
     ensures { 262144 ≡ length result }
 {
     [0; 262144]
-}
-
-// After a listing of the buffer's first bytes: the run is over if the listing is or a write failed; else what is left of them is kept, and
-// the input read on.
-fn go_on<R: Read>(source: &mut R, input: &mut [u8], end: usize, listed: Listed, whole: bool) -> Held
-    ensures { Turned listed.over whole (between input.old listed.read end) input.new result }
-{
-    if listed.over | !whole {
-        return Held {
-            held: 0,
-            ended: true,
-            over: true,
-        };
-    }
-    refill(source, input, listed.read, end)
 }
 
 // One turn: lists what is in the buffer, writes the lines, keeps what is left of the input and reads on.
@@ -61,12 +41,13 @@ fn turn<R: Read, W: Write>(
     ensures new_out { out.new ≡ sets out.old 0
         (turn_on (take held.held input.old) held.ended (length out.old)).text }
 {
-    let end = held.held;
-    let listed = list(&input[0..end], held.ended, out);
-    let written = lesser(listed.written, out.len());
-    let whole = sink.write_all(&out[0..written]).is_ok();
-    let next = go_on(source, input, end, listed, whole);
-    Went { held: next, whole }
+    let listed = list(&input[..held.held], held.ended, out);
+    let written = listed.written.min(out.len());
+    sink.write_all(&out[..written])?;
+    if let Stage::Over = listed.stage {
+        return Ok(None);
+    }
+    Ok(Some(refill(source, input, listed.read, held.held)))
 }
 
 // Turn after turn, until the run is over. An input of n bytes takes at most 2 n + 2 of them (`RunStops`), so that none of fewer than
@@ -74,22 +55,20 @@ fn turn<R: Read, W: Write>(
 fn run<R: Read, W: Write>(source: &mut R, input: &mut [u8], sink: &mut W, out: &mut [u8]) -> Finish
     ensures { Ran (length out.old) result }
 {
-    let nothing = Held {
+    let mut held = Held {
         held: 0,
         ended: false,
-        over: false,
     };
-    let mut last = Went {
-        held: nothing,
-        whole: true,
-    };
-    let mut turns = u64::MAX;
-    while 0 < turns && !last.held.over {
-        let next = turn(source, input, last.held, sink, out);
-        last = next;
-        turns -= 1;
+    for turns in (0..u64::MAX).rev() {
+        match turn(source, input, held, sink, out) {
+            Ok(Some(next)) => held = next,
+            last => return Finish { last, turns },
+        }
     }
-    Finish { last, turns }
+    Finish {
+        last: Ok(Some(held)),
+        turns: 0,
+    }
 }
 
 fn main(rt: HostRuntime) {

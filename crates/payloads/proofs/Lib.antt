@@ -1,5 +1,4 @@
 -- SPDX-License-Identifier: MPL-2.0
-pub mod Steps
 pub mod Widths
 pub mod Entries
 pub mod Formats

@@ -1,18 +1,30 @@
 -- SPDX-License-Identifier: MPL-2.0
 -- A turn that was made is the next of the run, or its last; where the counter has come to its end the run goes on.
-use Rattle.laws.proofs.Kit.{rules, arith}
-use borrow.Author.Tests.{not-true}
-use Rattle.listing.proofs.Courses.{midway-more, midway-last}
+use Rattle.std.proofs.Common.{rules, arith, Ok, ap, ◌∙◌}
+use Rattle.listing.proofs.Runs.{turn-leads}
+use Rattle.listing.proofs.Courses.{way-more, way-last, way-out}
 use Rattle.listing.proofs.run.Goals as goal
 
 pub loop-turns-preserved : goal.loop-turns-preserved
 loop-turns-preserved g c =
-    let t = rw c.loop-turns.invariant.room at c.turn-next.ensures.turned_by in
+    let v = c.loop-turns.invariant in
+    let t = rw v.room at c.turn.ensures.turned_by in
+    let on = c.in-Ok-Some.is ∙ ap Ok c.in-Ok-Some.field-0-is in
     record {
-      fits = t.fits;
-      room = search;
-      way = midway-more _ _ _ _ _ _ c.loop-turns.invariant.way (search (rules, not-true)) c.loop-turns-test.true t;
+      fits = (t.goes _ on).fits;
+      room = search rules;
+      way = way-more _ _ _ _ _ v.way (omega arith) _ _ (turn-leads _ _ _ _ t on);
     }
 
-pub returns-after-loop-turns : goal.returns-after-loop-turns
-returns-after-loop-turns g c = midway-last _ _ _ _ c.loop-turns.invariant.way (omega arith)
+pub returns-in_default : goal.returns-in_default
+returns-in_default g c =
+    let v = c.loop-turns.invariant in
+    way-last _ _ _ _ _ v.way (omega arith) _ _ (rw v.room at c.in_default.ensures.turned_by) (search rules)
+
+pub returns-in_default-2 : goal.returns-in_default-2
+returns-in_default-2 g c =
+    let v = c.loop-turns.invariant in
+    way-last _ _ _ _ _ v.way (omega arith) _ _ (rw v.room at c.turn.ensures.turned_by) (search rules)
+
+pub returns : goal.returns
+returns g c = way-out _ _ _ _ c.loop-turns.invariant.way (omega arith)
