@@ -38,10 +38,16 @@ function block(kind,    i, width, name) {
         printf "const SENTENCES: [&str; %d] = [\n", rows
     for (i = 1; i <= rows; i++) {
         name = camel(names[i])
-        if (kind == "constants")
-            printf "// %s.\npub const %s: u8 = %d;\n", capital(document[i]), upper(names[i]), i
+        if (kind == "faults")
+            printf "    // %s.\n    %s = %d,\n", capital(document[i]), name, i
         else if (kind == "definitions")
             printf "-- %s\nabbrev pub %s : ℕ\n%s = %d\n\n", document[i], snake(names[i]), snake(names[i]), i
+        else if (kind == "numbers")
+            printf "number fault.%s = %s\n", name, snake(names[i])
+        else if (kind == "refusals")
+            printf "    %sfault.%s\n", (i > 1 ? "∷ " : ""), name
+        else if (kind == "inverses")
+            printf "refusal_of-number fault.%s = refl\n", name
         else if (kind == "header")
             broken(sprintf("    %-" (width + 11) "s/*", "HUB_" upper(names[i]) " = " i ","), header[i] " */")
         else if (kind == "texts")
@@ -59,6 +65,10 @@ function block(kind,    i, width, name) {
     }
     if (kind == "all" || kind == "sentences")
         print "];"
+    if (kind == "refusals")
+        print "    ∷ []"
+    if (kind == "numbers" || kind == "inverses")
+        print ""
 }
 
 NR == FNR && /^[0-9]/ {

@@ -6,30 +6,27 @@ ghost use Rattle.std.specs.Prelude.{◌≡◌, length};
 ghost use Rattle.admission.specs.Admission.{admit, working_admitted, another_session};
 
 use joining::cut::bad_size;
-use message::reading::MessageRead;
+use message::reading::FoundMessage;
 use wire::header::{DISCOVERY, Header};
-use wire::refusals;
+use wire::refusals::{Refusal, Refused};
 
 // The kind of the answer that both roles give: Again.
 pub const AGAIN: u64 = 2;
 
 // What the reader answers, or 25 or 24 before it: these look at no message.
+#[tactic(auto, unfolding(crate::specs::Admission::admit, crate::specs::Admission::working_admitted))]
 pub fn admit(
     size: usize,
     verdict: u8,
     message: &[u8],
     keys: &[u8],
     working: &mut [u8],
-) -> MessageRead
+) -> Result<FoundMessage, Refused>
     ensures value { result ≡ admit size verdict message.now keys.now (length working.old) }
     ensures new_working { working.new ≡ working_admitted size verdict message.now keys.now working.old }
 {
-    if 1 < verdict {
-        return MessageRead::Refused(refusals::WRONG_VERDICT);
-    }
-    if bad_size(size) {
-        return MessageRead::Refused(refusals::WRONG_FRAGMENT_SIZE);
-    }
+    Refusal::WrongVerdict.when(1 < verdict)?;
+    Refusal::WrongFragmentSize.when(bad_size(size))?;
     message::reading::read(message, keys, working)
 }
 

@@ -6,7 +6,7 @@ use Rattle.wire.specs.declared.header.Header.{Header}
 use Rattle.payloads.specs.Reading.{connect_type, code_of}
 use Rattle.message.specs.Reading.{working_after}
 use Rattle.message.specs.Handed.{payload}
-use Rattle.message.specs.declared.reading.MessageRead.TheVariants.{Read}
+use Rattle.std.specs.Prelude.{Ok}
 use Rattle.admission.specs.Admission.{on_read}
 use Rattle.admission.proofs.Ways.{admit-cases}
 use Rattle.gateway.specs.declared.Gateway.{Gateway}
@@ -49,4 +49,4 @@ module _ (g : Gateway) (G : Stepped → Type 0) (not-allowed : G (refuse g 15)) 
   unfolding step
   step-has refused m k w v =
       admit-cases g.size v m k w (λ w' r. G (on_read (refuse g) (λ h p. hear g h p v) m w' r)) (λ w' n. refused n)
-      (λ z f e. hear-has (refused 16) f.header (payload m (working_after m k w) (Read f)) v)
+      (λ z f e. hear-has (refused 16) f.header (payload m (working_after m k w) (Ok f)) v)

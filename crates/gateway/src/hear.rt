@@ -11,11 +11,10 @@ use super::{
 };
 use admission::another_session;
 use payloads::reading::{code_of, connect_type};
-use payloads::{
-    CONNECTION_RESPONSE, DEVICE_REQUEST, DEVICE_RESPONSE, DONE_REQUEST, DONE_RESPONSE, PENDING,
-};
+use payloads::PENDING;
+use payloads::types::ConnectType;
 use wire::header::{CONNECT, Header};
-use wire::refusals;
+use wire::refusals::{Refusal, Refused};
 
 // The Status of a Done Response that lets the gateway be Ready.
 const SUCCESS: u8 = 0;
@@ -24,19 +23,22 @@ const SUCCESS: u8 = 0;
 fn fails(connect: u8, code: u8, verdict: u8) -> bool
     ensures { result ≡ fails connect code verdict }
 {
-    ((connect == CONNECTION_RESPONSE) & (code != PENDING))
-        | ((connect == DONE_RESPONSE) & (code != SUCCESS))
-        | ((connect == DEVICE_RESPONSE) & (verdict == 0))
+    match ConnectType::try_from(connect) {
+        Ok(ConnectType::ConnectionResponse) => code != PENDING,
+        Ok(ConnectType::DoneResponse) => code != SUCCESS,
+        Ok(ConnectType::DeviceResponse) => verdict == 0,
+        _ => false,
+    }
 }
 
 impl Gateway {
-    // Nothing changes, and the number of the refusal is answered.
-    pub(crate) fn refuse(self, number: u8) -> Stepped
-        ensures { result ≡ refuse self number }
+    // Nothing changes, and the refusal is answered.
+    pub(crate) fn refuse(self, refused: Refused) -> Stepped
+        ensures { result ≡ refuse self refused }
     {
         Stepped {
             gateway: self,
-            answer: Answer::Refused(number),
+            answer: Answer::Refused(refused),
         }
     }
 
@@ -67,7 +69,7 @@ impl Gateway {
                 answer: Answer::Again(due),
             };
         }
-        self.refuse(refusals::NOT_ALLOWED)
+        self.refuse(Refusal::NotAllowed.into())
     }
 
     // A reply by which the enrolment does not fail.
@@ -75,24 +77,24 @@ impl Gateway {
     fn take(self, connect: u8) -> Stepped
         ensures { result ≡ take self connect }
     {
-        if connect == CONNECTION_RESPONSE {
-            return self.replied(
+        let device = ConnectType::DeviceRequest.number();
+        let done = ConnectType::DoneRequest.number();
+        match ConnectType::try_from(connect) {
+            Ok(ConnectType::ConnectionResponse) => self.replied(
                 WAITING_FOR_RESPONSE,
-                Answer::Next(DEVICE_REQUEST),
-                Due::Request(DEVICE_REQUEST),
-            );
-        }
-        if connect == DEVICE_RESPONSE {
-            return self.replied(
+                Answer::Next(device),
+                Due::Request(device),
+            ),
+            Ok(ConnectType::DeviceResponse) => self.replied(
                 WAITING_FOR_AUTHENTICATION,
-                Answer::Next(DONE_REQUEST),
-                Due::Request(DONE_REQUEST),
-            );
+                Answer::Next(done),
+                Due::Request(done),
+            ),
+            Ok(ConnectType::DoneResponse) => {
+                self.replied(WAITING_FOR_DONE, Answer::Ready, Due::Nothing)
+            }
+            _ => self.refuse(Refusal::NotAllowed.into()),
         }
-        if connect == DONE_RESPONSE {
-            return self.replied(WAITING_FOR_DONE, Answer::Ready, Due::Nothing);
-        }
-        self.refuse(refusals::NOT_ALLOWED)
     }
 
     // A Connect message.
@@ -101,7 +103,7 @@ impl Gateway {
         ensures { result ≡ client self (connect_type payload.now) (code_of payload.now) verdict }
     {
         if READY < self.state {
-            return self.refuse(refusals::NOT_ALLOWED);
+            return self.refuse(Refusal::NotAllowed.into());
         }
         let connect = connect_type(payload);
         if fails(connect, code_of(payload), verdict) {
@@ -119,11 +121,11 @@ impl Gateway {
         ensures { result ≡ hear self header payload.now verdict }
     {
         if another_session(header, self.session) {
-            return self.refuse(refusals::OTHER_SESSION);
+            return self.refuse(Refusal::OtherSession.into());
         }
         if header.kind == CONNECT {
             return self.connect(payload, verdict);
         }
-        self.refuse(refusals::NOT_ALLOWED)
+        self.refuse(Refusal::NotAllowed.into())
     }
 }

@@ -11,8 +11,8 @@ ghost use Rattle.gateway.specs.Opening.{opened};
 ghost use Rattle.gateway.specs.Answers.{due_in};
 
 use joining::cut::bad_size;
-use payloads::{CONNECTION_REQUEST, DEVICE_REQUEST, DONE_REQUEST};
-use wire::refusals;
+use payloads::types::ConnectType;
+use wire::refusals::{Refusal, Refused};
 
 // What a gateway remembers of its enrolment. It goes through a step as a value and comes back as one.
 #[derive(Clone, Copy)]
@@ -52,8 +52,8 @@ pub enum Due {
 // What a step answers.
 #[derive(Clone, Copy)]
 pub enum Answer {
-    // The refusal's number in document 01; the connection is as it was.
-    Refused(u8),
+    // The refusal; the connection is as it was.
+    Refused(Refused),
     // The awaited reply was taken: the Connect type of the next request.
     Next(u8),
     // The last reply was taken.
@@ -86,7 +86,7 @@ impl Gateway {
     {
         if bad_size(size) {
             return Opened {
-                refusal: refusals::WRONG_FRAGMENT_SIZE,
+                refusal: Refused::from(Refusal::WrongFragmentSize).number(),
                 gateway: Gateway {
                     size: 0,
                     state: WAITING_FOR_RESPONSE,
@@ -108,16 +108,11 @@ impl Gateway {
     pub fn due(self) -> Due
         ensures { result ≡ due_in self.state }
     {
-        let state = self.state;
-        if state == WAITING_FOR_RESPONSE {
-            return Due::Request(CONNECTION_REQUEST);
+        match self.state {
+            WAITING_FOR_RESPONSE => Due::Request(ConnectType::ConnectionRequest.number()),
+            WAITING_FOR_AUTHENTICATION => Due::Request(ConnectType::DeviceRequest.number()),
+            WAITING_FOR_DONE => Due::Request(ConnectType::DoneRequest.number()),
+            _ => Due::Nothing,
         }
-        if state == WAITING_FOR_AUTHENTICATION {
-            return Due::Request(DEVICE_REQUEST);
-        }
-        if state == WAITING_FOR_DONE {
-            return Due::Request(DONE_REQUEST);
-        }
-        Due::Nothing
     }
 }

@@ -29,13 +29,13 @@ impl Due {
     }
 }
 
-impl Answer {
+impl From<Answer> for Said {
+    ghost from_gives = { λ answer words. words ≡ said answer };
+
     // Number and values of what a step answers.
-    pub fn said(self) -> Said
-        ensures { result ≡ said self }
-    {
-        match self {
-            Answer::Refused(n) => Said::refused(n),
+    fn from(answer: Answer) -> Said {
+        match answer {
+            Answer::Refused(refused) => Said::refused(refused.number()),
             Answer::Next(connect) => Said::words(NEXT, connect as u64, 0),
             Answer::Ready => Said::words(NOW_READY, 0, 0),
             Answer::Failed => Said::words(NOW_FAILED, 0, 0),

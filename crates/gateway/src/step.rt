@@ -5,7 +5,6 @@ ghost use Rattle.admission.specs.Admission.{working_admitted};
 ghost use Rattle.gateway.specs.Step.{step};
 
 use super::{Gateway, Stepped};
-use message::reading::MessageRead;
 
 impl Gateway {
     // One message, with the keys, the working buffer and the verdict on the hub's certificate.
@@ -17,8 +16,8 @@ impl Gateway {
     {
         let read = admission::admit(self.size, verdict, message, keys, working);
         match read {
-            MessageRead::Refused(n) => self.refuse(n),
-            MessageRead::Read(found) => {
+            Err(refused) => self.refuse(refused),
+            Ok(found) => {
                 let payload = message::payload::payload(message, working, read);
                 self.hear(found.header, payload, verdict)
             }

@@ -4,7 +4,7 @@ use Rattle.laws.proofs.Kit.{ℕ, ◌≡◌, refl, true, false, List}
 use mathlib.Core.Bool.{false≢true}
 use Rattle.message.specs.Reading.{working_after}
 use Rattle.message.specs.Handed.{payload}
-use Rattle.message.specs.declared.reading.MessageRead.TheVariants.{Read}
+use Rattle.std.specs.Prelude.{Ok}
 use Rattle.joining.specs.declared.Piece.{Piece}
 use Rattle.joining.specs.Join.{join, report_after}
 use Rattle.joining.proofs.JoinWays.{join-cases}
@@ -40,5 +40,5 @@ module _ (c : Connection) (b : List ℕ) where
       step-cases c m k w b v (Still c b) (λ n e. (refl, refl))
       (λ z found e.
       let h = found.header in
-      hear-cases c h (payload m (working_after m k w) (Read found)) b v (Still c b) (λ f e. (refl, refl)) (λ f k. connect-still h.session _ v)
+      hear-cases c h (payload m (working_after m k w) (Ok found)) b v (Still c b) (λ f e. (refl, refl)) (λ f k. connect-still h.session _ v)
       (λ f j. joined-still (piece_in h) _) (λ f k j e. (refl, refl)))

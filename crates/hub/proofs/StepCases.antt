@@ -5,9 +5,8 @@ use Rattle.laws.proofs.Cases.{on}
 use Rattle.wire.specs.declared.header.Header.{Header}
 use Rattle.message.specs.Reading.{read_message, working_after}
 use Rattle.message.specs.Handed.{payload}
+use Rattle.std.specs.Prelude.{Result, Ok}
 use Rattle.message.specs.declared.reading.FoundMessage.{FoundMessage}
-use Rattle.message.specs.declared.reading.MessageRead.{MessageRead}
-use Rattle.message.specs.declared.reading.MessageRead.TheVariants.{Read}
 use Rattle.joining.specs.declared.Joined.{Joined}
 use Rattle.joining.specs.Cut.{bad_size}
 use Rattle.joining.specs.Join.{join, report_after}
@@ -41,7 +40,7 @@ module _ (c : Connection) (h : Header) (p b : List ℕ) (v : ℕ) (G : Stepped �
 -- A step.
 module _ (c : Connection) (m k w b : List ℕ) (v : ℕ) (G : Stepped → List ℕ → Type 0) where
   -- What the step does and leaves of the reader's answer.
-  abbrev pub Reads : List ℕ → MessageRead → Type 0
+  abbrev pub Reads : List ℕ → Result FoundMessage ℕ → Type 0
   Reads w' r = G (on_read (refuse c) (λ h p. hear c h p b v) m w' r) (on_read (λ n. b) (λ h p. report_heard c h p b) m w' r)
 
   -- 25 applies; 24 applies; what was read.
@@ -53,7 +52,7 @@ module _ (c : Connection) (m k w b : List ℕ) (v : ℕ) (G : Stepped → List �
 
   -- It is enough that refusals have it and what is heard.
   pub step-cases : ((n : ℕ) → G (refuse c n) b)
-      → (bad_size c.size ≡ false → (f : FoundMessage) → read_message m k (length w) ≡ Read f → let p = payload m (working_after m k w) (Read f) in
+      → (bad_size c.size ≡ false → (f : FoundMessage) → read_message m k (length w) ≡ Ok f → let p = payload m (working_after m k w) (Ok f) in
       G (hear c f.header p b v) (report_heard c f.header p b))
       → G (step c m k w b v) (report_stepped c m k w b v)
   unfolding step report_stepped
@@ -67,6 +66,6 @@ module _ (c : Connection) (m k w b : List ℕ) (v : ℕ) (G : Stepped → Type 0
       step-cases c m k w b v (λ s b'. G s) refused
       (λ z found e.
       let h = found.header in
-      let p = payload m (working_after m k w) (Read found) in
+      let p = payload m (working_after m k w) (Ok found) in
       hear-cases c h p b v (λ s b'. G s) (λ f. refused 16) (λ f t. connects h.session p)
       (λ f j. joining (join c.size c.progress (piece_in h) p b)) (λ f t j. refused 15))

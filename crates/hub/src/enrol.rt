@@ -6,17 +6,17 @@ ghost use Rattle.hub.specs.Host.{request_rows, device_rows, done_rows, hosted, k
 use super::{Answer, Connection, FAILED, PASSED, READY, REQUESTED, Stepped, WAITING};
 use octets::compare::alike;
 use payloads::reading::Request;
-use payloads::{CONNECTION_RESPONSE, DEVICE_RESPONSE, DONE_RESPONSE};
-use wire::refusals;
+use payloads::types::ConnectType;
+use wire::refusals::{Refusal, Refused};
 
 impl Connection {
-    // Nothing changes, and the number of the refusal is answered.
-    pub(crate) fn refuse(self, number: u8) -> Stepped
-        ensures { result ≡ refuse self number }
+    // Nothing changes, and the refusal is answered.
+    pub(crate) fn refuse(self, refused: Refused) -> Stepped
+        ensures { result ≡ refuse self refused }
     {
         Stepped {
             connection: self,
-            answer: Answer::Refused(number),
+            answer: Answer::Refused(refused),
         }
     }
 
@@ -67,16 +67,16 @@ impl Connection {
         if state == WAITING {
             return Stepped {
                 connection: self.requested(session, request),
-                answer: Answer::Reply(CONNECTION_RESPONSE),
+                answer: Answer::Reply(ConnectType::ConnectionResponse.number()),
             };
         }
         if (REQUESTED <= state) & (state <= READY) & self.knows(request) {
             return Stepped {
                 connection: self,
-                answer: Answer::Again(CONNECTION_RESPONSE),
+                answer: Answer::Again(ConnectType::ConnectionResponse.number()),
             };
         }
-        self.refuse(refusals::NOT_ALLOWED)
+        self.refuse(Refusal::NotAllowed.into())
     }
 
     // A Device Authentication Request whose certificate has this digest.
@@ -87,7 +87,7 @@ impl Connection {
         if (state == REQUESTED) & (verdict == 1) {
             return Stepped {
                 connection: self.with_digest_and_state(digest, PASSED),
-                answer: Answer::Reply(DEVICE_RESPONSE),
+                answer: Answer::Reply(ConnectType::DeviceResponse.number()),
             };
         }
         if (state == REQUESTED) & (verdict == 0) {
@@ -100,10 +100,10 @@ impl Connection {
         if (PASSED <= state) & (state <= READY) & alike(&known, &digest) {
             return Stepped {
                 connection: self,
-                answer: Answer::Again(DEVICE_RESPONSE),
+                answer: Answer::Again(ConnectType::DeviceResponse.number()),
             };
         }
-        self.refuse(refusals::NOT_ALLOWED)
+        self.refuse(Refusal::NotAllowed.into())
     }
 
     // An Authentication Done Request.
@@ -115,15 +115,15 @@ impl Connection {
             let digest = self.digest;
             return Stepped {
                 connection: self.with_digest_and_state(digest, READY),
-                answer: Answer::Reply(DONE_RESPONSE),
+                answer: Answer::Reply(ConnectType::DoneResponse.number()),
             };
         }
         if state == READY {
             return Stepped {
                 connection: self,
-                answer: Answer::Again(DONE_RESPONSE),
+                answer: Answer::Again(ConnectType::DoneResponse.number()),
             };
         }
-        self.refuse(refusals::NOT_ALLOWED)
+        self.refuse(Refusal::NotAllowed.into())
     }
 }

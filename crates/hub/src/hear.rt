@@ -9,9 +9,9 @@ use super::{Answer, Connection, READY, Stepped, WAITING};
 use admission::another_session;
 use joining::Piece;
 use payloads::reading::{certificate_of, connect_type, read_request};
-use payloads::{CONNECTION_REQUEST, DEVICE_REQUEST, DONE_REQUEST};
+use payloads::types::ConnectType;
 use wire::header::{CONNECT, Header, SESSION};
-use wire::refusals;
+use wire::refusals::Refusal;
 
 // The SHA-256 of the certificate in a Device Authentication Request.
 fn certificate_digest(payload: &[u8]) -> [u8; 32]
@@ -25,20 +25,18 @@ fn certificate_digest(payload: &[u8]) -> [u8; 32]
 
 impl Connection {
     // A Connect message.
+    #[tactic(auto, unfolding(crate::specs::Hear::connect, crate::specs::Host::host))]
     fn connect(self, session: u64, payload: &[u8], verdict: u8) -> Stepped
         ensures { result ≡ connect self session payload.now verdict }
     {
-        let requested = connect_type(payload);
-        if requested == CONNECTION_REQUEST {
-            return self.request(session, read_request(payload));
+        match ConnectType::try_from(connect_type(payload)) {
+            Ok(ConnectType::ConnectionRequest) => self.request(session, read_request(payload)),
+            Ok(ConnectType::DeviceRequest) => {
+                self.authenticate(certificate_digest(payload), verdict)
+            }
+            Ok(ConnectType::DoneRequest) => self.finish(),
+            _ => self.refuse(Refusal::NotAllowed.into()),
         }
-        if requested == DEVICE_REQUEST {
-            return self.authenticate(certificate_digest(payload), verdict);
-        }
-        if requested == DONE_REQUEST {
-            return self.finish();
-        }
-        self.refuse(refusals::NOT_ALLOWED)
     }
 
     // A Session message in state 3.
@@ -62,7 +60,7 @@ impl Connection {
         connection.progress = next;
         Stepped {
             connection,
-            answer: Answer::of(arrival),
+            answer: arrival.into(),
         }
     }
 
@@ -74,6 +72,7 @@ impl Connection {
     }
 
     // A message that the reader read.
+    #[tactic(auto, unfolding(crate::specs::Hear::hear, crate::specs::Hear::report_heard))]
     pub(crate) fn hear(
         self,
         header: Header,
@@ -85,7 +84,7 @@ impl Connection {
         ensures new_report { report.new ≡ report_heard self header payload.now report.old }
     {
         if self.is_foreign(header) {
-            return self.refuse(refusals::OTHER_SESSION);
+            return self.refuse(Refusal::OtherSession.into());
         }
         if header.kind == CONNECT {
             return self.connect(header.session, payload, verdict);
@@ -93,6 +92,6 @@ impl Connection {
         if (header.kind == SESSION) & (self.state == READY) {
             return self.session(header, payload, report);
         }
-        self.refuse(refusals::NOT_ALLOWED)
+        self.refuse(Refusal::NotAllowed.into())
     }
 }

@@ -13,7 +13,7 @@ ghost use Rattle.hub.specs.Answers.{said, answer_of};
 use admission::AGAIN;
 use joining::answer::{COMPLETE, REPEAT, Said, TAKEN};
 use joining::{Arrival, Progress};
-use wire::refusals;
+use wire::refusals::{Refusal, Refused};
 
 // What the hub remembers of a gateway. It goes through a step as a value and comes back as one.
 #[derive(Clone, Copy)]
@@ -51,8 +51,8 @@ pub const FAILED: u8 = 4;
 // What a step answers.
 #[derive(Clone, Copy)]
 pub enum Answer {
-    // The refusal's number in document 01; connection and report buffer are as they were.
-    Refused(u8),
+    // The refusal; connection and report buffer are as they were.
+    Refused(Refused),
     // The Connect type of the reply that the caller has the writer make.
     Reply(u8),
     // A repeated enrolment step: the same reply once more, and nothing has changed.
@@ -89,35 +89,35 @@ pub struct Stepped {
     pub answer: Answer,
 }
 
-impl Answer {
+impl From<Arrival> for Answer {
+    ghost from_gives = { λ arrival answer. answer ≡ answer_of arrival };
+
     // The arrival of a piece, as a step's answer.
-    pub fn of(arrival: Arrival) -> Answer
-        ensures { result ≡ answer_of arrival }
-    {
+    fn from(arrival: Arrival) -> Answer {
         match arrival {
-            Arrival::Refused(n) => Answer::Refused(n),
+            Arrival::Refused(refused) => Answer::Refused(refused),
             Arrival::Taken(k) => Answer::Taken(k),
             Arrival::Repeat(k) => Answer::Repeat(k),
             Arrival::Complete { length, heard } => Answer::Complete { length, heard },
         }
     }
+}
+
+impl From<Answer> for Said {
+    ghost from_gives = { λ answer words. words ≡ said answer };
 
     // Number and values of what a step answers.
-    pub fn said(self) -> Said
-        ensures { result ≡ said self }
-    {
-        match self {
-            Answer::Refused(n) => Said::refused(n),
+    fn from(answer: Answer) -> Said {
+        match answer {
+            Answer::Refused(refused) => Said::refused(refused.number()),
             Answer::Reply(connect) => Said::words(REPLY, connect as u64, DONE_STATUS),
             Answer::Again(connect) => Said::words(AGAIN, connect as u64, DONE_STATUS),
             Answer::Failure => Said::words(FAILURE, 0, 0),
             Answer::Taken(heard) => Said::words(TAKEN, heard as u64, 0),
             Answer::Repeat(heard) => Said::words(REPEAT, heard as u64, 0),
-            Answer::Complete { length, heard } => Said::words(
-                COMPLETE,
-                heard as u64,
-                length as u64,
-            ),
+            Answer::Complete { length, heard } => {
+                Said::words(COMPLETE, heard as u64, length as u64)
+            }
         }
     }
 }
@@ -140,12 +140,13 @@ impl Connection {
     }
 
     // Opens a connection of this fragment size; outside 1 to 16,384 it is refused with 24, and the connection is all zero.
+    #[tactic(auto, unfolding(crate::specs::Opening::opened))]
     pub fn open(size: usize) -> Opened
         ensures { result ≡ opened size }
     {
         if joining::cut::bad_size(size) {
             return Opened {
-                refusal: refusals::WRONG_FRAGMENT_SIZE,
+                refusal: Refused::from(Refusal::WrongFragmentSize).number(),
                 connection: Connection::blank(0),
             };
         }

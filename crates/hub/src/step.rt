@@ -5,10 +5,10 @@ ghost use Rattle.admission.specs.Admission.{working_admitted};
 ghost use Rattle.hub.specs.Step.{step, report_stepped};
 
 use super::{Connection, Stepped};
-use message::reading::MessageRead;
 
 impl Connection {
     // One message, with the keys, the working buffer, the report buffer and the verdict on the gateway's certificate.
+    #[tactic(auto, unfolding(crate::specs::Step::step, crate::specs::Step::report_stepped))]
     pub fn step(
         self,
         message: &[u8],
@@ -25,8 +25,8 @@ impl Connection {
     {
         let read = admission::admit(self.size, verdict, message, keys, working);
         match read {
-            MessageRead::Refused(n) => self.refuse(n),
-            MessageRead::Read(found) => {
+            Err(refused) => self.refuse(refused),
+            Ok(found) => {
                 let payload = message::payload::payload(message, working, read);
                 self.hear(found.header, payload, report, verdict)
             }

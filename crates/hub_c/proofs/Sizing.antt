@@ -4,12 +4,12 @@ use Rattle.laws.proofs.Kit.{ℕ, ◌*◌, ◌≤◌, ◌≡◌, refl, sym, ◌�
 use Rattle.laws.proofs.Kit.{get_or, ltb, ltb-false, not-false}
 use Rattle.laws.specs.Bytes.{be16}
 use Rattle.laws.proofs.Bools.{or-false}
+use Rattle.laws.proofs.Refusals.{passed, refused, value}
 use Rattle.wire.specs.Reader.{read_header}
-use Rattle.wire.specs.declared.header.HeaderRead.{HeaderRead}
-use Rattle.wire.specs.declared.header.HeaderRead.TheVariants.{Refused, Read}
+use Rattle.std.specs.Prelude.{Result, Ok, Err}
+use Rattle.wire.specs.declared.header.FoundHeader.{FoundHeader}
 use Rattle.wire.proofs.Sound.{read-sound}
 use Rattle.lines.specs.Listing.{header_line, line_of}
-use Rattle.joining.specs.declared.cut.Cutting.{Cutting}
 use Rattle.joining.specs.Cut.{cut_refusal, cutting, cut_piece}
 use Rattle.hub_c.specs.Pieces.{cut_words}
 use Rattle.hub_c.specs.Written.{too_wide}
@@ -35,23 +35,28 @@ fits w e =
     (ltb-false _ _ two.0, ltb-false _ _ two.1, ltb-false _ _ three.1, ltb-false _ _ four.1, ltb-false _ _ all.1)
 
 -- What the cutter answers is put into words.
-module _ (F : ℕ) (R : List ℕ) (i : ℕ) (k : Cutting) (answered : k ≡ cutting F (length R) i) where
-  pub cut-judged : k.refusal ≡ cut_refusal F (length R) i
-  cut-judged = ap (λ (k : Cutting). k.refusal) answered
+module _ (F : ℕ) (R : List ℕ) (i : ℕ) where
+  abbrev Answered : Result ℕ ℕ → Type 0
+  Answered r = r ≡ cutting F (length R) i
 
-  pub cut-refused : (w : List ℕ) → (k.refusal ≡ 0 → ⊥) → w ≡ 0 ∷ 0 ∷ 0 ∷ [] → w ≡ cut_words F R i
+  pub cut-refused : (n : ℕ) (w : List ℕ) → Answered (Err n) → w ≡ 0 ∷ 0 ∷ 0 ∷ [] → (n ≡ cut_refusal F (length R) i) × (w ≡ cut_words F R i)
   unfolding cut_words
-  cut-refused w z q = rw (← cut-judged, ne_eqb k.refusal 0 z) q
+  cut-refused n w e q =
+      let t = refused (cut_refusal F (length R) i) _ e in
+      (t.0, rw (ne_eqb _ 0 t.1) q)
 
-  pub cut-told : (p w : List ℕ) → k.refusal ≡ 0 → p ≡ cut_piece F R i → w ≡ k.count ∷ F * i ∷ length p ∷ [] → w ≡ cut_words F R i
+  pub cut-taken : (k : ℕ) → Answered (Ok k) → cut_refusal F (length R) i ≡ 0
+  cut-taken k e = passed _ _ e
+
+  pub cut-told : (k : ℕ) (p w : List ℕ) → Answered (Ok k) → p ≡ cut_piece F R i → w ≡ k ∷ F * i ∷ length p ∷ [] → w ≡ cut_words F R i
   unfolding cut_words
-  cut-told p w z f q = rw (q, answered, f, eq-eqb (cut_refusal F (length R) i) 0 (sym cut-judged ∙ z))
+  cut-told k p w e f q = let z = cut-taken k e in rw (q, f, z) (ap (λ (n : ℕ). n ∷ F * i ∷ _) (value (e ∙ rw z)))
 
 -- The length that stands in an accepted message is the number of its bytes; a refusal's line has none.
 pub line-told : (m : List ℕ) → line_of (read_header m) (be16 m 2) ≡ line_text m
 unfolding line_text line_of
 line-told m = by (read_header m) refl
   where
-    by : (a : HeaderRead) → read_header m ≡ a → line_of a (be16 m 2) ≡ line_of a (length m)
-    by (Refused n) e = refl
-    by (Read f) e = ap (header_line f.header) (read-sound m f e).good.size
+    by : (a : Result FoundHeader ℕ) → read_header m ≡ a → line_of a (be16 m 2) ≡ line_of a (length m)
+    by (Err n) e = refl
+    by (Ok f) e = ap (header_line f.header) (read-sound m f e).good.size

@@ -13,7 +13,7 @@ use Rattle.laws.proofs.Runs.{length-gathered}
 use Rattle.wire.specs.Refusals.{unlike_first_piece}
 use Rattle.message.specs.Handed.{payload}
 use Rattle.message.specs.Reading.{working_after}
-use Rattle.message.specs.declared.reading.MessageRead.TheVariants.{Read}
+use Rattle.std.specs.Prelude.{Ok}
 use Rattle.joining.specs.declared.Progress.{Progress}
 use Rattle.joining.specs.declared.Piece.{Piece}
 use Rattle.joining.specs.Cut.{bad_size}
@@ -114,7 +114,7 @@ module _ (c : Connection) (long : length c.progress.heard ≡ most) where
       step-cases c m k w report v Within (λ n. zero-le)
       (λ z found e.
       let h = found.header in
-      let p = payload m (working_after m k w) (Read found) in
+      let p = payload m (working_after m k w) (Ok found) in
       hear-cases c h p report v Within (λ f. zero-le)
       (λ f k. connect-cases c h.session p v (λ s. Within s report) zero-le (λ t. zero-le) (λ t s. zero-le) (λ t s. zero-le) (λ z. zero-le)
       (λ t s. zero-le))
@@ -150,7 +150,7 @@ step_kept c long m k w report v s =
     step-cases c m k w report v Kept (λ n. s)
     (λ z found e.
     let h = found.header in
-    let p = payload m (working_after m k w) (Read found) in
+    let p = payload m (working_after m k w) (Ok found) in
     hear-cases c h p report v Kept (λ f. s)
     (λ f k. connect-cases c h.session p v (λ s. Kept s report) s (λ t. s) (λ t i. s) (λ t i. s) (λ z. s) (λ t i. s))
     (λ f j.

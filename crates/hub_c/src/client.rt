@@ -13,6 +13,7 @@ ghost use Rattle.hub_c.specs.Client.{gateway_after, gateway_answer, wrong_gatewa
 use super::connection::verdict_of;
 use super::words::{ANSWER, WRONG_BUFFER, fill, put_length, put_said};
 use gateway::{Gateway, Stepped};
+use joining::answer::Said;
 use state::client::{GATEWAY, decode_gateway, encode_gateway};
 
 // The words of the request that is due.
@@ -61,8 +62,7 @@ fn settle_gateway(stepped: Stepped, state: &mut [u8], answer: &mut [u64]) -> u32
     ensures new_state { state.new ≡ gateway_after stepped state.old }
     ensures new_answer { answer.new ≡ gateway_answer stepped }
 {
-    let given = stepped.answer;
-    let said = given.said();
+    let said = Said::from(stepped.answer);
     put_said(answer, said);
     if said.refusal != 0 {
         return said.refusal as u32;

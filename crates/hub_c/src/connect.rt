@@ -7,11 +7,12 @@
 // A part is two words: from where, how many bytes.
 ghost use Rattle.std.specs.Prelude.{◌≡◌, ◌∷◌, [], length};
 ghost use Rattle.std.proofs.lemmas.List.Edits.{sets};
-ghost use Rattle.payloads.specs.Connect.{read_connect};
+ghost use Rattle.laws.specs.Rows.{refusal_in};
+ghost use Rattle.payloads.specs.Connect.{read_connect, connect_told};
 ghost use Rattle.hub_c.specs.Sizes.{connect_size, sized, kept};
 ghost use Rattle.hub_c.specs.Connect.{span_words, parts_words, shown_words, connect_words};
 
-use super::words::{WRONG_BUFFER, put_three, put_two};
+use super::words::{WRONG_BUFFER, put_three, put_two, refusal_in};
 use payloads::connect::FoundConnect;
 use payloads::reading::Span;
 
@@ -62,14 +63,14 @@ fn put_connect(found: FoundConnect, out: &mut [u64])
 // Takes a Connect payload apart: its words; or refuses with 14 what is none, and all words are 0.
 #[unsafe(no_mangle)]
 pub extern "C" fn hub_read_connect(payload: &[u8], connect: &mut [u64]) -> u32
-    ensures value { result ≡ sized connect_size connect.old (read_connect payload.now).refusal }
-    ensures new_connect { connect.new ≡ kept connect_size connect.old (connect_words (read_connect payload.now))
+    ensures value { result ≡ sized connect_size connect.old (refusal_in (read_connect payload.now)) }
+    ensures new_connect { connect.new ≡ kept connect_size connect.old (connect_words (connect_told (read_connect payload.now)))
         connect.old }
 {
     if connect.len() != CONNECT {
         return WRONG_BUFFER;
     }
-    let found = payloads::connect::read_connect(payload);
-    put_connect(found, connect);
-    found.refusal as u32
+    let answer = payloads::connect::read_connect(payload);
+    put_connect(answer.unwrap_or(FoundConnect::nothing()), connect);
+    refusal_in(&answer)
 }

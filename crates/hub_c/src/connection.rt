@@ -12,6 +12,7 @@ ghost use Rattle.hub_c.specs.Answered.{state_after, answer_after, verdict_of, sh
 
 use super::words::{ANSWER, WRONG_BUFFER, fill, put_said};
 use hub::{Connection, Stepped};
+use joining::answer::Said;
 use joining::cut::bad_size;
 use state::{STATE, decode, encode};
 use wire::header::MOST_PIECES;
@@ -65,8 +66,7 @@ fn settle(stepped: Stepped, state: &mut [u8], answer: &mut [u64]) -> u32
     ensures new_state { state.new ≡ state_after stepped state.old }
     ensures new_answer { answer.new ≡ answer_after stepped }
 {
-    let given = stepped.answer;
-    let said = given.said();
+    let said = Said::from(stepped.answer);
     put_said(answer, said);
     if said.refusal != 0 {
         return said.refusal as u32;

@@ -20,13 +20,16 @@ pub extern "C" fn hub_cut(report: &[u8], fragment_size: u64, index: u64, piece: 
     }
     let size = fragment_size as usize;
     let i = index as usize;
-    let cutting = joining::cut::cut(report, size, i);
-    if cutting.refusal != 0 {
-        put_triple(piece, 0, 0, 0);
-        return cutting.refusal as u32;
+    match joining::cut::cut(report, size, i) {
+        Err(refused) => {
+            put_triple(piece, 0, 0, 0);
+            refused.number() as u32
+        }
+        Ok(count) => {
+            let from = fragment_size * index;
+            let bytes = joining::cut::cut_piece(report, size, i).len();
+            put_triple(piece, count as u64, from, bytes as u64);
+            0
+        }
     }
-    let from = fragment_size * index;
-    let bytes = joining::cut::cut_piece(report, size, i).len();
-    put_triple(piece, cutting.count as u64, from, bytes as u64);
-    0
 }

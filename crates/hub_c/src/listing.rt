@@ -2,30 +2,21 @@
 // The listing's line of one message.
 ghost use Rattle.std.specs.Prelude.{◌≡◌, ◌∷◌, [], cond, length};
 ghost use Rattle.std.proofs.lemmas.List.Edits.{sets};
-ghost use Rattle.wire.specs.Answers.{found_header};
+ghost use Rattle.laws.specs.Rows.{refusal_in};
 ghost use Rattle.wire.specs.Reader.{read_header};
 ghost use Rattle.hub_c.specs.Sizes.{wrong_buffer};
 ghost use Rattle.hub_c.specs.Line.{line_text, wrong_line};
 
-use super::words::{WRONG_BUFFER, put_length};
+use super::words::{WRONG_BUFFER, put_length, refusal_in};
 use lines::listing::LINE;
 use octets::numbers::number16;
-use wire::header::HeaderRead;
-
-// The number of a refusal, 0 for none.
-fn number_of(answer: HeaderRead) -> u32
-    ensures { result ≡ (found_header answer).refusal }
-{
-    let found = answer.found();
-    found.refusal as u32
-}
 
 // Writes the line of a message that is given whole, `type sequence index count length` or `refused N`, and a newline, into a buffer of 64 bytes,
 // and its length into the one word of `size`. The answer is the refusal's number, 0 where the message is listed.
 #[unsafe(no_mangle)]
 pub extern "C" fn hub_list(message: &[u8], line: &mut [u8], size: &mut [u64]) -> u32
     ensures value { result ≡ cond (wrong_line line.old size.old) wrong_buffer
-        (found_header (read_header message.now)).refusal }
+        (refusal_in (read_header message.now)) }
     ensures new_line { line.new ≡ cond (wrong_line line.old size.old) line.old
         (sets line.old 0 (line_text message.now)) }
     ensures new_size { size.new ≡ cond (wrong_line line.old size.old) size.old
@@ -37,5 +28,5 @@ pub extern "C" fn hub_list(message: &[u8], line: &mut [u8], size: &mut [u64]) ->
     let answer = wire::header::read_header(message);
     let end = lines::listing::put_line(answer, number16(message, 2), line, 0);
     put_length(size, end as u64);
-    number_of(answer)
+    refusal_in(&answer)
 }

@@ -14,6 +14,7 @@ ghost use Rattle.hub_c.specs.Sizes.{wrong_buffer, header_size, sized, kept};
 ghost use Rattle.hub_c.specs.Headers.{field_words, found_words, wrong_place, place_in};
 
 use super::words::{PLACE, WRONG_BUFFER, put_three, put_triple, put_word, word};
+use message::answers::found;
 use octets::bounds::lacks;
 use wire::answers::Found;
 use wire::header::Header;
@@ -60,7 +61,7 @@ pub extern "C" fn hub_read_header(message: &[u8], header: &mut [u64]) -> u32
     if header.len() != HEADER {
         return WRONG_BUFFER;
     }
-    hand(wire::header::read_header(message).found(), header)
+    hand(wire::header::read_header(message).into(), header)
 }
 
 // Reads a message: refusals 1 to 14, and the header's words, all 0 beside a refusal. The place is that of the payload, in the message if it was
@@ -83,10 +84,7 @@ pub extern "C" fn hub_read(
     if header.len() != HEADER {
         return WRONG_BUFFER;
     }
-    hand(
-        message::reading::read(message, keys, working).found(),
-        header,
-    )
+    hand(found(message::reading::read(message, keys, working)), header)
 }
 
 // A part of one of the two buffers: 0 is the message, 1 the working buffer.

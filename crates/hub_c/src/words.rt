@@ -2,11 +2,13 @@
 // Answers of several numbers, written as words of 64 bits.
 ghost use Rattle.std.specs.Prelude.{◌≡◌, ◌∷◌, [], get_or, length};
 ghost use Rattle.std.proofs.lemmas.List.Edits.{sets};
+ghost use Rattle.laws.specs.Rows.{refusal_in};
 ghost use Rattle.writer.specs.Answers.{wrote};
 ghost use Rattle.hub_c.specs.Answered.{said_words};
 
 use joining::answer::Said;
-use writer::Written;
+use wire::refusals::Refused;
+use writer::Wrote;
 
 // The number of a call that was lent a buffer of the wrong size, or given a word too wide for its field.
 pub(crate) const WRONG_BUFFER: u32 = 255;
@@ -55,13 +57,23 @@ pub(crate) fn put_length(out: &mut [u64], x: u64)
     put_word(out, 0, x);
 }
 
+// The number of the refusal that an answer is, 0 for none.
+pub(crate) fn refusal_in<T>(answer: &Result<T, Refused>) -> u32
+    ensures { result ≡ refusal_in answer.now }
+{
+    match answer {
+        Ok(_) => 0,
+        Err(refused) => u32::from(refused.number()),
+    }
+}
+
 // Hands out what a writer answers: the length, and the refusal's number.
-pub(crate) fn hand_length(written: Written, out: &mut [u64]) -> u32
+pub(crate) fn hand_length(written: Result<usize, Refused>, out: &mut [u64]) -> u32
     requires { length out.old ≡ 1 }
     ensures value { result ≡ (wrote written).refusal }
     ensures new_out { out.new ≡ (wrote written).size ∷ [] }
 {
-    let answer = written.wrote();
+    let answer = Wrote::from(written);
     put_length(out, answer.size as u64);
     answer.refusal as u32
 }

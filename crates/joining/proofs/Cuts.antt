@@ -6,11 +6,13 @@ use native.Mathlib.Nat.{div-lt_iff_lt-mul, le-div_iff_mul-le, mul-le-mul, le_of_
 use lib.Dec.{eqb-suc-zero}
 use Rattle.laws.specs.Parts.{part}
 use Rattle.laws.proofs.Bools.{or-false}
+use Rattle.std.specs.Prelude.{Ok}
 use Rattle.laws.proofs.Firsts.{row-false}
+use Rattle.laws.proofs.Refusals.{passed}
 use Rattle.wire.specs.Fields.{most_pieces}
 use Rattle.wire.specs.Refusals.{wrong_fragment_size, wrong_piece}
 use Rattle.joining.specs.Heard.{most}
-use Rattle.joining.specs.Cut.{bad_size, piece_count, size_rows, piece_rows, cut_refusal}
+use Rattle.joining.specs.Cut.{bad_size, piece_count, size_rows, piece_rows, cut_refusal, cutting}
 
 -- L bytes cut into n pieces of F, n at most N: there is a piece, a byte follows each but the last, and the last is not over F.
 pub record Cut (F N n L : ℕ) : Type 0 where
@@ -69,6 +71,10 @@ cuttable F L i e =
     let f = good-size F q.0 in
     let c = cuts F most L f.0 (omega arith) (ltb-false (F * most) L q.1) in
     record { cut = c; small = f.1; within = begins c i (leb-false (piece_count F L) i q.2) }
+
+-- So what is cut begins within the report.
+pub within : (F L i : ℕ) {n : ℕ} → Ok n ≡ cutting F L i → F * i ≤ L
+within F L i e = (cuttable F L i (passed (cut_refusal F L i) (piece_count F L) e)).within
 
 module _ {F N n : ℕ} (R : List ℕ) (c : Cut F N n (length R)) (i : ℕ) (l : i < n) where
   pub part_length : length (part R (F * i) F) ≡ min F (length R - F * i)

@@ -1,9 +1,11 @@
 -- SPDX-License-Identifier: MPL-2.0
 -- Laws of the heard set, over any number of indexes.
-use Rattle.laws.proofs.Kit.{ℕ, zero, suc, ◌+◌, ◌≤◌, ◌<◌, ◌≡◌, refl, sym, ◌∙◌, ap, Bool, true, false, true≢false, ◌||◌, List, [], ◌∷◌, length, set}
-use Rattle.laws.proofs.Kit.{get_or-set_same, get_or-set_other, eqb, eq-eqb, ne_eqb, eqb-true, eqb-false, arith}
+use Rattle.laws.proofs.Kit.{ℕ, zero, suc, ◌+◌, ◌≤◌, ◌<◌, ◌≡◌, refl, sym, ◌∙◌, ap, Bool, true, false, true≢false, not, ◌||◌, List, [], ◌∷◌, length, set}
+use Rattle.laws.proofs.Kit.{get_or-set_same, get_or-set_other, eqb, eq-eqb, ne_eqb, eqb-true, eqb-false, zero-add, arith}
 use Prim.Native.Nat.{zero-le}
 use mir.Val.{bool_byte}
+use mathlib.Core.Bool.{beq}
+use Rattle.std.specs.List.{list_any}
 use lib.Seq.{set-get_or, take-nil}
 use Rattle.laws.proofs.Bools.{or-true, or-none}
 use Rattle.laws.proofs.Cases.{on}
@@ -48,6 +50,12 @@ tally-come (suc n) (b ∷ bs) f = omega (arith, tally-come n bs (λ i l. f (suc 
 -- To mark what is heard changes nothing.
 pub mark-known : (h : List Bool) (i : ℕ) → has h i ≡ true → mark h i ≡ h
 mark-known h i e = ap (λ (b : Bool). set h i b) (sym e) ∙ set-get_or h i false
+
+-- Some index is heard where the count is not 0.
+pub any-tally : (h : List Bool) → list_any (λ b. beq b true) h ≡ not (eqb (tally h) 0)
+any-tally [] = refl
+any-tally (true ∷ bs) = sym (ap not (ne_eqb (1 + tally bs) 0 (λ z. omega arith)))
+any-tally (false ∷ bs) = any-tally bs ∙ ap (λ (n : ℕ). not (eqb n 0)) (sym (zero-add (tally bs)))
 
 pub mark-has : (h : List Bool) (i j : ℕ) → i < length h → has (mark h i) j ≡ (has h j || eqb j i)
 mark-has h i j l =

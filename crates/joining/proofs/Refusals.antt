@@ -1,16 +1,63 @@
 -- SPDX-License-Identifier: MPL-2.0
 -- What is known of a piece that no row refuses.
-use Rattle.laws.proofs.Kit.{ℕ, ◌+◌, ◌*◌, ◌≤◌, ◌<◌, ◌≡◌, refl, sym, ◌∙◌, Bool, true, false, ◌&&◌, List, ◌++◌, length, eqb, ltb, leb, eqb-true}
+use Rattle.laws.proofs.Kit.{ℕ, ◌+◌, ◌*◌, ◌≤◌, ◌<◌, ◌≡◌, refl, sym, ◌∙◌, Bool, true, false, ◌&&◌, List, ◌++◌, length, eqb, ltb, leb, ne_eqb, eqb-true}
 use Rattle.laws.proofs.Kit.{eqb-false, ltb-false, leb-false, not-false, arith}
-use Rattle.laws.specs.Rows.{first, test_of}
+use Rattle.std.specs.Prelude.{Ok, Err}
+use Rattle.laws.specs.Rows.{first, or_else, unless, test_of}
 use Rattle.laws.proofs.Bools.{or-false}
 use Rattle.laws.proofs.Firsts.{first-append, neither, row-false}
-use Rattle.wire.specs.Refusals.{wrong_piece, past_sequence, future_sequence, last_sequence, wrong_piece_size, no_room, wrong_fragment_size}
+use Rattle.laws.proofs.Refusals.{passed, refused}
+use Rattle.wire.specs.Refusals.{wrong_piece, past_sequence, future_sequence, last_sequence, wrong_piece_size, no_room, unlike_repeat, wrong_fragment_size}
 use Rattle.joining.specs.declared.Progress.{Progress}
 use Rattle.joining.specs.declared.Piece.{Piece}
 use Rattle.joining.specs.Heard.{most}
-use Rattle.joining.specs.Join.{is_last, misfit, sequence_rows, place_rows, repeat_rows, join_refusal, Fitting}
+use Rattle.joining.specs.Join.{is_last, misfit, sequence_rows, place_rows, repeat_rows, conflict, join_refusal, Fitting}
 use Rattle.joining.proofs.Cuts.{good-size}
+
+-- The three tables, one after the other: where one refuses and those before it let the piece pass, that is the refusal; where none does, there is
+-- none.
+module _ (F : ℕ) (h : Progress) (p : Piece) (bytes report : List ℕ) where
+  abbrev sequences : ℕ
+  sequences = first (sequence_rows F h.expected p)
+
+  abbrev places : ℕ
+  places = first (place_rows F h p (length bytes) (length report))
+
+  abbrev repeats : ℕ
+  repeats = first (repeat_rows F h p bytes report)
+
+  in_order : join_refusal F h p bytes report ≡ or_else sequences (or_else places repeats)
+  unfolding join_refusal
+  in_order =
+      let last = repeat_rows F h p bytes report in
+      let rest = place_rows F h p (length bytes) (length report) ++ last in
+      rw (first-append (sequence_rows F h.expected p) rest refl, first-append (place_rows F h p (length bytes) (length report)) last refl)
+
+  abbrev pub Refuses : ℕ → Type 0
+  Refuses n = (n ≡ join_refusal F h p bytes report) × (n ≡ 0 → ⊥)
+
+  abbrev pub Passes : ℕ → Type 0
+  Passes table = Ok (tt {0}) ≡ unless table (tt {0})
+
+  abbrev pub Refused : ℕ → ℕ → Type 0
+  Refused n table = Err n ≡ unless table (tt {0})
+
+  pub first-refuses : (n : ℕ) → Refused n sequences → Refuses n
+  first-refuses n e =
+      let w = refused sequences (tt {0}) e in
+      rw (in_order, ne_eqb sequences 0 w.1, w.0) (refl, w.1)
+
+  pub second-refuses : (n : ℕ) → Passes sequences → Refused n places → Refuses n
+  second-refuses n a e =
+      let w = refused places (tt {0}) e in
+      rw (in_order, passed sequences (tt {0}) a, ne_eqb places 0 w.1, w.0) (refl, w.1)
+
+  pub third-refuses : (n : ℕ) → Passes sequences → Passes places → (conflict F h p bytes report ≡ true) × (n ≡ unlike_repeat) → Refuses n
+  third-refuses n a b w =
+      rw (in_order, passed sequences (tt {0}) a, passed places (tt {0}) b, w.0, w.1) (refl, λ z. absurd (omega arith))
+
+  pub none-refuses : Passes sequences → Passes places → conflict F h p bytes report ≡ false → join_refusal F h p bytes report ≡ 0
+  none-refuses a b t = rw (in_order, passed sequences (tt {0}) a, passed places (tt {0}) b, t)
 
 -- The piece is one of the expected message.
 pub record Expected (F expected : ℕ) (p : Piece) : Type 0 where

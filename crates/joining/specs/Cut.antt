@@ -1,11 +1,10 @@
 -- SPDX-License-Identifier: MPL-2.0
 -- Cutting: "A report of 0 to 64 × F bytes is cut in order into pieces of F bytes, the last holding the remainder of 1 to F; an empty report
 -- is one empty piece."
-use Rattle.std.specs.Prelude.{ℕ, ◌+◌, ◌-◌, ◌*◌, ◌/◌, List, [], ◌∷◌, ◌++◌, Bool, cond, ◌||◌, eqb, ltb, leb, length}
-use Rattle.laws.specs.Rows.{first}
+use Rattle.std.specs.Prelude.{ℕ, ◌+◌, ◌-◌, ◌*◌, ◌/◌, List, [], ◌∷◌, ◌++◌, Bool, cond, ◌||◌, eqb, ltb, leb, length, Result}
+use Rattle.laws.specs.Rows.{first, unless}
 use Rattle.laws.specs.Parts.{part}
 use Rattle.wire.specs.Refusals.{wrong_fragment_size, wrong_piece}
-use Rattle.joining.specs.declared.cut.Cutting.{Cutting}
 use Rattle.joining.specs.Heard.{most}
 
 -- 24: "F outside 1 to 16,384".
@@ -32,9 +31,9 @@ cut_refusal F bytes i = first (size_rows F ++ piece_rows F bytes i)
 abbrev pub cut_count : ℕ → ℕ → ℕ → ℕ
 cut_count F bytes i = cond (eqb (cut_refusal F bytes i) 0) (piece_count F bytes) 0
 
--- What is answered: the refusal's number or 0, and the count.
-abbrev pub cutting : ℕ → ℕ → ℕ → Cutting
-cutting F bytes i = record { refusal = cut_refusal F bytes i; count = cut_count F bytes i }
+-- What is answered: the count, or the refusal.
+abbrev pub cutting : ℕ → ℕ → ℕ → Result ℕ ℕ
+cutting F bytes i = unless (cut_refusal F bytes i) (piece_count F bytes)
 
 -- "… and that part of the report", a refusal "the empty part at the report's start".
 abbrev pub cut_piece : ℕ → List ℕ → ℕ → List ℕ

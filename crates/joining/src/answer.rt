@@ -5,7 +5,8 @@ ghost use Rattle.joining.specs.Answers.{words, refused, arrived};
 
 use super::Arrival;
 
-// The kinds of a piece's answers; a refusal is 0. A step of the hub has 1 to 3 besides, one of the gateway 2 and 7 to 9.
+// The kinds of a piece's answers; a refusal is 0. A step of the hub has 1 to 3 besides, one of the gateway 2 and 7 to 9. They are numbers, since C is
+// handed them so.
 pub const TAKEN: u64 = 4;
 
 pub const REPEAT: u64 = 5;
@@ -51,20 +52,18 @@ impl Said {
     }
 }
 
-impl Arrival {
+impl From<Arrival> for Said {
+    ghost from_gives = { λ arrival words. words ≡ arrived arrival };
+
     // Number and values of what a piece is answered.
-    pub fn arrived(self) -> Said
-        ensures { result ≡ arrived self }
-    {
-        match self {
-            Arrival::Refused(n) => Said::refused(n),
+    fn from(arrival: Arrival) -> Said {
+        match arrival {
+            Arrival::Refused(refused) => Said::refused(refused.number()),
             Arrival::Taken(heard) => Said::words(TAKEN, heard as u64, 0),
             Arrival::Repeat(heard) => Said::words(REPEAT, heard as u64, 0),
-            Arrival::Complete { length, heard } => Said::words(
-                COMPLETE,
-                heard as u64,
-                length as u64,
-            ),
+            Arrival::Complete { length, heard } => {
+                Said::words(COMPLETE, heard as u64, length as u64)
+            }
         }
     }
 }

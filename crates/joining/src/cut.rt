@@ -1,22 +1,13 @@
 // SPDX-License-Identifier: MPL-2.0
 // The cutter: which bytes of a report stand in piece i.
 ghost use Rattle.std.specs.Prelude.{◌≡◌, ◌<◌, ◌+◌, length};
-ghost use Rattle.joining.specs.Cut.{bad_size, piece_count, cut_refusal, cutting, cut_piece};
+ghost use Rattle.joining.specs.Cut.{bad_size, piece_count, cutting, cut_piece};
 
 use super::heard::PIECES;
-use octets::bounds::lesser;
-use rows::next;
-use wire::refusals::{WRONG_FRAGMENT_SIZE, WRONG_PIECE};
+use wire::refusals::{Refusal, Refused};
 
 // The largest fragment size.
 pub const LARGEST: usize = 16384;
-
-// What the cutter answers beside the piece: the refusal's number or 0, and how many pieces the report makes, 0 where it refuses.
-#[derive(Clone, Copy)]
-pub struct Cutting {
-    pub refusal: u8,
-    pub count: usize,
-}
 
 // 24 applies: the fragment size is outside 1 to 16,384.
 pub fn bad_size(size: usize) -> bool
@@ -36,40 +27,27 @@ fn piece_count(size: usize, bytes: usize) -> usize
     (bytes - 1) / size + 1
 }
 
-// 24 or 7, or 0 where piece i of a report of n bytes can be cut.
-fn cut_refusal(size: usize, bytes: usize, i: usize) -> u8
-    ensures { result ≡ cut_refusal size bytes i }
-{
-    let n = next(0, WRONG_FRAGMENT_SIZE, bad_size(size));
-    if n != 0 {
-        return n;
-    }
-    let pieces = piece_count(size, bytes);
-    next(n, WRONG_PIECE, (size * PIECES < bytes) | (pieces <= i))
-}
-
-// Asked for piece i of a report: whether it can be cut, and into how many pieces.
-pub fn cut(report: &[u8], size: usize, i: usize) -> Cutting
+// Asked for piece i of a report: into how many pieces it is cut, if it can be cut.
+#[tactic(auto, unfolding(crate::specs::Cut::cut_refusal, wire::specs::Fields::most_pieces))]
+pub fn cut(report: &[u8], size: usize, i: usize) -> Result<usize, Refused>
     ensures { result ≡ cutting size (length report.now) i }
 {
-    let refusal = cut_refusal(size, report.len(), i);
-    if refusal != 0 {
-        return Cutting { refusal, count: 0 };
-    }
-    Cutting {
-        refusal,
-        count: piece_count(size, report.len()),
-    }
+    Refusal::WrongFragmentSize.when(bad_size(size))?;
+    let pieces = piece_count(size, report.len());
+    Refusal::WrongPiece.when((size * PIECES < report.len()) | (pieces <= i))?;
+    Ok(pieces)
 }
 
 // Piece i of a report; the empty part at the report's start where the cutter refuses.
+#[tactic(auto, using(crate::proofs::Cuts::within))]
 pub fn cut_piece(report: &[u8], size: usize, i: usize) -> &[u8]
     ensures { result.now ≡ cut_piece size report.now i }
 {
-    if cut_refusal(size, report.len(), i) != 0 {
-        return &report[0..0];
+    match cut(report, size, i) {
+        Err(_) => &report[..0],
+        Ok(_) => {
+            let start = size * i;
+            &report[start..start + size.min(report.len() - start)]
+        }
     }
-    let start = size * i;
-    let end = start + lesser(size, report.len() - start);
-    &report[start..end]
 }

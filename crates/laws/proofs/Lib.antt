@@ -18,5 +18,6 @@ pub mod Stores
 pub mod Order
 pub mod Lent
 pub mod Below
+pub mod Refusals
 pub mod Runs
 pub mod Chunks

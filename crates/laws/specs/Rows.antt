@@ -1,7 +1,7 @@
 -- SPDX-License-Identifier: MPL-2.0
 -- A table of refusals: a list of rows, each a number of document 01 and the test that gives it, in the order in which they are made. A table of
 -- ways: each row a test, and what is done where it is the first that holds.
-use Rattle.std.specs.Prelude.{ℕ, List, [], ◌∷◌, ◌≡◌, ◌⊎◌, Bool, true, false, cond, not, ◌&&◌, ◌||◌, leb, eqb}
+use Rattle.std.specs.Prelude.{ℕ, List, [], ◌∷◌, ◌≡◌, ◌⊎◌, Bool, true, false, cond, not, ◌&&◌, ◌||◌, leb, eqb, Result, Ok, Err}
 
 -- The number of the first row whose test holds, 0 where none does.
 abbrev pub first : List (ℕ × Bool) → ℕ
@@ -11,6 +11,15 @@ first (row ∷ rows) = cond row.1 row.0 (first rows)
 -- A table's answer, and where it is 0 that of the table after it.
 abbrev pub or_else : ℕ → ℕ → ℕ
 or_else n m = cond (eqb n 0) m n
+
+-- A value, or the refusal of this number; 0 is none.
+abbrev pub unless : {A : Type 0} → ℕ → A → Result A ℕ
+unless n value = cond (eqb n 0) (Ok value) (Err n)
+
+-- The number of the refusal that an answer is; 0 is none.
+abbrev pub refusal_in : {A : Type 0} → Result A ℕ → ℕ
+refusal_in (Ok a) = 0
+refusal_in (Err n) = n
 
 -- One row more: what the rows above it answered, and where that is 0 its own number if its test holds. It stays shut, since it names
 -- `above` twice: opened, its text would double with each row.

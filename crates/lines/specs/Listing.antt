@@ -1,9 +1,8 @@
 -- SPDX-License-Identifier: MPL-2.0
 -- The listing of document 01: the line of a message, and what a run does with a part of its input.
-use Rattle.std.specs.Prelude.{ℕ, zero, suc, ◌+◌, ◌/◌, List, [], ◌∷◌, ◌++◌, Bool, true, false, cond, length, take, drop, ltb}
+use Rattle.std.specs.Prelude.{ℕ, zero, suc, ◌+◌, ◌/◌, List, [], ◌∷◌, ◌++◌, Bool, true, false, cond, length, take, drop, ltb, Result, Ok, Err, is_err}
 use Rattle.wire.specs.declared.header.Header.{Header}
-use Rattle.wire.specs.declared.header.HeaderRead.{HeaderRead}
-use Rattle.wire.specs.declared.header.HeaderRead.TheVariants.{Refused, Read}
+use Rattle.wire.specs.declared.header.FoundHeader.{FoundHeader}
 use Rattle.wire.specs.Reader.{read_header}
 use Rattle.lines.specs.Text.{field, named}
 use Rattle.lines.specs.Stream.{ahead}
@@ -23,18 +22,17 @@ abbrev pub refused_name : List ℕ
 refused_name = 114 ∷ 101 ∷ 102 ∷ 117 ∷ 115 ∷ 101 ∷ 100 ∷ 32 ∷ []
 
 -- "A refusal writes the line `refused N`".
-unfoldable pub line_of : HeaderRead → ℕ → List ℕ
-line_of (Refused n) size = named refused_name n
-line_of (Read f) size = header_line f.header size
+unfoldable pub line_of : Result FoundHeader ℕ → ℕ → List ℕ
+line_of (Err n) size = named refused_name n
+line_of (Ok f) size = header_line f.header size
 
 -- The room that a line needs.
 abbrev pub line_room : ℕ
 line_room = 64
 
 -- A message was refused.
-abbrev pub is_refused : HeaderRead → Bool
-is_refused (Refused n) = true
-is_refused (Read f) = false
+abbrev pub is_refused : Result FoundHeader ℕ → Bool
+is_refused answer = is_err answer
 
 -- The run goes on with this stream.
 abbrev pub is_going : Stage → Bool
@@ -60,7 +58,7 @@ abbrev pub stops : Stage → Turn
 stops stage = record { line = []; size = 0; stage = stage }
 
 -- A turn that lists a message. "A refusal .. ends the run."
-abbrev pub tells : ℕ → HeaderRead → Turn
+abbrev pub tells : ℕ → Result FoundHeader ℕ → Turn
 tells size answer = record { line = line_of answer size; size = size; stage = cond (is_refused answer) Over Going }
 
 -- The turn by what the rest of the stream begins with.

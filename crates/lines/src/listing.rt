@@ -4,12 +4,13 @@ ghost use Rattle.std.specs.Prelude.{◌≡◌, ◌+◌, ◌^◌, ◌≤◌, ◌<
 ghost use Rattle.std.proofs.lemmas.List.Edits.{sets};
 ghost use Rattle.wire.specs.Reader.{read_header};
 ghost use Rattle.lines.specs.Text.{put, put_end};
-ghost use Rattle.lines.specs.Listing.{header_line, line_of, is_refused, stops, tells, turn_at, turned, list, listed};
+ghost use Rattle.lines.specs.Listing.{header_line, line_of, stops, tells, turn_at, turned, list, listed};
 
 use super::stream::{Next, ahead};
 use super::text::{put_field, put_name};
 use octets::bounds::lacks;
-use wire::header::{Header, HeaderRead, read_header};
+use wire::header::{FoundHeader, Header, read_header};
+use wire::refusals::Refused;
 
 // The room that a line needs in the output.
 pub const LINE: usize = 64;
@@ -30,7 +31,12 @@ fn put_header(header: Header, size: u16, out: &mut [u8], at: usize) -> usize
 // Puts the line of a message of n bytes at a place, and answers the place after it; where there is less room than a line
 // needs, nothing is put and the place itself is the answer.
 #[tactic(auto, unfolding(crate::specs::Listing::line_of, crate::specs::Text::put, crate::specs::Text::put_end))]
-pub fn put_line(answer: HeaderRead, size: u16, out: &mut [u8], at: usize) -> usize
+pub fn put_line(
+    answer: Result<FoundHeader, Refused>,
+    size: u16,
+    out: &mut [u8],
+    at: usize,
+) -> usize
     ensures value { result ≡ put_end 64 at (line_of answer size) out.old }
     ensures new_out { out.new ≡ put 64 at (line_of answer size) out.old }
 {
@@ -38,18 +44,8 @@ pub fn put_line(answer: HeaderRead, size: u16, out: &mut [u8], at: usize) -> usi
         return at;
     }
     match answer {
-        HeaderRead::Refused(number) => put_name(b"refused ", number as u32, out, at),
-        HeaderRead::Read(found) => put_header(found.header, size, out, at),
-    }
-}
-
-// Whether a message was refused.
-pub fn is_refused(answer: HeaderRead) -> bool
-    ensures { result ≡ is_refused answer }
-{
-    match answer {
-        HeaderRead::Refused(_) => true,
-        HeaderRead::Read(_) => false,
+        Err(refused) => put_name(b"refused ", u32::from(refused.number()), out, at),
+        Ok(found) => put_header(found.header, size, out, at),
     }
 }
 
@@ -94,7 +90,7 @@ impl Listed {
         Listed {
             read: self.read + size as usize,
             written: put_line(answer, size, out, self.written),
-            stage: if is_refused(answer) {
+            stage: if answer.is_err() {
                 Stage::Over
             } else {
                 Stage::Going

@@ -9,7 +9,7 @@ use Rattle.seal.specs.Opening.{open_refusal, opened_into}
 use Rattle.seal.proofs.Accepted.{opened-held}
 use Rattle.message.specs.Handed.{part_of, payload}
 use Rattle.message.specs.Reading.{opened, in_message, in_working, working_after}
-use Rattle.message.specs.declared.reading.MessageRead.TheVariants.{Read}
+use Rattle.std.specs.Prelude.{Ok}
 use Rattle.message.specs.Widths.{InWidth}
 use Rattle.message.specs.Writing.{write_refusal, message_bytes}
 use Rattle.message.proofs.WrittenLengths.{plain-is, length-message_bytes}
@@ -17,7 +17,7 @@ use Rattle.message.proofs.WrittenBack.{found_at, payload-plain, sealed-back}
 
 -- A sealed part that was opened into the working buffer.
 pub handed-opened : (keys m : List ℕ) (start : ℕ) (working : List ℕ) → open_refusal keys m start (length working) ≡ 0
-    → (h : Header) → payload m (opened_into keys m start working) (Read (in_working h (be32 (opened m keys start) 0))) ≡ payload_of (opened m keys start)
+    → (h : Header) → payload m (opened_into keys m start working) (Ok (in_working h (be32 (opened m keys start) 0))) ≡ payload_of (opened m keys start)
 unfolding payload part_of
 handed-opened keys m start working e h = let held = opened-held keys m start working e in rw (le-ltb _ _ held.fits) held.payload
 
@@ -25,7 +25,7 @@ handed-opened keys m start working e h = let held = opened-held keys m start wor
 module _ (h : Header) (chain bytes keys working : List ℕ) (space : ℕ) (good : write_refusal h chain bytes (length keys) space ≡ 0) where
   pub handed-plain : is_sealed h.flags ≡ false
       → payload (message_bytes h chain bytes keys) (working_after (message_bytes h chain bytes keys) keys working)
-      (Read (in_message (found_at h (40 + length chain) (length bytes)))) ≡ bytes
+      (Ok (in_message (found_at h (40 + length chain) (length bytes)))) ≡ bytes
   unfolding payload part_of
   handed-plain plain =
       let number = (plain-is h chain bytes keys plain).1 in
@@ -35,7 +35,7 @@ module _ (h : Header) (chain bytes keys working : List ℕ) (space : ℕ) (good 
 
   pub handed-sealed : is_sealed h.flags ≡ true → AreBytes keys → AreBytes chain → AreBytes bytes → InWidth h
       → sealed_size (length bytes) ≤ length working
-      → payload (message_bytes h chain bytes keys) (working_after (message_bytes h chain bytes keys) keys working) (Read (in_working h (length bytes)))
+      → payload (message_bytes h chain bytes keys) (working_after (message_bytes h chain bytes keys) keys working) (Ok (in_working h (length bytes)))
       ≡ bytes
   unfolding working_after
   handed-sealed sealed of-keys of-chain of-bytes widths fits =

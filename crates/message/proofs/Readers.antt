@@ -1,20 +1,23 @@
 -- SPDX-License-Identifier: MPL-2.0
 -- The way through the reader of a sealed message: opened or not, and the payload judged in the working buffer.
-use Rattle.laws.proofs.Kit.{ℕ, ◌+◌, ◌-◌, ◌%◌, ◌≤◌, ◌≡◌, sym, ◌∙◌, true, false, List, length, take, drop, length-take, length-drop, eqb-true, ne_eqb}
+use Rattle.laws.proofs.Kit.{ℕ, ◌+◌, ◌-◌, ◌%◌, ◌≤◌, ◌≡◌, ◌∙◌, ap, Bool, true, false, cond, List, length, take, drop, length-take, length-drop, eqb-true, ne_eqb}
 use Rattle.laws.proofs.Kit.{length-append, eqb, not-false, add-sub_cancel_left, arith}
 use Rattle.laws.specs.Bytes.{be32}
-use Rattle.laws.specs.Rows.{first}
+use Rattle.std.specs.Prelude.{Result, Ok, Err}
+use Rattle.laws.specs.Rows.{first, unless}
 use Rattle.laws.proofs.Bools.{or-false}
 use Rattle.laws.proofs.Cases.{on}
+use Rattle.laws.proofs.Refusals.{passed, refused}
+use Rattle.wire.specs.Refusals.{wrong_payload}
 use Rattle.wire.specs.declared.header.FoundHeader.{FoundHeader}
+use Rattle.payloads.specs.Shapes.{bad_payload}
 use Rattle.aes.proofs.Chain.{cbc_decrypt-length}
 use Rattle.seal.specs.Padding.{sealed_size, bad_plain}
 use Rattle.seal.specs.Opening.{sealed_part, plain_of, open_refusal, into_unless, opened_into}
 use Rattle.seal.proofs.Accepted.{accepted, Held, opened-held}
 use Rattle.seal.proofs.Padded.{sizes}
-use Rattle.message.specs.Reading.{opened, unless, payload_rows, in_working, sealed_read}
-use Rattle.message.specs.declared.reading.MessageRead.{MessageRead}
-use Rattle.message.specs.declared.reading.MessageRead.TheVariants.{Refused, Read}
+use Rattle.message.specs.Reading.{opened, payload_rows, in_working, sealed_read}
+use Rattle.message.specs.declared.reading.FoundMessage.{FoundMessage}
 
 -- A payload that was opened lies in the working buffer: the sealed part does, it is as long as what was opened, and that holds the payload.
 part-long : (m : List ℕ) (start size : ℕ) → start + size + 32 ≡ length m → length (sealed_part m start) ≡ size
@@ -51,18 +54,20 @@ length-opened m keys start size working spans blocks =
     rw (z, length-append, length-drop) (omega (arith, a.roomy)))
     (λ z. rw z)
 
-pub not_opened : (m keys : List ℕ) (f : FoundHeader) (room : ℕ) {n : ℕ} → n ≡ open_refusal keys m f.start room → (n ≡ 0 → ⊥)
-    → Refused n ≡ sealed_read m keys f room
+pub not_opened : (m keys : List ℕ) (f : FoundHeader) (room : ℕ) {n : ℕ} → Err n ≡ unless {A = Unit {0}} (open_refusal keys m f.start room) tt
+    → Err n ≡ sealed_read m keys f room
 unfolding sealed_read
-not_opened m keys f room {n} e z = rw (← e, ne_eqb n 0 z, ne_eqb n 0 z)
+not_opened m keys f room e =
+    let w = refused (open_refusal keys m f.start room) _ e in
+    rw (ne_eqb (open_refusal keys m f.start room) 0 w.1, ne_eqb (open_refusal keys m f.start room) 0 w.1) (ap Err w.0)
 
-module _ (m keys : List ℕ) (f : FoundHeader) (working : List ℕ) {after : List ℕ} {n : ℕ}
-    (e : n ≡ open_refusal keys m f.start (length working)) (is : after ≡ opened_into keys m f.start working) (z : n ≡ 0) where
+module _ (m keys : List ℕ) (f : FoundHeader) (working : List ℕ) {after : List ℕ}
+    (e : Ok tt ≡ unless {A = Unit {0}} (open_refusal keys m f.start (length working)) tt) (is : after ≡ opened_into keys m f.start working) where
   pub is_held : Held (opened m keys f.start) after
-  is_held = rw is (opened-held keys m f.start working (sym e ∙ z))
+  is_held = rw is (opened-held keys m f.start working (passed _ _ e))
 
-  pub judged : {size k : ℕ} {r : MessageRead} → size ≡ be32 after 0
-      → k ≡ first (payload_rows f.header.kind true (take (4 + size - 4) (drop 4 after)))
-      → r ≡ unless k (Read (in_working f.header size)) → r ≡ sealed_read m keys f (length working)
+  pub judged : {size : ℕ} {bad : Bool} {r : Result FoundMessage ℕ} → size ≡ be32 after 0
+      → bad ≡ bad_payload f.header.kind true (take (4 + size - 4) (drop 4 after))
+      → r ≡ unless (cond bad wrong_payload 0) (in_working f.header size) → r ≡ sealed_read m keys f (length working)
   unfolding sealed_read
-  judged told shape p = p ∙ rw (← e, z, shape, add-sub_cancel_left, told ∙ is_held.told, is_held.payload)
+  judged told shape p = p ∙ rw (passed _ _ e, shape, add-sub_cancel_left, told ∙ is_held.told, is_held.payload)

@@ -8,7 +8,7 @@ use Rattle.wire.specs.Fields.{is_sealed, tag_size}
 use Rattle.wire.specs.Reader.{read_header}
 use Rattle.wire.specs.declared.header.Header.{Header}
 use Rattle.wire.specs.declared.header.FoundHeader.{FoundHeader}
-use Rattle.wire.specs.declared.header.HeaderRead.TheVariants as head
+use Rattle.std.specs.Prelude.{Ok}
 use Rattle.wire.proofs.Sound.{sealed-tag, plain-tag}
 use Rattle.writer.specs.Header.{header_bytes}
 use Rattle.writer.proofs.ReadBack.{read_back}
@@ -21,7 +21,6 @@ use Rattle.seal.specs.Sealed.{sealed_body}
 use Rattle.seal.proofs.Padded.{sizes, told-plain_text, payload-plain_text}
 use Rattle.seal.proofs.Seals.{length-tag}
 use Rattle.seal.proofs.Unsealed.{in_parts, length_part, opened-back, opens_back}
-use Rattle.message.specs.declared.reading.MessageRead.TheVariants.{Read}
 use Rattle.message.specs.Reading.{opened, in_message, in_working, plain_read, sealed_read, read_message}
 use Rattle.message.specs.Widths.{InWidth}
 use Rattle.message.specs.Writing.{length_of, write_refusal, before_payload, message_bytes}
@@ -48,7 +47,7 @@ found_at h start size = record { header = h; start = start; size = size }
 
 -- A sealed message that was written, as the reader finds it.
 pub record SealedBack (h : Header) (chain payload keys : List ℕ) (room : ℕ) : Type 0 where
-  pub header : read_header (message_bytes h chain payload keys) ≡ head.Read (found_at h (40 + length chain) (sealed_size (length payload)))
+  pub header : read_header (message_bytes h chain payload keys) ≡ Ok (found_at h (40 + length chain) (sealed_size (length payload)))
   pub opens : sealed_size (length payload) ≤ room → open_refusal keys (message_bytes h chain payload keys) (40 + length chain) room ≡ 0
   pub told : be32 (opened (message_bytes h chain payload keys) keys (40 + length chain)) 0 ≡ length payload
   pub handed : payload_of (opened (message_bytes h chain payload keys) keys (40 + length chain)) ≡ payload
@@ -66,7 +65,7 @@ module _ (h : Header) (chain payload keys : List ℕ) (room space : ℕ) (good :
   -- The header of a message that ends in this body and this tag.
   header-back : (body tag : List ℕ) → message_bytes h chain payload keys ≡ before ++ (body ++ tag) → length tag ≡ tag_size h.flags
       → (is_sealed h.flags ≡ true → (length body % 16 ≡ 0) × (1 ≤ length body))
-      → read_header (message_bytes h chain payload keys) ≡ head.Read (found_at h start (length body))
+      → read_header (message_bytes h chain payload keys) ≡ Ok (found_at h start (length body))
   header-back body tag bytes tagged blocks =
       let long = simp length-append at (ap length bytes) in
       let n : length_of h chain payload ≡ 40 + length chain + length body + length tag =
@@ -77,7 +76,7 @@ module _ (h : Header) (chain payload keys : List ℕ) (room space : ℕ) (good :
 
   -- A plain message.
   module _ (plain : is_sealed h.flags ≡ false) where
-    plain-header : read_header (message_bytes h chain payload keys) ≡ head.Read (found_at h start (length payload))
+    plain-header : read_header (message_bytes h chain payload keys) ≡ Ok (found_at h start (length payload))
     plain-header =
         header-back payload [] (rw append-nil (plain-is h chain payload keys plain).0) (sym (plain-tag h.kind h.flags a.flags plain))
         (λ s. absurd (true≢false (sym s ∙ plain)))
@@ -86,7 +85,7 @@ module _ (h : Header) (chain payload keys : List ℕ) (room space : ℕ) (good :
     pub payload-plain : take (length payload) (drop (40 + length chain) (message_bytes h chain payload keys)) ≡ payload
     payload-plain = rw ((plain-is h chain payload keys plain).0, drop_at before payload start (length_before h chain payload)) (take-length payload)
 
-    pub read_plain : read_message (message_bytes h chain payload keys) keys room ≡ Read (in_message (found_at h (40 + length chain) (length payload)))
+    pub read_plain : read_message (message_bytes h chain payload keys) keys room ≡ Ok (in_message (found_at h (40 + length chain) (length payload)))
     unfolding read_message plain_read
     read_plain = rw (plain-header, plain, payload-plain, rw plain at a.shaped)
 
@@ -119,7 +118,7 @@ module _ (h : Header) (chain payload keys : List ℕ) (room space : ℕ) (good :
         }
 
     pub read-sealed : sealed_size (length payload) ≤ room
-        → read_message (message_bytes h chain payload keys) keys room ≡ Read (in_working h (length payload))
+        → read_message (message_bytes h chain payload keys) keys room ≡ Ok (in_working h (length payload))
     unfolding read_message sealed_read
     read-sealed fits =
         let b = sealed-back in

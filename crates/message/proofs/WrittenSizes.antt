@@ -9,9 +9,9 @@ use Rattle.wire.specs.Fields.{bad_type}
 use Rattle.wire.specs.Chain.{entry_of, follow, chain, read_chain, most_entries, leaves, is_broken, bad_chain}
 use Rattle.payloads.specs.Shapes.{bad_payload}
 use Rattle.payloads.proofs.Shaped.{shaped-short}
-use Rattle.wire.specs.declared.chain.Chain.{Chain}
+use Rattle.std.specs.Prelude.{Option, None}
+use Rattle.wire.specs.declared.chain.FoundChain.{FoundChain}
 use Rattle.wire.specs.declared.chain.Entry.{Entry}
-use Rattle.wire.specs.declared.chain.Chain.TheVariants.{Broken}
 use Rattle.wire.specs.declared.chain.Entry.TheVariants.{End, Spans, Wrong}
 use Rattle.laws.proofs.ByteLists.{drop-bytes}
 
@@ -32,7 +32,7 @@ entry-few m w =
     (either (eqb (be8 m 0) 0) _ _ (either (eqb (be8 m 1) 0) _ _ tt tt)
     (either (ltb 3 (be8 m 0)) _ _ tt (either (ltb (length m) (2 + be8 m 1)) _ _ tt (omega (arith, w.at 1)))))
 
-followed : (k : ℕ) (m : List ℕ) (e : Entry) (next : List ℕ → Chain) → 2 ≤ k → spans_few e
+followed : (k : ℕ) (m : List ℕ) (e : Entry) (next : List ℕ → Option FoundChain) → 2 ≤ k → spans_few e
     → ((n : ℕ) → n ≤ 257 → is_broken (next (drop n m)) ≡ false → length m ≤ leaves (next (drop n m)) + k)
     → is_broken (follow e m next) ≡ false → length m ≤ leaves (follow e m next) + k
 followed k m Wrong next two s h b = absurd (true≢false b)
@@ -41,7 +41,7 @@ followed k m (Spans n) next two s h b = h n s b
 
 chain-few : (left : ℕ) (m : List ℕ) → AreBytes m → is_broken (chain left m) ≡ false → length m ≤ leaves (chain left m) + (257 * left + 2)
 unfolding chain
-chain-few zero m w b = followed 2 m (entry_of m) (λ rest. Broken) (omega arith) (entry-few m w) (λ n s p. absurd (true≢false p)) b
+chain-few zero m w b = followed 2 m (entry_of m) (λ rest. None) (omega arith) (entry-few m w) (λ n s p. absurd (true≢false p)) b
 chain-few (suc left) m w b =
     followed (257 * suc left + 2) m (entry_of m) (chain left) (omega arith) (entry-few m w)
     (λ n s p. omega (arith, chain-few left (drop n m) (drop-bytes n m w) p, length-drop n m)) b

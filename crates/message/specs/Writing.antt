@@ -1,16 +1,14 @@
 -- SPDX-License-Identifier: MPL-2.0
 -- The writer of messages: "5, 6, 7, 8 (a chain given with bytes after its end too), 10 if sealed, 14, 20 (Session payload over 16,384), 22, in that
 -- order"; the bytes of the message, and what the output then holds.
-use Rattle.std.specs.Prelude.{ℕ, ◌+◌, List, [], ◌∷◌, ◌++◌, Bool, cond, not, ◌&&◌, length, drop, ltb, eqb}
-use Rattle.laws.specs.Rows.{first}
+use Rattle.std.specs.Prelude.{ℕ, ◌+◌, List, [], ◌∷◌, ◌++◌, Bool, cond, not, ◌&&◌, length, drop, ltb, eqb, Result}
+use Rattle.laws.specs.Rows.{first, unless}
 use Rattle.wire.specs.Refusals.{wrong_type, wrong_flags, wrong_piece, wrong_chain, wrong_keys, wrong_payload, wrong_piece_size, no_room}
 use Rattle.wire.specs.Fields.{bad_type, bad_flags, bad_piece, is_sealed}
 use Rattle.wire.specs.Chain.{bad_chain}
 use Rattle.payloads.specs.Shapes.{bad_payload}
 use Rattle.writer.specs.Header.{header_bytes}
 use Rattle.wire.specs.declared.header.Header.{Header}
-use Rattle.writer.specs.declared.Written.{Written}
-use Rattle.writer.specs.declared.Written.TheVariants.{Refused, Bytes}
 use Rattle.seal.specs.Padding.{sealed_size}
 use Rattle.seal.specs.Sealed.{sealed_message}
 
@@ -67,8 +65,8 @@ module _ (h : Header) (chain payload : List ℕ) where
   message_bytes keys = cond (is_sealed h.flags) (sealed_message keys before_payload payload) (before_payload ++ payload)
 
   -- "A success answers the message's length".
-  unfoldable pub write_answer : (keys room : ℕ) → Written
-  write_answer keys room = cond (eqb (write_refusal keys room) 0) (Bytes length_of) (Refused (write_refusal keys room))
+  unfoldable pub write_answer : (keys room : ℕ) → Result ℕ ℕ
+  write_answer keys room = unless (write_refusal keys room) length_of
 
   -- "a refusal leaves the output as it was. A success … leaves the output beyond it unchanged."
   unfoldable pub written_into : (keys out : List ℕ) → List ℕ

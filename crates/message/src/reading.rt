@@ -1,15 +1,13 @@
 // SPDX-License-Identifier: MPL-2.0
 // Reading a message: the header and its chain (1 to 9), a sealed part opened into the working buffer (10 to 13), the payload's shape (14).
 ghost use Rattle.std.specs.Prelude.{◌≡◌, ◌+◌, ◌≤◌, length};
-ghost use Rattle.laws.specs.Rows.{first};
-ghost use Rattle.message.specs.Reading.{payload_rows, plain_read, sealed_read, read_message, working_after};
+ghost use Rattle.message.specs.Reading.{plain_read, sealed_read, read_message, working_after};
 ghost use Rattle.seal.specs.Opening.{opened_into};
 
 use octets::numbers::number32;
 use payloads::shapes::bad_payload;
-use rows::next;
-use wire::header::{FoundHeader, Header, HeaderRead, is_sealed, read_header};
-use wire::refusals::WRONG_PAYLOAD;
+use wire::header::{FoundHeader, Header, is_sealed, read_header};
+use wire::refusals::{Refusal, Refused};
 
 // What is found in a message: the header, and where the payload lies, in the message or, if it was sealed, in the working buffer.
 #[derive(Clone, Copy)]
@@ -20,33 +18,16 @@ pub struct FoundMessage {
     pub size: usize,
 }
 
-// What reading answers: a refusal by its number, or what was found.
-#[derive(Clone, Copy)]
-pub enum MessageRead {
-    Refused(u8),
-    Read(FoundMessage),
-}
-
-// The number of the first refusal that applies to a payload, 14, or 0.
-fn bad_shape(kind: u8, sealed: bool, payload: &[u8]) -> u8
-    ensures { result ≡ first (payload_rows kind sealed payload.now) }
-{
-    next(0, WRONG_PAYLOAD, bad_payload(kind, sealed, payload))
-}
-
 // A plain payload, where it stands in the message.
-fn read_plain(message: &[u8], found: FoundHeader) -> MessageRead
+fn read_plain(message: &[u8], found: FoundHeader) -> Result<FoundMessage, Refused>
     requires { found.start + found.size ≤ length message.now }
     ensures { result ≡ plain_read message.now found }
 {
     let start = found.start;
     let end = start + found.size;
     let header = found.header;
-    let n = bad_shape(header.kind, false, &message[start..end]);
-    if n != 0 {
-        return MessageRead::Refused(n);
-    }
-    MessageRead::Read(FoundMessage {
+    Refusal::WrongPayload.when(bad_payload(header.kind, false, &message[start..end]))?;
+    Ok(FoundMessage {
         header,
         sealed: false,
         from: start,
@@ -55,22 +36,21 @@ fn read_plain(message: &[u8], found: FoundHeader) -> MessageRead
 }
 
 // A sealed payload: the sealed part is opened into the working buffer, and the payload stands after its size.
-fn read_sealed(message: &[u8], keys: &[u8], found: FoundHeader, working: &mut [u8]) -> MessageRead
+fn read_sealed(
+    message: &[u8],
+    keys: &[u8],
+    found: FoundHeader,
+    working: &mut [u8],
+) -> Result<FoundMessage, Refused>
     ensures value { result ≡ sealed_read message.now keys.now found (length working.old) }
     ensures new_working { working.new ≡ opened_into keys.now message.now found.start working.old }
 {
-    let n = seal::opening::open(keys, message, found.start, working);
-    if n != 0 {
-        return MessageRead::Refused(n);
-    }
+    seal::opening::open(keys, message, found.start, working)?;
     let header = found.header;
     let size = number32(working, 0) as usize;
     let end = 4 + size;
-    let n = bad_shape(header.kind, true, &working[4..end]);
-    if n != 0 {
-        return MessageRead::Refused(n);
-    }
-    MessageRead::Read(FoundMessage {
+    Refusal::WrongPayload.when(bad_payload(header.kind, true, &working[4..end]))?;
+    Ok(FoundMessage {
         header,
         sealed: true,
         from: 4,
@@ -80,17 +60,17 @@ fn read_sealed(message: &[u8], keys: &[u8], found: FoundHeader, working: &mut [u
 
 // Reads a message. The working buffer is left alone by a plain message and by refusals 1 to 13; after a sealed message got past 13 its first
 // bytes hold the opened sealed part.
-pub fn read(message: &[u8], keys: &[u8], working: &mut [u8]) -> MessageRead
+pub fn read(
+    message: &[u8],
+    keys: &[u8],
+    working: &mut [u8],
+) -> Result<FoundMessage, Refused>
     ensures value { result ≡ read_message message.now keys.now (length working.old) }
     ensures new_working { working.new ≡ working_after message.now keys.now working.old }
 {
-    match read_header(message) {
-        HeaderRead::Refused(n) => MessageRead::Refused(n),
-        HeaderRead::Read(found) => {
-            if is_sealed(found.header.flags) {
-                return read_sealed(message, keys, found, working);
-            }
-            read_plain(message, found)
-        }
+    let found = read_header(message)?;
+    if is_sealed(found.header.flags) {
+        return read_sealed(message, keys, found, working);
     }
+    read_plain(message, found)
 }

@@ -6,18 +6,12 @@ ghost use Rattle.std.specs.Prelude.{◌≡◌, ◌+◌, min, ltb};
 pub fn lesser(a: usize, b: usize) -> usize
     ensures { result ≡ min a b }
 {
-    if a < b {
-        return a;
-    }
-    b
+    a.min(b)
 }
 
 // Whether `need` bytes from a place on reach past a length. The sum is not formed, since it might not fit.
 pub fn lacks(length: usize, at: usize, need: usize) -> bool
     ensures { result ≡ ltb length (at + need) }
 {
-    if length < at {
-        return true;
-    }
-    length - at < need
+    length < at || length - at < need
 }

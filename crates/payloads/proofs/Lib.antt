@@ -5,3 +5,4 @@ pub mod Entries
 pub mod Formats
 pub mod TypedBytes
 pub mod Shaped
+pub mod ByKind

@@ -1,6 +1,7 @@
 -- SPDX-License-Identifier: MPL-2.0
 -- A Connect payload taken apart: which of the six it is, and where in it what it says stands.
-use Rattle.std.specs.Prelude.{ℕ, List, Bool, true, false, cond, ◌&&◌, ◌||◌, eqb}
+use Rattle.std.specs.Result.{result_unwrap_or}
+use Rattle.std.specs.Prelude.{ℕ, List, Bool, true, false, cond, ◌&&◌, ◌||◌, eqb, Result, Ok, Err}
 use Rattle.wire.specs.Refusals.{wrong_payload}
 use Rattle.payloads.specs.Shapes.{either, bad_payload}
 use Rattle.payloads.specs.Reading.{connection_mode, connect_type, code_of, certificate_of, thumbprint_of}
@@ -15,11 +16,10 @@ nowhere = record { from = 0; size = 0 }
 abbrev pub span_if : Bool → Span → Span
 span_if there span = cond there span nowhere
 
--- Beside a refusal every number is 0, and every part the empty one at the payload's start.
-abbrev pub no_connect : ℕ → FoundConnect
-no_connect n =
+-- What stands beside a refusal: every number is 0, and every part the empty one at the payload's start.
+abbrev pub nothing_connect : FoundConnect
+nothing_connect =
     record {
-      refusal = n;
       connect = 0;
       mode = 0;
       code = 0;
@@ -51,7 +51,6 @@ has_code connect = either 1 7 connect
 abbrev pub said_connect : (connect mode code : ℕ) → (certificate thumbprint : Span) → FoundConnect
 said_connect connect mode code certificate thumbprint =
     record {
-      refusal = 0;
       connect = connect;
       mode = mode;
       code = cond (has_code connect) code 0;
@@ -63,7 +62,11 @@ said_connect connect mode code certificate thumbprint =
     }
 
 -- A Connect payload taken apart, or refused with 14.
-unfoldable pub read_connect : List ℕ → FoundConnect
+unfoldable pub read_connect : List ℕ → Result FoundConnect ℕ
 read_connect p =
-    cond (not_connect p) (no_connect wrong_payload)
-    (said_connect (connect_type p) (connection_mode p) (code_of p) (certificate_of p) (thumbprint_of p))
+    cond (not_connect p) (Err wrong_payload)
+    (Ok (said_connect (connect_type p) (connection_mode p) (code_of p) (certificate_of p) (thumbprint_of p)))
+
+-- What an answer says: a refusal says nothing.
+abbrev pub connect_told : Result FoundConnect ℕ → FoundConnect
+connect_told answer = result_unwrap_or answer nothing_connect

@@ -1,6 +1,7 @@
 -- SPDX-License-Identifier: MPL-2.0
 pub mod Entries
 pub mod Format
+pub mod Types
 pub mod Typed
 pub mod Shapes
 pub mod Reading

@@ -1,27 +1,36 @@
 // SPDX-License-Identifier: MPL-2.0
 // A Connect payload taken apart: which of the six it is, and where in it what it says stands.
-ghost use Rattle.std.specs.Prelude.{◌≡◌, cond};
-ghost use Rattle.payloads.specs.Connect.{nowhere, span_if, no_connect, not_connect, said_connect, read_connect};
+ghost use Rattle.std.specs.Prelude.{◌≡◌};
+ghost use Rattle.payloads.specs.Reading.{connection_mode, connect_type, code_of, certificate_of, thumbprint_of};
+ghost use Rattle.payloads.specs.Connect.{nothing_connect, not_connect, said_connect, read_connect};
 
 use crate::reading::{Span, certificate_of, code_of, connect_type, connection_mode, thumbprint_of};
 use crate::shapes::bad_payload;
-use crate::{
-    CONNECTION_REQUEST, CONNECTION_RESPONSE, DEVICE_REQUEST, DEVICE_RESPONSE, DONE_RESPONSE,
-    KEY_SIZE, NONCE_AT, PENDING, X_AT, Y_AT,
-};
+use crate::types::ConnectType;
+use crate::{KEY_SIZE, NONCE_AT, PENDING, X_AT, Y_AT};
 use wire::header::CONNECT;
-use wire::refusals::WRONG_PAYLOAD;
+use wire::refusals::{Refusal, Refused};
 
-// The bytes of a nonce, and of X and of Y.
-const NONCE: usize = 8;
+// Where nonce, X and Y lie in a payload that has them.
+const NONCE: Span = Span {
+    from: NONCE_AT,
+    size: 8,
+};
 
-const COORDINATE: usize = KEY_SIZE as usize;
+const X: Span = Span {
+    from: X_AT,
+    size: KEY_SIZE as usize,
+};
 
-// What a Connect payload says: its type and mode, its Result or Status, and the places of its parts. What its type has not is 0, and so is
-// everything beside a refusal.
-#[derive(Clone, Copy)]
+const Y: Span = Span {
+    from: Y_AT,
+    size: KEY_SIZE as usize,
+};
+
+// What a Connect payload says: its type and mode, its Result or Status, and the places of its parts. What its type has not is 0. The type is
+// the number that `ConnectBack` speaks of.
+#[derive(Clone, Copy, Default)]
 pub struct FoundConnect {
-    pub refusal: u8,
     pub connect: u8,
     pub mode: u16,
     pub code: u8,
@@ -32,45 +41,12 @@ pub struct FoundConnect {
     pub thumbprint: Span,
 }
 
-// The empty place at the payload's start.
-fn nowhere() -> Span
-    ensures { result ≡ nowhere }
-{
-    Span { from: 0, size: 0 }
-}
-
-// A place where there is one.
-fn span_if(there: bool, span: Span) -> Span
-    ensures { result ≡ span_if there span }
-{
-    if there {
-        return span;
-    }
-    nowhere()
-}
-
-// A number where there is one.
-fn code_if(there: bool, code: u8) -> u8
-    ensures { result ≡ cond there code 0 }
-{
-    if there { code } else { 0 }
-}
-
-// What is read of a payload that is no Connect payload.
-fn no_connect(refusal: u8) -> FoundConnect
-    ensures { result ≡ no_connect refusal }
-{
-    let part = nowhere();
-    FoundConnect {
-        refusal,
-        connect: 0,
-        mode: 0,
-        code: 0,
-        nonce: part,
-        x: part,
-        y: part,
-        certificate: part,
-        thumbprint: part,
+impl FoundConnect {
+    // What stands beside a refusal: all is 0.
+    pub fn nothing() -> FoundConnect
+        ensures { result ≡ nothing_connect }
+    {
+        FoundConnect::default()
     }
 }
 
@@ -81,64 +57,47 @@ fn not_connect(p: &[u8]) -> bool
     bad_payload(CONNECT, false, p) & bad_payload(CONNECT, true, p)
 }
 
-// What a Connect payload of this type says: only what the type has.
-fn said_connect(
-    connect: u8,
-    mode: u16,
-    code: u8,
-    certificate: Span,
-    thumbprint: Span,
-) -> FoundConnect
-    ensures { result ≡ said_connect connect mode code certificate thumbprint }
+// What a Connect payload says: only what its type has.
+fn said_connect(p: &[u8]) -> FoundConnect
+    ensures { result ≡ said_connect (connect_type p.now) (connection_mode p.now) (code_of p.now) (certificate_of p.now) (thumbprint_of p.now) }
 {
-    let exchange = (connect == CONNECTION_REQUEST)
-        | ((connect == CONNECTION_RESPONSE) & (code == PENDING));
-    let shown = (connect == DEVICE_REQUEST) | (connect == DEVICE_RESPONSE);
-    let coded = (connect == CONNECTION_RESPONSE) | (connect == DONE_RESPONSE);
-    FoundConnect {
-        refusal: 0,
-        connect,
-        mode,
-        code: code_if(coded, code),
-        nonce: span_if(
-            exchange,
-            Span {
-                from: NONCE_AT,
-                size: NONCE,
-            },
-        ),
-        x: span_if(
-            exchange,
-            Span {
-                from: X_AT,
-                size: COORDINATE,
-            },
-        ),
-        y: span_if(
-            exchange,
-            Span {
-                from: Y_AT,
-                size: COORDINATE,
-            },
-        ),
-        certificate: span_if(shown, certificate),
-        thumbprint: span_if(shown, thumbprint),
+    let said = FoundConnect {
+        connect: connect_type(p),
+        mode: connection_mode(p),
+        ..FoundConnect::default()
+    };
+    let code = code_of(p);
+    match ConnectType::try_from(said.connect) {
+        Ok(ConnectType::ConnectionRequest) => FoundConnect {
+            nonce: NONCE,
+            x: X,
+            y: Y,
+            ..said
+        },
+        Ok(ConnectType::ConnectionResponse) if code == PENDING => FoundConnect {
+            code,
+            nonce: NONCE,
+            x: X,
+            y: Y,
+            ..said
+        },
+        Ok(ConnectType::ConnectionResponse | ConnectType::DoneResponse) => {
+            FoundConnect { code, ..said }
+        }
+        Ok(ConnectType::DeviceRequest | ConnectType::DeviceResponse) => FoundConnect {
+            certificate: certificate_of(p),
+            thumbprint: thumbprint_of(p),
+            ..said
+        },
+        Ok(ConnectType::DoneRequest) | Err(_) => said,
     }
 }
 
 // Takes a Connect payload apart, or refuses with 14 what is none.
 #[tactic(auto, unfolding(crate::specs::Connect::read_connect))]
-pub fn read_connect(payload: &[u8]) -> FoundConnect
+pub fn read_connect(payload: &[u8]) -> Result<FoundConnect, Refused>
     ensures { result ≡ read_connect payload.now }
 {
-    if not_connect(payload) {
-        return no_connect(WRONG_PAYLOAD);
-    }
-    said_connect(
-        connect_type(payload),
-        connection_mode(payload),
-        code_of(payload),
-        certificate_of(payload),
-        thumbprint_of(payload),
-    )
+    Refusal::WrongPayload.when(not_connect(payload))?;
+    Ok(said_connect(payload))
 }

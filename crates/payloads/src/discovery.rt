@@ -1,20 +1,20 @@
 // SPDX-License-Identifier: MPL-2.0
 // A Discovery payload taken apart: which of the two it is, and where in it what it says stands.
 ghost use Rattle.std.specs.Prelude.{◌≡◌};
-ghost use Rattle.payloads.specs.Discovery.{says_nothing, said_response, read_discovery};
+ghost use Rattle.payloads.specs.Discovery.{nothing_discovery, said_response, read_discovery};
 
 use crate::reading::Span;
 use crate::shapes::bad_payload;
-use crate::{HASH_SIZE, NAME_AT, PRESENCE_REQUEST, PRESENCE_RESPONSE, SALT_SIZE};
+use crate::types::DiscoveryType;
+use crate::{HASH_SIZE, NAME_AT, SALT_SIZE};
 use octets::numbers::{byte, number16};
 use wire::header::DISCOVERY;
-use wire::refusals::WRONG_PAYLOAD;
+use wire::refusals::{Refusal, Refused};
 
 // What a Discovery payload says: its type, and of a Presence Response mode, device type and the places of its parts. Of a Presence Request all
-// else is 0, and so is everything beside a refusal.
-#[derive(Clone, Copy)]
+// else is 0. The type is the number that `PresenceBack` speaks of.
+#[derive(Clone, Copy, Default)]
 pub struct FoundDiscovery {
-    pub refusal: u8,
     pub discovery: u8,
     pub mode: u16,
     pub device: u16,
@@ -23,19 +23,12 @@ pub struct FoundDiscovery {
     pub hash: Span,
 }
 
-// What is read of a Presence Request, with the refusal 0, and of a payload that is refused.
-fn says_nothing(refusal: u8) -> FoundDiscovery
-    ensures { result ≡ says_nothing refusal }
-{
-    let part = Span { from: 0, size: 0 };
-    FoundDiscovery {
-        refusal,
-        discovery: PRESENCE_REQUEST,
-        mode: 0,
-        device: 0,
-        name: part,
-        salt: part,
-        hash: part,
+impl FoundDiscovery {
+    // What a Presence Request says, and what stands beside a refusal: all is 0.
+    pub fn nothing() -> FoundDiscovery
+        ensures { result ≡ nothing_discovery }
+    {
+        FoundDiscovery::default()
     }
 }
 
@@ -45,8 +38,7 @@ fn said_response(mode: u16, device: u16, size: u16) -> FoundDiscovery
 {
     let n = size as usize;
     FoundDiscovery {
-        refusal: 0,
-        discovery: PRESENCE_RESPONSE,
+        discovery: DiscoveryType::PresenceResponse.number(),
         mode,
         device,
         name: Span {
@@ -66,18 +58,16 @@ fn said_response(mode: u16, device: u16, size: u16) -> FoundDiscovery
 
 // Takes a Discovery payload apart, or refuses with 14 what is none.
 #[tactic(auto, unfolding(crate::specs::Discovery::read_discovery))]
-pub fn read_discovery(payload: &[u8]) -> FoundDiscovery
+pub fn read_discovery(payload: &[u8]) -> Result<FoundDiscovery, Refused>
     ensures { result ≡ read_discovery payload.now }
 {
-    if bad_payload(DISCOVERY, false, payload) {
-        return says_nothing(WRONG_PAYLOAD);
+    Refusal::WrongPayload.when(bad_payload(DISCOVERY, false, payload))?;
+    if byte(payload, 0) == DiscoveryType::PresenceRequest.number() {
+        return Ok(FoundDiscovery::nothing());
     }
-    if byte(payload, 0) == PRESENCE_REQUEST {
-        return says_nothing(0);
-    }
-    said_response(
+    Ok(said_response(
         number16(payload, 1),
         number16(payload, 3),
         number16(payload, 5),
-    )
+    ))
 }

@@ -19,23 +19,8 @@ pub mod connect;
 pub mod discovery;
 pub mod reading;
 pub mod shapes;
+pub mod types;
 
-// Presence Request: a type of Discovery.
-pub const PRESENCE_REQUEST: u8 = 0;
-// Presence Response: a type of Discovery.
-pub const PRESENCE_RESPONSE: u8 = 1;
-// Connection Request: a type of Connect.
-pub const CONNECTION_REQUEST: u8 = 0;
-// Connection Response: a type of Connect.
-pub const CONNECTION_RESPONSE: u8 = 1;
-// Device Authentication Request: a type of Connect.
-pub const DEVICE_REQUEST: u8 = 2;
-// Device Authentication Response: a type of Connect.
-pub const DEVICE_RESPONSE: u8 = 3;
-// Authentication Done Request: a type of Connect.
-pub const DONE_REQUEST: u8 = 6;
-// Authentication Done Response: a type of Connect.
-pub const DONE_RESPONSE: u8 = 7;
 // Stands for the type, Result or Status of a payload that is too short to have one.
 pub const NONE: u8 = 255;
 

@@ -1,7 +1,9 @@
 // SPDX-License-Identifier: MPL-2.0
 // What is read out of a Connect payload.
-ghost use Rattle.std.specs.Prelude.{◌≡◌, ◌+◌, ◌<◌, ◌^◌, length, get_or};
+ghost use Rattle.std.specs.Prelude.{◌≡◌, ◌+◌, ◌<◌, ◌^◌, get_or};
+ghost use Rattle.std.specs.Option.{unwrap_or};
 ghost use Rattle.laws.specs.Bytes.{bytes_at};
+ghost use Rattle.payloads.specs.Connect.{nowhere};
 ghost use Rattle.payloads.specs.Reading.{connection_mode, connect_type, code_of, read_request, sized_at, certificate_of, thumbprint_of};
 
 use crate::{NONCE_AT, NONE, X_AT, Y_AT};
@@ -10,7 +12,7 @@ use octets::numbers::{byte, number16};
 fn byte_or_none(p: &[u8], at: usize) -> u8
     ensures { result ≡ get_or p.now at 255 }
 {
-    if at < p.len() { p[at] } else { NONE }
+    p.get(at).copied().unwrap_or(NONE)
 }
 
 // The type byte of a Connect payload, or `NONE`.
@@ -42,16 +44,12 @@ pub struct Request {
     pub y: [u8; 32],
 }
 
-// Fills `out` with the bytes of `s` from a place on.
-fn fill(s: &[u8], at: usize, out: &mut [u8])
-    requires { at + length out.old < 2 ^ 32 }
-    ensures { out.new ≡ bytes_at s.now at (length out.old) }
+// The bytes of `s` from a place on, as many as are asked for.
+fn bytes_at<const N: usize>(s: &[u8], at: usize) -> [u8; N]
+    requires { at + N < 2 ^ 32 }
+    ensures { result ≡ bytes_at s.now at N }
 {
-    let mut i = 0;
-    while i < out.len() {
-        out[i] = byte(s, at + i);
-        i += 1;
-    }
+    std::array::from_fn(|i| byte(s, at + i))
 }
 
 // What a payload has at the places of nonce, X and Y; a byte past its end counts as 0.
@@ -59,32 +57,28 @@ fn fill(s: &[u8], at: usize, out: &mut [u8])
 pub fn read_request(payload: &[u8]) -> Request
     ensures { result ≡ read_request payload.now }
 {
-    let mut nonce = [0u8; 8];
-    let mut x = [0u8; 32];
-    let mut y = [0u8; 32];
-    fill(payload, NONCE_AT, &mut nonce);
-    fill(payload, X_AT, &mut x);
-    fill(payload, Y_AT, &mut y);
-    Request { nonce, x, y }
+    Request {
+        nonce: bytes_at(payload, NONCE_AT),
+        x: bytes_at(payload, X_AT),
+        y: bytes_at(payload, Y_AT),
+    }
 }
 
-// A part of a payload: where it begins and how many bytes it has.
-#[derive(Clone, Copy)]
+// A part of a payload: where it begins and how many bytes it has. The empty part at the payload's start stands for one that is not there:
+// the promises `ConnectBack`, `ConnectLies` and `DiscoveryLies` say so (`nowhere`), and the words of `hub_read_connect` and its sister.
+#[derive(Clone, Copy, Default)]
 pub struct Span {
     pub from: usize,
     pub size: usize,
 }
 
-// Where the bytes lie whose number stands before them, at a place; where they do not lie in the payload, the empty place at its start.
-fn sized_at(p: &[u8], at: u32) -> Span
-    ensures { result ≡ sized_at p.now at }
+// Where the bytes lie whose number stands before them, at a place, if they lie in the payload.
+fn sized_at(p: &[u8], at: u32) -> Option<Span>
+    ensures { unwrap_or result nowhere ≡ sized_at p.now at }
 {
     let size = number16(p, at) as usize;
     let from = at as usize + 2;
-    if p.len() < from + size {
-        return Span { from: 0, size: 0 };
-    }
-    Span { from, size }
+    (from + size <= p.len()).then_some(Span { from, size })
 }
 
 // Where the certificate of a Device Authentication payload lies; where it does not lie in the payload, the empty place at its start.
@@ -92,7 +86,7 @@ fn sized_at(p: &[u8], at: u32) -> Span
 pub fn certificate_of(payload: &[u8]) -> Span
     ensures { result ≡ certificate_of payload.now }
 {
-    sized_at(payload, 3)
+    sized_at(payload, 3).unwrap_or_default()
 }
 
 // Where its thumbprint lies, after the certificate; where it does not lie in the payload, the empty place at its start.
@@ -100,5 +94,5 @@ pub fn certificate_of(payload: &[u8]) -> Span
 pub fn thumbprint_of(payload: &[u8]) -> Span
     ensures { result ≡ thumbprint_of payload.now }
 {
-    sized_at(payload, 5 + number16(payload, 3) as u32)
+    sized_at(payload, 5 + number16(payload, 3) as u32).unwrap_or_default()
 }

@@ -3,6 +3,7 @@
 ghost use Rattle.std.specs.Prelude.{◌≡◌, ◌&&◌, ◌||◌, leb, eqb};
 ghost use Rattle.laws.specs.Bytes.{be8, be16};
 ghost use Rattle.payloads.specs.Format.{accepts_from, accepts};
+ghost use Rattle.payloads.specs.Types.{connect_number};
 ghost use Rattle.payloads.specs.Shapes.{
   presence_request,
   exchange,
@@ -17,19 +18,19 @@ ghost use Rattle.payloads.specs.Shapes.{
   bad_payload,
 };
 
+use crate::types::{ConnectType, DiscoveryType, shows_certificate};
 use crate::{
-    CONNECTION_REQUEST, CONNECTION_RESPONSE, DEVICE_REQUEST, DEVICE_RESPONSE, DONE_REQUEST,
-    DONE_RESPONSE, EXCHANGE_SIZE, FRAGMENT_SIZE, KEY_SIZE, MOST_CERTIFICATE, MOST_NAME,
-    MOST_THUMBPRINT, PENDING, PRESENCE_REQUEST, PRESENCE_RESPONSE, PRESENCE_SIZE,
+    EXCHANGE_SIZE, FRAGMENT_SIZE, KEY_SIZE, MOST_CERTIFICATE, MOST_NAME, MOST_THUMBPRINT, PENDING,
+    PRESENCE_SIZE,
 };
 use octets::numbers::{byte, number16, number32};
 use wire::header::{CONNECT, DISCOVERY};
 
 // The mode is 0 to 2 and the type is this one.
-fn starts(connect: u8, p: &[u8]) -> bool
-    ensures { result ≡ (leb (be16 p.now 0) 2 && eqb (be8 p.now 2) connect) }
+fn starts(connect: ConnectType, p: &[u8]) -> bool
+    ensures { result ≡ (leb (be16 p.now 0) 2 && eqb (be8 p.now 2) (connect_number connect)) }
 {
-    (number16(p, 0) <= 2) & (byte(p, 2) == connect)
+    (number16(p, 0) <= 2) & (byte(p, 2) == connect.number())
 }
 
 // The fields from HMACSize on are there, and nothing after them.
@@ -47,14 +48,14 @@ fn exchanges(p: &[u8]) -> bool
 fn is_presence_request(p: &[u8]) -> bool
     ensures { result ≡ accepts presence_request p.now }
 {
-    (byte(p, 0) == PRESENCE_REQUEST) & (p.len() == 1)
+    (byte(p, 0) == DiscoveryType::PresenceRequest.number()) & (p.len() == 1)
 }
 
 // A Connection Request, on curve 0.
 fn is_connection_request(p: &[u8]) -> bool
     ensures { result ≡ accepts connection_request p.now }
 {
-    starts(CONNECTION_REQUEST, p) & ((byte(p, 3) == 0) & exchanges(p))
+    starts(ConnectType::ConnectionRequest, p) & ((byte(p, 3) == 0) & exchanges(p))
 }
 
 // A Connection Response, Pending with the fields from HMACSize on, or another Result and nothing more.
@@ -64,7 +65,7 @@ fn is_connection_response(p: &[u8]) -> bool
     let result = byte(p, 3);
     let pending = (result == PENDING) & exchanges(p);
     let other = (result <= 3) & (result != PENDING) & (p.len() == 4);
-    starts(CONNECTION_RESPONSE, p) & (pending | other)
+    starts(ConnectType::ConnectionResponse, p) & (pending | other)
 }
 
 // A Device Authentication Request or Response: certificate and thumbprint, each after its length, and nothing more.
@@ -76,7 +77,7 @@ fn is_device_authentication(p: &[u8]) -> bool
     let thumbprint = number16(p, 5 + certificate as u32);
     let size = 5 + certificate as usize + 2 + thumbprint as usize;
     (number16(p, 0) <= 2)
-        & ((connect == DEVICE_REQUEST) | (connect == DEVICE_RESPONSE))
+        & shows_certificate(connect)
         & (1 <= certificate)
         & (certificate <= MOST_CERTIFICATE)
         & (thumbprint <= MOST_THUMBPRINT)
@@ -87,14 +88,14 @@ fn is_device_authentication(p: &[u8]) -> bool
 fn is_done_request(p: &[u8]) -> bool
     ensures { result ≡ accepts done_request p.now }
 {
-    starts(DONE_REQUEST, p) & (p.len() == 3)
+    starts(ConnectType::DoneRequest, p) & (p.len() == 3)
 }
 
 // An Authentication Done Response, with a Status of 0 to 4.
 fn is_done_response(p: &[u8]) -> bool
     ensures { result ≡ accepts done_response p.now }
 {
-    starts(DONE_RESPONSE, p) & ((byte(p, 3) <= 4) & (p.len() == 4))
+    starts(ConnectType::DoneResponse, p) & ((byte(p, 3) <= 4) & (p.len() == 4))
 }
 
 // A Presence Response: name, salt and hash, and nothing more.
@@ -102,26 +103,25 @@ fn is_presence_response(p: &[u8]) -> bool
     ensures { result ≡ accepts presence_response p.now }
 {
     let name = number16(p, 5);
-    (byte(p, 0) == PRESENCE_RESPONSE)
+    (byte(p, 0) == DiscoveryType::PresenceResponse.number())
         & (number16(p, 1) <= 2)
         & (name <= MOST_NAME)
         & (p.len() == PRESENCE_SIZE + name as usize)
 }
 
 // The list of shapes: message type, plain or sealed, and the bytes.
+#[tactic(auto, using(crate::proofs::ByKind::discovery_shapes, crate::proofs::ByKind::plain_shapes, crate::proofs::ByKind::sealed_shapes, crate::proofs::ByKind::no_sealed_discovery, crate::proofs::ByKind::no_others))]
 fn is_shaped(kind: u8, sealed: bool, p: &[u8]) -> bool
     ensures { result ≡ is_shaped kind sealed p.now }
 {
-    let discovery = (kind == DISCOVERY) & !sealed;
-    let plain = (kind == CONNECT) & !sealed;
-    let secret = (kind == CONNECT) & sealed;
-    (discovery & is_presence_request(p))
-        | (plain & is_connection_request(p))
-        | (plain & is_connection_response(p))
-        | (secret & is_device_authentication(p))
-        | (secret & is_done_request(p))
-        | (secret & is_done_response(p))
-        | (discovery & is_presence_response(p))
+    match (kind, sealed) {
+        (DISCOVERY, false) => is_presence_request(p) | is_presence_response(p),
+        (CONNECT, false) => is_connection_request(p) | is_connection_response(p),
+        (CONNECT, true) => {
+            is_device_authentication(p) | is_done_request(p) | is_done_response(p)
+        }
+        _ => false,
+    }
 }
 
 // Refusal 14: a Discovery or Connect payload that has none of the shapes.
@@ -129,8 +129,5 @@ fn is_shaped(kind: u8, sealed: bool, p: &[u8]) -> bool
 pub fn bad_payload(kind: u8, sealed: bool, payload: &[u8]) -> bool
     ensures { result ≡ bad_payload kind sealed payload.now }
 {
-    if (kind == DISCOVERY) | (kind == CONNECT) {
-        return !is_shaped(kind, sealed, payload);
-    }
-    false
+    matches!(kind, DISCOVERY | CONNECT) && !is_shaped(kind, sealed, payload)
 }

@@ -15,7 +15,7 @@ use Rattle.payloads.specs.Format.{Format, ◌and◌, ends_from, holds_from, read
 use Rattle.payloads.specs.Shapes.{Shape, shapes, sealed_as, has_shape, is_shaped, bad_payload, of_type}
 use Rattle.payloads.specs.Shapes.{connection_request, pending_response, other_response, device_authentication, done_request, done_response}
 use Rattle.payloads.specs.Reading.{connection_mode, connect_type, code_of, read_request, sized_at, certificate_of, thumbprint_of}
-use Rattle.payloads.specs.Connect.{span_if, not_connect, has_exchange, has_certificate, has_code, read_connect}
+use Rattle.payloads.specs.Connect.{span_if, not_connect, has_exchange, has_certificate, has_code, read_connect, connect_told}
 use Rattle.payloads.specs.declared.reading.Request.{Request}
 use Rattle.payloads.specs.declared.reading.Span.{Span}
 use Rattle.writer.specs.Payload.{exchange_values, response_format, response_values}
@@ -25,7 +25,7 @@ use Rattle.promises.proofs.FieldsBack.{holds, ends, fields_back, values-back}
 
 -- Nonce, X and Y of a payload of 86 bytes lie where they are read from.
 exchange-named : (p : List ℕ) (r : Request) → not_connect p ≡ false → has_exchange (connect_type p) (code_of p) ≡ true → length p ≡ 86 → read_request p ≡ r
-    → NamesExchange p (read_connect p) r
+    → NamesExchange p (connect_told (read_connect p)) r
 unfolding read_connect read_request read_from
 exchange-named p r good has l e =
     rw (good, has)
@@ -47,16 +47,16 @@ sealed-good p e = rw e (and-false (bad_payload 2 false p))
 
 -- What its type has not is not named.
 module _ (p : List ℕ) (good : not_connect p ≡ false) where
-  no-exchange : has_exchange (connect_type p) (code_of p) ≡ false → NoExchange (read_connect p)
+  no-exchange : has_exchange (connect_type p) (code_of p) ≡ false → NoExchange (connect_told (read_connect p))
   unfolding read_connect
   no-exchange e = rw (good, e) (record { nonce = refl; x = refl; y = refl })
 
-  no-certificate : has_certificate (connect_type p) ≡ false → NoCertificate (read_connect p)
+  no-certificate : has_certificate (connect_type p) ≡ false → NoCertificate (connect_told (read_connect p))
   unfolding read_connect
   no-certificate e = rw (good, e) (record { certificate = refl; thumbprint = refl })
 
 request : (mode : ℕ) (r : Request) (p : List ℕ) → WrotePayload connection_request (exchange_values mode r) p
-    → Names (read_connect p) 0 mode 0 × NamesExchange p (read_connect p) r × NoCertificate (read_connect p)
+    → Names (read_connect p) 0 mode 0 × NamesExchange p (connect_told (read_connect p)) r × NoCertificate (connect_told (read_connect p))
 unfolding ends_from
 request mode r p w =
     let b = fields_back.connection-request mode r p w in
@@ -67,8 +67,8 @@ request mode r p w =
     )
 
 response : (mode result : ℕ) (r : Request) (p : List ℕ) → WrotePayload (response_format (eqb result 1)) (response_values (eqb result 1) mode result r) p
-    → Names (read_connect p) 1 mode result × (result ≡ 1 → NamesExchange p (read_connect p) r)
-    × ((result ≡ 1 → ⊥) → NoExchange (read_connect p)) × NoCertificate (read_connect p)
+    → Names (read_connect p) 1 mode result × (result ≡ 1 → NamesExchange p (connect_told (read_connect p)) r)
+    × ((result ≡ 1 → ⊥) → NoExchange (connect_told (read_connect p))) × NoCertificate (connect_told (read_connect p))
 unfolding ends_from
 response mode result r p w =
     let b = fields_back.connection-response mode result r p w in
@@ -96,8 +96,8 @@ device-apart t c = of-device (λ t. has_exchange t c ≡ false) t refl refl
 
 device : (connect mode : ℕ) (certificate thumbprint p : List ℕ)
     → WrotePayload device_authentication (mode and connect and certificate and thumbprint and tt) p
-    → Names (read_connect p) connect mode 0 × (span_of p (read_connect p).certificate ≡ certificate)
-    × (span_of p (read_connect p).thumbprint ≡ thumbprint) × NoExchange (read_connect p)
+    → Names (read_connect p) connect mode 0 × (span_of p (connect_told (read_connect p)).certificate ≡ certificate)
+    × (span_of p (connect_told (read_connect p)).thumbprint ≡ thumbprint) × NoExchange (connect_told (read_connect p))
 unfolding read_connect
 device connect mode certificate thumbprint p w =
     let b = fields_back.device-authentication connect mode certificate thumbprint p w in
@@ -111,14 +111,14 @@ device connect mode certificate thumbprint p w =
     )
 
 finish : (mode : ℕ) (p : List ℕ) → WrotePayload done_request (mode and tt) p
-    → Names (read_connect p) 6 mode 0 × NoExchange (read_connect p) × NoCertificate (read_connect p)
+    → Names (read_connect p) 6 mode 0 × NoExchange (connect_told (read_connect p)) × NoCertificate (connect_told (read_connect p))
 finish mode p w =
     let b = fields_back.done-request mode p w in
     let good = sealed-good p b.0 in
     (named p 6 mode 0 good b.2 b.1 refl, no-exchange p good (rw b.2), no-certificate p good (rw b.2))
 
 finished : (mode status : ℕ) (p : List ℕ) → WrotePayload done_response (mode and status and tt) p
-    → Names (read_connect p) 7 mode status × NoExchange (read_connect p) × NoCertificate (read_connect p)
+    → Names (read_connect p) 7 mode status × NoExchange (connect_told (read_connect p)) × NoCertificate (connect_told (read_connect p))
 finished mode status p w =
     let b = fields_back.done-response mode status p w in
     let good = sealed-good p b.0 in

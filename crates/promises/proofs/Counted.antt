@@ -6,7 +6,7 @@ use Rattle.message.specs.Reading.{working_after}
 use Rattle.message.specs.Handed.{payload}
 use mathlib.Core.Bool.{false≢true}
 use Rattle.joining.specs.declared.answer.Said.{Said}
-use Rattle.message.specs.declared.reading.MessageRead.TheVariants.{Read}
+use Rattle.std.specs.Prelude.{Ok}
 use Rattle.joining.specs.declared.Piece.{Piece}
 use Rattle.joining.specs.Answers.{is_taken, is_repeat, is_complete}
 use Rattle.joining.specs.Join.{join}
@@ -60,7 +60,7 @@ module _ (c : Connection) (es : List Event) (w : Holds c.progress es) where
       step-cases c x.message x.keys x.working b x.verdict (λ s b'. Counted (index_in x) s) (λ n. (w, idle refl refl refl))
       (λ z found e.
       let h = found.header in
-      let p = payload x.message (working_after x.message x.keys x.working) (Read found) in
+      let p = payload x.message (working_after x.message x.keys x.working) (Ok found) in
       rw (ap (λ (h : Header). h.index) (read-header x.message x.keys x.working found e))
       (hear-cases c h p b x.verdict (λ s b'. Counted h.index s) (λ f. (w, idle refl refl refl))
       (λ f k. connect-counts h.index h.session p x.verdict) (λ f j. join-counts (piece_in h) p b) (λ f k j. (w, idle refl refl refl))))

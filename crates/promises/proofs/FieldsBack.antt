@@ -21,13 +21,13 @@ use Rattle.payloads.proofs.Shaped.{shape-good}
 use Rattle.writer.specs.Answers.{wrote}
 use Rattle.writer.specs.Written.{put_refusal, written, output}
 use Rattle.writer.specs.Payload.{payload_written, exchange_values, response_format, response_values}
-use Rattle.writer.specs.declared.Written.TheVariants.{Bytes}
+use Rattle.std.specs.Prelude.{Ok}
 use Rattle.writer.proofs.PayloadBack.{payload-back}
 use Rattle.promises.specs.Fields.{WrotePayload, span_of, FieldsBack, ValuesBack, CanBeWritten, OnlyWritten, OfBytes, CountedEntries}
 
 module _ (f : Format) (v : Values f) (p : List ℕ) (w : WrotePayload f v p) where
   -- Nothing was refused.
-  answered : payload_written f v w.output ≡ Bytes (wrote (payload_written f v w.output)).size
+  answered : payload_written f v w.output ≡ Ok (wrote (payload_written f v w.output)).size
   unfolding written
   answered =
       let n = put_refusal (not (fits f v)) (length (write f v)) (length w.output) in

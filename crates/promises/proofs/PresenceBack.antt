@@ -4,13 +4,15 @@
 use Rattle.laws.proofs.Kit.{ℕ, ◌+◌, ◌≤◌, ◌<◌, ◌≡◌, refl, sym, ◌∙◌, true, false, true≢false, not, ◌||◌, List, length, eqb, ltb, eqb-true}
 use Rattle.laws.proofs.Kit.{eqb-false, eq-eqb, le-leb, lt-ltb, le-ltb, ltb-true, ltb-false, not-false, lit<, arith}
 use Prim.Native.Nat.{zero-le}
+use Rattle.std.specs.Prelude.{Ok}
 use Rattle.laws.specs.Bytes.{AreBytes, be8, be16}
+use Rattle.laws.specs.Rows.{refusal_in}
 use Rattle.laws.proofs.Bools.{and-true, or-none}
 use Rattle.laws.proofs.Cases.{on}
 use Rattle.laws.proofs.Parts.{bytes_at-part}
 use Rattle.payloads.specs.Format.{one, end, fixed, Format, fits, write, ends_from, holds_from, read_from, accepts_from, accepts, read}
 use Rattle.payloads.specs.Shapes.{presence_request, presence_response, is_shaped, bad_payload}
-use Rattle.payloads.specs.Discovery.{says_nothing, said_response, read_discovery}
+use Rattle.payloads.specs.Discovery.{nothing_discovery, said_response, read_discovery, discovery_told}
 use Rattle.payloads.proofs.Formats.{read_back, write-back}
 use Rattle.payloads.proofs.Shaped.{shape-good}
 use Rattle.writer.specs.Answers.{wrote}
@@ -102,11 +104,11 @@ module _ (p : List ℕ) (a : accepts presence_response p ≡ true) where
   unfolding ends_from
   size = ends presence_response p a
 
-  taken-apart : read_discovery p ≡ said_response (be16 p 1) (be16 p 3) (be16 p 5)
+  taken-apart : read_discovery p ≡ Ok (said_response (be16 p 1) (be16 p 3) (be16 p 5))
   unfolding read_discovery
   taken-apart = rw (shape-good p 7 (lit< tt) a, begins 1 _ p a)
 
-request-back : (p : List ℕ) → WrotePayload presence_request tt p → read_discovery p ≡ says_nothing 0
+request-back : (p : List ℕ) → WrotePayload presence_request tt p → read_discovery p ≡ Ok nothing_discovery
 unfolding read_discovery
 request-back p w = rw (fields_back.presence-request p w, begins 0 end p (values-back _ _ p w).0)
 
@@ -162,11 +164,11 @@ admitted p (is_response r w e) = rw e (good r w)
 
 -- What 14 does not refuse is taken apart, and nothing else.
 module _ (p : List ℕ) where
-  unrefused : bad_payload 1 false p ≡ false → (read_discovery p).refusal ≡ 0
+  unrefused : bad_payload 1 false p ≡ false → refusal_in (read_discovery p) ≡ 0
   unfolding read_discovery
-  unrefused e = rw e (on (eqb (be8 p 0) 0) (λ z. rw z) (λ z. rw z))
+  unrefused e = rw e
 
-  refused : bad_payload 1 false p ≡ true → (read_discovery p).refusal ≡ 14
+  refused : bad_payload 1 false p ≡ true → refusal_in (read_discovery p) ≡ 14
   unfolding read_discovery
   refused e = rw e
 

@@ -13,7 +13,7 @@ use Rattle.seal.proofs.Accepted.{accepted}
 use Rattle.message.specs.Reading.{opened, read_message, working_after}
 use Rattle.message.specs.Handed.{part_of, payload}
 use Rattle.message.specs.declared.reading.FoundMessage.{FoundMessage}
-use Rattle.message.specs.declared.reading.MessageRead.TheVariants.{Read}
+use Rattle.std.specs.Prelude.{Ok}
 use Rattle.message.proofs.HandedBack.{handed-opened}
 use Rattle.message.proofs.Told.{read-lies}
 use Rattle.promises.specs.Refusals.{sealed, start}
@@ -42,7 +42,7 @@ module _ (m keys : List ℕ) where
       let z = neither (refusal_of m) _ (neither (early m keys (length w)) _ e).0 in
       on (sealed m) (λ s. rw (read-good m z.0, s) (handed-opened keys m (start m) w (rw s at z.1) (header_of m))) (λ s. rw s)
 
-pub read-header : (m keys w : List ℕ) (f : FoundMessage) → read_message m keys (length w) ≡ Read f → header_of m ≡ f.header
+pub read-header : (m keys w : List ℕ) (f : FoundMessage) → read_message m keys (length w) ≡ Ok f → header_of m ≡ f.header
 read-header m keys w f r = sym (read-lies m keys (length w) f r).is
 
 pub read_again : (h : Header) (bytes m keys w v : List ℕ) → ReadAs h bytes m keys w

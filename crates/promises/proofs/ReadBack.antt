@@ -8,8 +8,7 @@ use Rattle.message.specs.Answers.{found_message}
 use Rattle.message.specs.Handed.{payload}
 use Rattle.message.specs.Reading.{in_message, in_working, read_message, working_after}
 use Rattle.message.specs.declared.reading.FoundMessage.{FoundMessage}
-use Rattle.message.specs.declared.reading.MessageRead.{MessageRead}
-use Rattle.message.specs.declared.reading.MessageRead.TheVariants.{Read}
+use Rattle.std.specs.Prelude.{Result, Ok}
 use Rattle.message.specs.Writing.{length_of, write_refusal, message_bytes, write_answer, written_into}
 use Rattle.message.proofs.WrittenLengths.{length-message_bytes}
 use Rattle.message.proofs.WrittenBack.{found_at, read_plain, read-sealed}
@@ -37,12 +36,12 @@ module _ (h : Header) (chain bytes keys message : List ℕ) (w : Wrote h chain b
       w.bytes ∙ rw passed (take_at (message_bytes h chain bytes keys) (drop size w.output) size (length-message_bytes h chain bytes keys))
 
 -- What the reader answered, in the numbers of its definition.
-pub as_read : (h : Header) (bytes m keys working : List ℕ) (f : FoundMessage) → read_message m keys (length working) ≡ Read f → f.header ≡ h
-    → payload m (working_after m keys working) (Read f) ≡ bytes → ReadAs h bytes m keys working
+pub as_read : (h : Header) (bytes m keys working : List ℕ) (f : FoundMessage) → read_message m keys (length working) ≡ Ok f → f.header ≡ h
+    → payload m (working_after m keys working) (Ok f) ≡ bytes → ReadAs h bytes m keys working
 as_read h bytes m keys working f r e p =
     record {
-      accepted = ap (λ (a : MessageRead). (found_message a).refusal) r;
-      header = ap (λ (a : MessageRead). (found_message a).header) r ∙ e;
+      accepted = ap (λ (a : Result FoundMessage ℕ). (found_message a).refusal) r;
+      header = ap (λ (a : Result FoundMessage ℕ). (found_message a).header) r ∙ e;
       handed = ap (payload m (working_after m keys working)) r ∙ p;
     }
 

@@ -3,16 +3,15 @@
 -- read, and what the working buffer then holds, follow from it.
 use Rattle.laws.proofs.Kit.{ℕ, ◌≡◌, sym, ◌∙◌, ap, cond, List, length, eqb, eqb-true}
 use Rattle.laws.specs.Bytes.{be8, be32}
-use Rattle.laws.specs.Rows.{first, or_else}
+use Rattle.laws.specs.Rows.{first, or_else, unless}
 use Rattle.laws.proofs.Cases.{on}
 use Rattle.wire.specs.Chain.{leaves}
 use Rattle.wire.specs.Reader.{header_of, chain_of, refusal_of, read_header}
 use Rattle.seal.specs.Opening.{open_refusal, into_unless, opened_into}
-use Rattle.message.specs.Reading.{opened, unless, payload_rows, plain_read, sealed_read, read_message, working_after}
+use Rattle.message.specs.Reading.{opened, payload_rows, plain_read, sealed_read, read_message, working_after}
 use Rattle.message.specs.Answers.{found_message}
 use Rattle.message.specs.declared.reading.FoundMessage.{FoundMessage}
-use Rattle.message.specs.declared.reading.MessageRead.{MessageRead}
-use Rattle.message.specs.declared.reading.MessageRead.TheVariants.{Read}
+use Rattle.std.specs.Prelude.{Result, Ok}
 use Rattle.promises.specs.Refusals.{sealed, start, payload_in}
 
 module _ (m keys : List ℕ) where
@@ -26,8 +25,8 @@ module _ (m keys : List ℕ) where
         size = cond (sealed m) (be32 (opened m keys (start m)) 0) (leaves (chain_of m));
       }
 
-  abbrev pub what_is_read : MessageRead
-  what_is_read = Read found_in
+  abbrev pub what_is_read : Result FoundMessage ℕ
+  what_is_read = Ok found_in
 
   module _ (room : ℕ) where
     -- 1 to 13.
@@ -38,14 +37,14 @@ module _ (m keys : List ℕ) where
     abbrev pub reader_number : ℕ
     reader_number = or_else early (first (payload_rows (be8 m 5) (sealed m) (payload_in m keys)))
 
-    pub read-by-number : read_message m keys room ≡ unless reader_number what_is_read
+    pub read-by-number : read_message m keys room ≡ unless reader_number found_in
     unfolding read_message read_header plain_read sealed_read
     read-by-number = on (eqb (refusal_of m) 0) (λ e. rw e (on (sealed m) (λ s. rw s) (λ s. rw s))) (λ e. rw (e, e, e))
 
     -- The number of what was found is that number; where it is 0, that is what was read.
     pub number-found : (found_message (read_message m keys room)).refusal ≡ reader_number
     number-found =
-        ap (λ (a : MessageRead). (found_message a).refusal) read-by-number
+        ap (λ (a : Result FoundMessage ℕ). (found_message a).refusal) read-by-number
         ∙ on (eqb reader_number 0) (λ e. rw e (sym (eqb-true reader_number 0 e))) (λ e. rw e)
 
     pub read_found : (found_message (read_message m keys room)).refusal ≡ 0 → read_message m keys room ≡ what_is_read

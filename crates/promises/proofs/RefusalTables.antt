@@ -3,26 +3,25 @@
 use Rattle.laws.proofs.Kit.{ℕ, ◌+◌, ◌-◌, ◌≤◌, ◌≡◌, refl, sym, ◌∙◌, ap, true, true≢false, cond, List, ◌++◌, length, eqb, ne_eqb, eqb-true, le-ltb}
 use Rattle.laws.proofs.Kit.{lt-leb, arith}
 use Rattle.laws.specs.Bytes.{AreBytes, be8, be16}
-use Rattle.laws.specs.Rows.{first, or_else}
+use Rattle.laws.specs.Rows.{first, or_else, unless}
 use Rattle.laws.proofs.Cases.{on}
 use Rattle.laws.proofs.Firsts.{first-append}
+use Rattle.laws.proofs.Refusals.{refused as number-refused}
 use Rattle.wire.specs.Chain.{leaves}
 use Rattle.wire.specs.Reader.{chain_of, header_rows, rows_of, refusal_with, refusal_of, header_found, read_header}
-use Rattle.wire.specs.declared.header.HeaderRead.TheVariants as head
+use Rattle.std.specs.Prelude.{Result, Ok, Err}
+use Rattle.wire.specs.declared.header.FoundHeader.{FoundHeader}
 use Rattle.wire.specs.declared.header.Header.{Header}
 use Rattle.wire.proofs.Reading.{read-good}
 use Rattle.wire.proofs.Sound as wire
 use Rattle.wire.proofs.Told.{header_refused, refused-header}
 use Rattle.seal.specs.Opening.{sealed_part, no_part, key_rows, tag_rows, part_rows, part_refusal, open_refusal}
-use Rattle.message.specs.Reading.{unless, payload_rows, read_message}
+use Rattle.message.specs.Reading.{payload_rows, read_message}
 use Rattle.message.specs.Writing.{finished_length, length_of, write_refusal, write_answer}
-use Rattle.message.specs.declared.reading.MessageRead.TheVariants.{Refused as notRead}
 use Rattle.message.proofs.Told.{message-refused, refused-message}
-use Rattle.writer.specs.declared.Written.TheVariants.{Refused, Bytes}
 use Rattle.writer.specs.declared.Wrote.{Wrote}
 use Rattle.writer.specs.Answers.{wrote}
 use Rattle.joining.specs.Cut.{bad_size, piece_count, cut_refusal, cut_count}
-use Rattle.joining.specs.declared.cut.Cutting.{Cutting}
 use Rattle.hub.specs.declared.Opened.{Opened}
 use Rattle.hub.specs.Opening.{opened}
 use Rattle.promises.specs.Refusals.{sealed, start, header_table, payload_in, sealed_table, reader_table, HeaderExact, ReaderExact}
@@ -30,25 +29,18 @@ use Rattle.promises.specs.Refusals.{cut_table, CutRefused, CutterExact, open_tab
 use Rattle.promises.specs.Refusals.{not_written, WriterExact}
 use Rattle.promises.proofs.Apart.{apart}
 use Rattle.promises.proofs.Exactly.{exactly, answered-exactly}
-use Rattle.promises.proofs.ReaderNumber.{what_is_read, early, reader_number, read-by-number}
-
--- A report makes one piece or more.
-some : (F bytes : ℕ) → piece_count F bytes ≡ 0 → ⊥
-some F bytes e = on (eqb bytes 0) (λ z. let w : ◌≡◌ {A = ℕ} 1 0 = rw z at e in omega (arith, w)) (λ z. omega (arith, rw z at e))
-
-cut-some : (F bytes i : ℕ) → cut_refusal F bytes i ≡ 0 → cut_count F bytes i ≡ 0 → ⊥
-cut-some F bytes i z e = some F bytes (rw z at e)
+use Rattle.promises.proofs.ReaderNumber.{found_in, what_is_read, early, reader_number, read-by-number}
 
 cut-refused : (F : ℕ) (report : List ℕ) (i n : ℕ) → (n ≡ 0 → ⊥) → cut_refusal F (length report) i ≡ n → CutRefused F report i n
-cut-refused F report i n z e = (rw (e, ne_eqb n 0 z), rw (e, ne_eqb n 0 z))
+cut-refused F report i n z e = (rw (e, ne_eqb n 0 z), rw (e, ne_eqb n 0 z), rw (e, ne_eqb n 0 z))
 
 pub cutter-exact : CutterExact
 unfolding cut_refusal
 cutter-exact F report i n =
     exactly (CutRefused F report i n) n (cut_table F (length report) i) refl
     (λ p.
-    let e = ap (λ (a : Cutting). a.refusal) p.0 in
-    (λ z. cut-some F (length report) i (e ∙ z) (ap (λ (a : Cutting). a.count) p.0), e))
+    let w = number-refused _ _ (sym p.0) in
+    (λ z. w.1 (sym w.0 ∙ z), sym w.0))
     (cut-refused F report i n)
 
 pub opener-exact : OpenerExact
@@ -71,7 +63,7 @@ some-length : (h : Header) (chain payload : List ℕ) → length_of h chain payl
 unfolding finished_length
 some-length h chain payload e = omega arith
 
-wrote-unless : (k l : ℕ) → wrote (cond (eqb k 0) (Bytes l) (Refused k)) ≡ cond (eqb k 0) (wrote (Bytes l)) (not_written k)
+wrote-unless : (k l : ℕ) → wrote (unless k l) ≡ cond (eqb k 0) (wrote (Ok l)) (not_written k)
 wrote-unless k l = on (eqb k 0) (λ e. rw e) (λ e. rw e)
 
 pub writer-exact : WriterExact
@@ -81,7 +73,7 @@ writer-exact h chain payload keys room n =
     let rows = writer_table h chain payload keys room in
     let e = wrote-unless (first rows) l in
     let k =
-    answered-exactly n (wrote (Bytes l)) not_written (λ q. some-length h chain payload (ap (λ (w : Wrote). w.size) q))
+    answered-exactly n (wrote (Ok l)) not_written (λ q. some-length h chain payload (ap (λ (w : Wrote). w.size) q))
     (λ m q. ap (λ (w : Wrote). w.refusal) q) rows refl in
     (λ r. k.0 (sym e ∙ r), λ w. e ∙ k.1 w)
 
@@ -93,8 +85,8 @@ pub header-exact : HeaderExact
 unfolding read_header
 header-exact m n =
     let rows = header_table m in
-    let e : read_header m ≡ cond (eqb (first rows) 0) (head.Read (header_found m)) (head.Refused (first rows)) = rw (header-first m) in
-    let k = answered-exactly n (head.Read (header_found m)) head.Refused (λ e. apart (cc)) (λ m e. cc) rows refl in
+    let e : read_header m ≡ unless (first rows) (header_found m) = rw (header-first m) in
+    let k = answered-exactly n (Ok (header_found m)) Err (λ e. apart (cc)) (λ m e. cc) rows refl in
     (λ r. k.0 (sym e ∙ header_refused m n r), λ l. refused-header m n (e ∙ k.1 l))
 
 module _ (m keys : List ℕ) (room : ℕ) (bytes : AreBytes m) where
@@ -132,7 +124,7 @@ module _ (m keys : List ℕ) (room : ℕ) (bytes : AreBytes m) where
 pub reader-exact : ReaderExact
 reader-exact m keys room n b =
     let rows = reader_table m keys room in
-    let e : read_message m keys room ≡ unless (first rows) (what_is_read m keys) =
-    read-by-number m keys room ∙ ap (λ (n : ℕ). unless n (what_is_read m keys)) (sym (reader-first m keys room b)) in
-    let k = answered-exactly n (what_is_read m keys) notRead (λ e. apart (cc)) (λ m e. cc) rows refl in
+    let e : read_message m keys room ≡ unless (first rows) (found_in m keys) =
+    read-by-number m keys room ∙ ap (λ (n : ℕ). unless n (found_in m keys)) (sym (reader-first m keys room b)) in
+    let k = answered-exactly n (what_is_read m keys) Err (λ e. apart (cc)) (λ m e. cc) rows refl in
     (λ r. k.0 (sym e ∙ message-refused m keys room n r), λ l. refused-message m keys room n (e ∙ k.1 l))

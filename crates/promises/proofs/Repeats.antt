@@ -4,7 +4,7 @@ use Rattle.laws.proofs.Kit.{ℕ, ◌≡◌, refl, ◌∙◌, ap, List, [], ◌�
 use Rattle.wire.specs.declared.header.Header.{Header}
 use Rattle.message.specs.Reading.{working_after}
 use Rattle.message.specs.Handed.{payload}
-use Rattle.message.specs.declared.reading.MessageRead.TheVariants.{Read}
+use Rattle.std.specs.Prelude.{Ok}
 use Rattle.hub.specs.declared.Stepped.{Stepped}
 use Rattle.hub.specs.declared.Answer.{Answer}
 use Rattle.hub.specs.declared.Answer.TheVariants.{Reply, Again}
@@ -30,7 +30,7 @@ content p x t =
     (λ z f r e.
     record {
       header = f.header;
-      payload = payload x.message (working_after x.message x.keys x.working) (Read f);
+      payload = payload x.message (working_after x.message x.keys x.working) (Ok f);
       reads = as_read f.header _ x.message x.keys x.working f r refl refl;
     })
 

@@ -6,7 +6,8 @@ use Rattle.wire.specs.Answers.{nothing}
 use Rattle.message.specs.Answers.{found_message}
 use Rattle.message.specs.Handed.{Place, place_of}
 use Rattle.message.specs.Reading.{read_message, working_after}
-use Rattle.message.specs.declared.reading.MessageRead.{MessageRead}
+use Rattle.std.specs.Prelude.{Result}
+use Rattle.message.specs.declared.reading.FoundMessage.{FoundMessage}
 use Rattle.promises.specs.Refusals.{sealed, payload_in, handed_out}
 
 -- The bytes are those of a buffer, at this place, which lies in it; 0 is the message, 1 the working buffer.
@@ -18,7 +19,7 @@ pub record LiesIn (number : ℕ) (buffer : List ℕ) (p : Place) (bytes : List �
 -- A message, read with these keys and this working buffer.
 module _ (m keys working : List ℕ) where
   -- What the reader answered.
-  abbrev pub read : MessageRead
+  abbrev pub read : Result FoundMessage ℕ
   read = read_message m keys (length working)
 
   -- What the working buffer then holds.

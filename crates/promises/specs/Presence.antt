@@ -1,14 +1,15 @@
 -- SPDX-License-Identifier: MPL-2.0
 -- A1, "Answer a presence call": what is written of a Presence Response reads back, field by field; 14 admits it exactly where it is well formed; and
 -- a step answers 15 for any Discovery message.
-use Rattle.std.specs.Prelude.{ℕ, ◌+◌, ◌≤◌, ◌<◌, ◌≡◌, List, [], ◌∷◌, ◌++◌, map, Bool, true, false, length, replicate}
+use Rattle.std.specs.Prelude.{ℕ, ◌+◌, ◌≤◌, ◌<◌, ◌≡◌, List, [], ◌∷◌, ◌++◌, map, Bool, true, false, length, replicate, Result, Ok}
 use Rattle.laws.specs.Bytes.{AreBytes}
+use Rattle.laws.specs.Rows.{refusal_in}
 use Rattle.wire.specs.Fields.{bad_flags, bad_piece}
 use Rattle.wire.specs.Chain.{bad_chain}
 use Rattle.wire.specs.declared.header.Header.{Header}
 use Rattle.payloads.specs.Format.{Values, ◌and◌, write}
 use Rattle.payloads.specs.Shapes.{presence_request, presence_response, bad_payload}
-use Rattle.payloads.specs.Discovery.{says_nothing, read_discovery}
+use Rattle.payloads.specs.Discovery.{nothing_discovery, read_discovery, discovery_told}
 use Rattle.payloads.specs.declared.discovery.FoundDiscovery.{FoundDiscovery}
 use Rattle.writer.specs.Answers.{wrote}
 use Rattle.writer.specs.Payload.{payload_written}
@@ -55,20 +56,20 @@ abbrev pub PresenceWritten : Type 0
 PresenceWritten = (r : Presence) (out : List ℕ) → WrittenByNumber r out
 
 -- A payload taken apart says what this response says: its numbers, and at its places the bytes of its parts.
-pub record TakenApart (p : List ℕ) (f : FoundDiscovery) (r : Presence) : Type 0 where
-  pub accepted : f.refusal ≡ 0
-  pub discovery : f.discovery ≡ 1
-  pub mode : f.mode ≡ r.mode
-  pub device : f.device ≡ r.device
-  pub name : span_of p f.name ≡ r.name
-  pub salt : span_of p f.salt ≡ r.salt
+pub record TakenApart (p : List ℕ) (answer : Result FoundDiscovery ℕ) (r : Presence) : Type 0 where
+  pub accepted : refusal_in answer ≡ 0
+  pub discovery : (discovery_told answer).discovery ≡ 1
+  pub mode : (discovery_told answer).mode ≡ r.mode
+  pub device : (discovery_told answer).device ≡ r.device
+  pub name : span_of p (discovery_told answer).name ≡ r.name
+  pub salt : span_of p (discovery_told answer).salt ≡ r.salt
   -- "The hash is carried as it stands"
-  pub hash : span_of p f.hash ≡ r.hash
+  pub hash : span_of p (discovery_told answer).hash ≡ r.hash
 
 -- "reading and writing of the Presence Response": what was written is taken apart into what was given. A Presence Request says nothing but that it
 -- is one.
 pub record PresenceBack : Type 0 where
-  pub request : (p : List ℕ) → WrotePayload presence_request tt p → read_discovery p ≡ says_nothing 0
+  pub request : (p : List ℕ) → WrotePayload presence_request tt p → read_discovery p ≡ Ok nothing_discovery
   pub response : (r : Presence) (p : List ℕ) → WrotePayload presence_response (values_of r) p → TakenApart p (read_discovery p) r
 
 -- Each part that is named lies in the payload.
@@ -79,7 +80,7 @@ pub record PresenceLies (p : List ℕ) (f : FoundDiscovery) : Type 0 where
 
 -- So it is whatever the payload.
 abbrev pub DiscoveryLies : Type 0
-DiscoveryLies = (p : List ℕ) → PresenceLies p (read_discovery p)
+DiscoveryLies = (p : List ℕ) → PresenceLies p (discovery_told (read_discovery p))
 
 -- A Discovery payload is one of two.
 pub data Discovery (p : List ℕ) : Type 0 where
@@ -91,8 +92,8 @@ pub data Discovery (p : List ℕ) : Type 0 where
 -- 14 admits the two, and refuses all other bytes; the reader takes the two apart, and no others.
 pub record AdmittedExactly (p : List ℕ) : Type 0 where
   pub admits : (bad_payload 1 false p ≡ false) ⇔ Discovery p
-  pub reads : ((read_discovery p).refusal ≡ 0) ⇔ Discovery p
-  pub refuses : ((read_discovery p).refusal ≡ 14) ⇔ (Discovery p → ⊥)
+  pub reads : (refusal_in (read_discovery p) ≡ 0) ⇔ Discovery p
+  pub refuses : (refusal_in (read_discovery p) ≡ 14) ⇔ (Discovery p → ⊥)
 
 -- "Refusal 14 keeps its place but now admits this payload where it is well formed".
 abbrev pub AdmitsPresence : Type 0

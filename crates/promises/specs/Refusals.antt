@@ -1,7 +1,7 @@
 -- SPDX-License-Identifier: MPL-2.0
 -- Demand 1: every refusal is given exactly when the table of document 01 says: a number is answered if and only if its row is the first that
 -- applies. The tables below are that table's rows in the order of each call. Every refusal leaves connection and report buffer alone.
-use Rattle.std.specs.Prelude.{ℕ, ◌+◌, ◌-◌, ◌*◌, ◌%◌, ◌≡◌, List, [], ◌∷◌, ◌++◌, Bool, true, false, cond, not, ◌&&◌, ◌||◌, length, take, drop, ltb, leb, eqb}
+use Rattle.std.specs.Prelude.{ℕ, ◌+◌, ◌-◌, ◌*◌, ◌%◌, ◌≡◌, List, [], ◌∷◌, ◌++◌, Bool, true, false, cond, not, ◌&&◌, ◌||◌, length, take, drop, ltb, leb, eqb, Err}
 use Rattle.laws.specs.Bytes.{AreBytes, be8, be16}
 use Rattle.laws.specs.Rows.{leads, quiet, any_of}
 use Rattle.laws.specs.Same.{same}
@@ -24,8 +24,7 @@ use Rattle.writer.specs.declared.Wrote.{Wrote}
 use Rattle.writer.specs.Answers.{wrote}
 use Rattle.joining.specs.Heard.{most}
 use Rattle.joining.specs.Answers.{refused}
-use Rattle.joining.specs.Cut.{bad_size, piece_count, cutting, cut_piece}
-use Rattle.joining.specs.declared.cut.Cutting.{Cutting}
+use Rattle.joining.specs.Cut.{bad_size, piece_count, cut_count, cutting, cut_piece}
 use Rattle.joining.specs.Join.{unlike, misfit, conflict}
 use Rattle.hub.specs.declared.Connection.{Connection}
 use Rattle.hub.specs.declared.Opened.{Opened}
@@ -193,11 +192,8 @@ abbrev pub cut_table : ℕ → ℕ → ℕ → List (ℕ × Bool)
 cut_table F bytes i = (24, bad_size F) ∷ (7, ltb (F * most) bytes || leb (piece_count F bytes) i) ∷ []
 
 -- What the cutter answers where it refuses with n: "A refusal gives count 0 and the empty part".
-abbrev pub not_cut : ℕ → Cutting
-not_cut n = record { refusal = n; count = 0 }
-
 abbrev pub CutRefused : ℕ → List ℕ → (i n : ℕ) → Type 0
-CutRefused F report i n = (cutting F (length report) i ≡ not_cut n) × (cut_piece F report i ≡ [])
+CutRefused F report i n = (cutting F (length report) i ≡ Err n) × (cut_count F (length report) i ≡ 0) × (cut_piece F report i ≡ [])
 
 -- The cutter: "Given exactly when".
 abbrev pub CutterExact : Type 0

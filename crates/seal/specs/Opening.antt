@@ -54,12 +54,13 @@ early_rows given start keys = no_part_rows given start ++ key_rows keys
 abbrev pub tag_rows : (keys m : List ℕ) → List (ℕ × Bool)
 tag_rows keys m = (wrong_tag, not (same (tag_of keys (body_of m)) (tag_in m))) ∷ []
 
+-- Its row 13, of an opened sealed part.
+abbrev pub padding_rows : (plain : List ℕ) → List (ℕ × Bool)
+padding_rows plain = (wrong_padding, bad_plain plain) ∷ []
+
 -- Its rows 12 and 13, of a sealed part and a working buffer of `room` bytes.
 abbrev pub part_rows : (keys m sealed : List ℕ) (room : ℕ) → List (ℕ × Bool)
-part_rows keys m sealed room =
-    (short_working, ltb room (length sealed))
-    ∷ (wrong_padding, bad_plain (plain_of keys m sealed))
-    ∷ []
+part_rows keys m sealed room = (short_working, ltb room (length sealed)) ∷ padding_rows (plain_of keys m sealed)
 
 -- The first of 12 and 13 that applies; 0 is none.
 unfoldable pub part_refusal : List ℕ → List ℕ → List ℕ → ℕ → ℕ
@@ -77,7 +78,7 @@ into_unless refusal plain working = cond (eqb refusal 0) (plain ++ drop (length 
 
 -- The same of a plain text by itself: 13 is its one refusal.
 unfoldable pub unless_bad : List ℕ → List ℕ → List ℕ
-unless_bad plain working = into_unless (cond (bad_plain plain) wrong_padding 0) plain working
+unless_bad plain working = into_unless (first (padding_rows plain)) plain working
 
 -- The working buffer after a sealed part was opened.
 unfoldable pub part_into : List ℕ → List ℕ → List ℕ → List ℕ → List ℕ

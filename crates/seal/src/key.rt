@@ -1,17 +1,14 @@
 // SPDX-License-Identifier: MPL-2.0
 // What the 64 key bytes are for: 16 for encryption, 16 for the vector, 32 for the tag.
-ghost use Rattle.std.specs.Prelude.{◌≡◌, ◌+◌, ◌≤◌, ◌<◌, length, take, drop};
-ghost use Rattle.seal.specs.Keys.{vector_block, vector, tag_of};
+ghost use Rattle.std.specs.Prelude.{◌≡◌, ℕ, List, ◌+◌, ◌≤◌, ◌<◌, length};
+ghost use Rattle.laws.specs.Rows.{first, unless};
+ghost use Rattle.aes.specs.Key.{expand_key};
+ghost use Rattle.seal.specs.Keys.{encryption_key, vector_key, vector_block, vector, tag_of};
+ghost use Rattle.seal.specs.Opening.{key_rows};
 
-// The sixteen bytes from `at` on.
-pub(crate) fn block_at(bytes: &[u8], at: usize) -> [u8; 16]
-    requires { at + 16 ≤ length bytes.now }
-    ensures { result ≡ take 16 (drop at bytes.now) }
-{
-    let mut block = [0u8; 16];
-    block.copy_from_slice(&bytes[at..at + 16]);
-    block
-}
+use crate::KEYS;
+use std::marker::Model;
+use wire::refusals::{Refusal, Refused};
 
 // SessionID, SequenceNumber, FragmentIndex and FragmentCount of a message, joined.
 #[tactic(auto, unfolding(crate::specs::Keys::vector_block, laws::specs::Bytes::bytes_at))]
@@ -26,21 +23,65 @@ fn vector_block(message: &[u8]) -> [u8; 16]
     ]
 }
 
-// The vector of a message: one AES block under the vector key, by the code that encrypts the sealed part.
-pub(crate) fn vector(keys: &[u8], message: &[u8]) -> [u8; 16]
-    requires { (length keys.now ≡ 64) × (40 ≤ length message.now) }
-    ensures { result ≡ vector keys.now message.now }
-{
-    let round_keys = aes::key::expand_key(block_at(keys, 16));
-    aes::cbc::cbc_encrypt_one(round_keys, vector_block(message))
+// The 64 key bytes. Contracts see them as a list.
+#[derive(Drop)]
+pub(crate) struct Keys<'a> {
+    bytes: &'a [u8; KEYS],
 }
 
-// The tag of a message that is given without its last 32 bytes. It sees, for MessageLength, the length of what it is given.
-#[tactic(auto, unfolding(crate::specs::Keys::tag_of))]
-pub(crate) fn tag_of(keys: &[u8], body: &[u8]) -> [u8; 32]
-    requires { (length keys.now ≡ 64) × (4 ≤ length body.now) × (length body.now < 65536) }
-    ensures { result ≡ tag_of keys.now body.now }
-{
-    let length = [(body.len() / 256) as u8, (body.len() % 256) as u8];
-    sha256::hmac_parts(&keys[32..64], &body[0..2], &length, &body[4..])
+impl<'a> Model for Keys<'a> {
+    ghost Value = { List ℕ };
+
+    ghost view = { λ keys. keys.bytes.now };
+
+    ghost invariant = { λ keys. length keys.bytes.now ≡ 64 };
+}
+
+impl<'a> Keys<'a> {
+    // The keys that some bytes are, if they are 64.
+    pub(crate) fn of(bytes: &'a [u8]) -> Result<Keys<'a>, Refused>
+        ensures { result ≡ unless (first (key_rows (length bytes.now))) bytes.now }
+    {
+        match bytes.as_array() {
+            Some(bytes) => Ok(Keys { bytes }),
+            None => Err(Refusal::WrongKeys.into()),
+        }
+    }
+
+    // The round keys of the cipher.
+    pub(crate) fn round_keys(&self) -> [[u8; 16]; 11]
+        ensures { result ≡ expand_key (encryption_key self.now) }
+    {
+        let bytes = self.bytes;
+        aes::key::expand_key(*bytes.first_chunk().unwrap())
+    }
+
+    // The key of the block that is the vector.
+    fn vector_key(&self) -> [u8; 16]
+        ensures { result ≡ vector_key self.now }
+    {
+        let bytes = self.bytes;
+        *bytes[16..].first_chunk().unwrap()
+    }
+
+    // The vector of a message: one AES block under the vector key, by the code that encrypts the sealed part.
+    #[tactic(auto, unfolding(crate::specs::Keys::vector))]
+    pub(crate) fn vector(&self, message: &[u8]) -> [u8; 16]
+        requires { 40 ≤ length message.now }
+        ensures { result ≡ vector self.now message.now }
+    {
+        let round_keys = aes::key::expand_key(self.vector_key());
+        aes::cbc::cbc_encrypt_one(round_keys, vector_block(message))
+    }
+
+    // The tag of a message that is given without its last 32 bytes. It sees, for MessageLength, the length of what it is given.
+    #[tactic(auto, unfolding(crate::specs::Keys::tag_of))]
+    pub(crate) fn tag_of(&self, body: &[u8]) -> [u8; 32]
+        requires { (4 ≤ length body.now) × (length body.now < 65536) }
+        ensures { result ≡ tag_of self.now body.now }
+    {
+        let bytes = self.bytes;
+        let length = (body.len() as u16).to_be_bytes();
+        sha256::hmac_parts(&bytes[32..], &body[..2], &length, &body[4..])
+    }
 }

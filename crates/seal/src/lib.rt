@@ -2,6 +2,7 @@
 // The sealed part of a message, as document 01's 'Sealing' states it.
 #![tactic(auto)]
 
+mod blocks;
 mod key;
 pub mod opening;
 pub mod padding;

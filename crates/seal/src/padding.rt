@@ -3,19 +3,17 @@
 //
 //     | size, 4 bytes | payload, size bytes | padding, each byte the number of padding bytes |
 //
-ghost use Rattle.std.specs.Prelude.{◌≡◌, not, ◌≤◌, ◌-◌, drop, replicate};
-ghost use Rattle.laws.specs.Bytes.{be32};
-ghost use Rattle.laws.specs.Same.{same};
+ghost use Rattle.std.specs.Prelude.{◌≡◌, ◌≤◌, ◌||◌, not, false, eqb, fold};
 ghost use Rattle.seal.specs.Padding.{padding, sealed_size, bad_blocks};
 
 use octets::numbers::number32;
 
 // How many padding bytes follow a payload of n bytes.
 #[tactic(auto, unfolding(crate::specs::Padding::padding))]
-pub(crate) fn padding(size: u32) -> usize
+pub(crate) fn padding(size: u32) -> u8
     ensures { (result ≡ padding size) × (result ≤ 16) }
 {
-    (16 - (4 + size as usize) % 16) % 16
+    ((16 - (4 + u64::from(size)) % 16) % 16) as u8
 }
 
 // How many bytes the sealed part of a payload of n bytes has. No size wraps.
@@ -23,35 +21,22 @@ pub(crate) fn padding(size: u32) -> usize
 pub fn sealed_size(size: u32) -> usize
     ensures { result ≡ sealed_size size }
 {
-    4 + size as usize + padding(size)
+    4 + size as usize + usize::from(padding(size))
 }
 
-// Whether a byte of the block from `from` on is other than `byte`. Every such byte is looked at.
-fn differs(block: [u8; 16], from: usize, byte: u8) -> bool
-    requires { from ≤ 16 }
-    ensures { result ≡ not (same (drop from block) (replicate (16 - from) byte)) }
+// Whether one of the bytes is other than `byte`. Every one is looked at.
+fn differ(bytes: &[u8], byte: u8) -> bool
+    ensures { result ≡ fold (λ bad x. bad || not (eqb x byte)) false bytes.now }
 {
-    let mut bad = false;
-    let mut i: usize = 16;
-    while from < i {
-        i -= 1;
-        bad = bad | (block[i] != byte);
-    }
-    bad
-}
-
-// The payload's size, as the first block of the plain text says.
-fn told_size(front: [u8; 16]) -> u32
-    ensures { result ≡ be32 front 0 }
-{
-    number32(&front, 0)
+    bytes.iter().fold(false, |bad, x| bad | (*x != byte))
 }
 
 // Refusal 13 by the first and the last block of an opened sealed part of `size` bytes.
 pub(crate) fn bad_blocks(size: usize, front: [u8; 16], end: [u8; 16]) -> bool
     ensures { result ≡ bad_blocks size front end }
 {
-    let told = told_size(front);
+    let told = number32(&front, 0);
     let count = padding(told);
-    (size != sealed_size(told)) | differs(end, 16 - count, count as u8)
+    let past = 16 - usize::from(count);
+    (size != sealed_size(told)) | differ(&end[past..], count)
 }

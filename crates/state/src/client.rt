@@ -5,8 +5,8 @@
 //     | fragment size | state | SessionID |
 //
 // Any bytes of this number are a gateway's connection, and any such connection is this number of bytes.
-ghost use Rattle.std.specs.Prelude.{◌≡◌, length};
-ghost use Rattle.state.specs.Client.{gateway_size, gateway_at, gateway_bytes};
+ghost use Rattle.std.specs.Prelude.{◌≡◌};
+ghost use Rattle.state.specs.Client.{gateway_at, gateway_bytes};
 
 use super::{SESSION_AT, SIZE_AT, STATE_AT};
 use gateway::Gateway;
@@ -17,6 +17,7 @@ use octets::stores::{store8, store64};
 pub const GATEWAY: usize = SESSION_AT as usize + 8;
 
 // The gateway's connection of a state.
+#[tactic(auto, unfolding(crate::specs::Client::gateway_at))]
 pub fn decode_gateway(s: &[u8; GATEWAY]) -> Gateway
     ensures { result ≡ gateway_at s.now }
 {
@@ -27,21 +28,13 @@ pub fn decode_gateway(s: &[u8; GATEWAY]) -> Gateway
     }
 }
 
-// Puts the state of a gateway's connection, part by part.
-fn lay_gateway(g: Gateway, out: &mut [u8])
-    requires { length out.old ≡ gateway_size }
-    ensures { (out.new ≡ gateway_bytes g) × (length (gateway_bytes g) ≡ gateway_size) }
-{
-    store64(out, SIZE_AT, g.size as u64);
-    store8(out, STATE_AT, g.state);
-    store64(out, SESSION_AT, g.session);
-}
-
-// The state of a gateway's connection.
+// The state of a gateway's connection, part by part.
 pub fn encode_gateway(g: Gateway) -> [u8; GATEWAY]
     ensures { result ≡ gateway_bytes g }
 {
     let mut state = [0u8; GATEWAY];
-    lay_gateway(g, &mut state);
+    store64(&mut state, SIZE_AT, g.size as u64);
+    store8(&mut state, STATE_AT, g.state);
+    store64(&mut state, SESSION_AT, g.session);
     state
 }

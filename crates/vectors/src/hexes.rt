@@ -1,98 +1,65 @@
 // SPDX-License-Identifier: MPL-2.0
-// The fields of a line: bytes in hexadecimal, `-` for none, a blank between two.
-ghost use Rattle.std.specs.Prelude.{◌<◌, ◌≤◌, ◌+◌, length};
+// The fields of a text: bytes in hexadecimal, `-` for none, a blank between two.
+ghost use Rattle.std.specs.Prelude.{◌<◌, IfSome};
 
-// How many bytes a field gave, and where the next field starts.
-#[derive(Clone, Copy)]
-pub struct Decoded {
-    pub count: usize,
-    pub next: usize,
+// What is left of a text: what is read of it is taken from its front.
+#[derive(Drop)]
+pub(crate) struct Text<'a> {
+    pub rest: &'a [u8],
 }
 
-// A digit's value, 16 for what is no digit.
-fn digit(b: u8) -> u8
-    ensures { result ≤ 16 }
+// A digit's value. A capital is none, so that std's `to_digit` is not used.
+fn digit(b: u8) -> Option<u8>
+    ensures { IfSome result (λ value. value < 16) }
 {
-    if b < b'0' {
-        return 16;
+    match b {
+        b'0'..=b'9' => Some(b - b'0'),
+        b'a'..=b'f' => Some(b - b'a' + 10),
+        _ => None,
     }
-    if b <= b'9' {
-        return b - b'0';
-    }
-    if b < b'a' {
-        return 16;
-    }
-    if b <= b'f' {
-        return b - b'a' + 10;
-    }
-    16
 }
 
-fn wide(x: u8) -> u16
-    ensures { result ≤ 255 }
-{
-    x as u16
-}
+impl<'a> Text<'a> {
+    // The byte of two digits, if they stand at the front.
+    fn byte(&mut self) -> Option<u8> {
+        let [high, low, rest @ ..] = self.rest else {
+            return None;
+        };
+        let byte = digit(*high)? * 16 + digit(*low)?;
+        self.rest = rest;
+        Some(byte)
+    }
 
-// The value of two digits at a place, 256 for what are no two digits.
-fn pair(text: &[u8], at: usize) -> u16
-    ensures { result < 256 → at + 2 ≤ length text.now }
-{
-    if text.len() < 2 {
-        return 256;
+    // Skips what stands up to a mark, and the mark.
+    #[tactic(auto, unfolding(intake::specs::Buffer::after_mark))]
+    pub(crate) fn skip_past(&mut self, mark: u8) {
+        let next = intake::after_mark(self.rest, 0, mark);
+        self.rest = &self.rest[next..];
     }
-    if text.len() - 2 < at {
-        return 256;
-    }
-    let high = digit(text[at]);
-    let low = digit(text[at + 1]);
-    if high > 15 {
-        return 256;
-    }
-    if low > 15 {
-        return 256;
-    }
-    wide(high) * 16 + wide(low)
-}
 
-// A pair of digits as a byte.
-fn byte(pair: u16) -> u8 {
-    (pair % 256) as u8
-}
-
-// The bytes of the field at a place, as far as there is room.
-pub(crate) fn field(text: &[u8], at: usize, out: &mut [u8]) -> Decoded
-    ensures { result.count ≤ length out.new }
-{
-    let mut i = at;
-    let mut n: usize = 0;
-    while n < out.len() {
-        let p = pair(text, i);
-        if p >= 256 {
-            break;
+    // Reads a field: its bytes, as far as there is room.
+    pub(crate) fn field<'b>(&mut self, room: &'b mut [u8]) -> &'b mut [u8] {
+        let mut n: usize = 0;
+        for place in room.iter_mut() {
+            let Some(byte) = self.byte() else {
+                break;
+            };
+            *place = byte;
+            n += 1;
         }
-        out[n] = byte(p);
-        n += 1;
-        i += 2;
+        self.skip_past(b' ');
+        &mut room[..n]
     }
-    Decoded {
-        count: n,
-        next: intake::after_mark(text, i, b' '),
-    }
-}
 
-// Whether a certain byte stands at a place.
-pub(crate) fn starts_with(text: &[u8], at: usize, b: u8) -> bool {
-    if at < text.len() {
-        return text[at] == b;
+    // Reads a field as an array, with zeros behind it where it is shorter.
+    pub(crate) fn array<const N: usize>(&mut self) -> [u8; N] {
+        let mut bytes = [0; N];
+        self.field(&mut bytes);
+        bytes
     }
-    false
-}
 
-// Whether the line at a place has no vector: a comment, nothing, or the end.
-pub(crate) fn is_no_vector(text: &[u8], at: usize) -> bool {
-    if at < text.len() {
-        return starts_with(text, at, b'#') | starts_with(text, at, b'\n');
+    // Whether the line at the front has no vector: a comment, nothing, or the end.
+    pub(crate) fn has_no_vector(&self) -> bool {
+        matches!(self.rest, [] | [b'#', ..] | [b'\n', ..])
     }
-    true
 }

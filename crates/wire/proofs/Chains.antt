@@ -9,14 +9,14 @@ use Rattle.laws.proofs.Bools.{or-false}
 use native.Mathlib.Numerals.{sub-one}
 use Rattle.wire.specs.Chain.{entry_of, follow, chain, read_chain, most_entries, leaves, is_broken, bad_chain}
 use Rattle.wire.specs.Reader.{room_of}
-use Rattle.wire.specs.declared.chain.Chain.{Chain}
+use Rattle.std.specs.Prelude.{Option, Some, None}
+use Rattle.wire.specs.declared.chain.FoundChain.{FoundChain}
 use Rattle.wire.specs.declared.chain.Entry.{Entry}
-use Rattle.wire.specs.declared.chain.Chain.TheVariants.{Whole, Broken}
 use Rattle.wire.specs.declared.chain.Entry.TheVariants.{End, Spans, Wrong}
 
 -- What follows an entry: a chain with one entry less before its end, or none where that is no more.
-abbrev after : ℕ → List ℕ → Chain
-after zero m = Broken
+abbrev after : ℕ → List ℕ → Option FoundChain
+after zero m = None
 after (suc left) m = chain left m
 
 chain-at : (left : ℕ) (m : List ℕ) {e : Entry} → entry_of m ≡ e → chain left m ≡ follow e m (after left)
@@ -52,16 +52,16 @@ end-within m p = rw p at (within m)
 
 -- The walk at m, by the entry e that was read there: where it stops, what it answers; where it goes on, what is left falls.
 module _ (left : ℕ) (m : List ℕ) (e : Entry) (read : e ≡ entry_of m) where
-  pub walk-wrong : e ≡ Wrong → Broken ≡ chain left m
+  pub walk-wrong : e ≡ Wrong → None ≡ chain left m
   walk-wrong p = rw (chain-at left m (sym read ∙ p))
 
-  pub walk_end : e ≡ End → Whole (record { leaves = length m - 2 }) ≡ chain left m
+  pub walk_end : e ≡ End → Some (record { leaves = length m - 2 }) ≡ chain left m
   walk_end p = rw (chain-at left m (sym read ∙ p))
 
-  pub walk-full : (n : ℕ) → e ≡ Spans n → left ≡ 0 → Broken ≡ chain left m
+  pub walk-full : (n : ℕ) → e ≡ Spans n → left ≡ 0 → None ≡ chain left m
   walk-full n p z = rw (chain-at left m (sym read ∙ p), z)
 
-  pub walk-on : (n : ℕ) (r : Chain) → e ≡ Spans n → (left ≡ 0 → ⊥) → r ≡ chain (left - 1) (take (length m - n) (drop n m)) → r ≡ chain left m
+  pub walk-on : (n : ℕ) (r : Option FoundChain) → e ≡ Spans n → (left ≡ 0 → ⊥) → r ≡ chain (left - 1) (take (length m - n) (drop n m)) → r ≡ chain left m
   walk-on n r p z q = rw (chain-at left m (sym read ∙ p), after_less left (drop n m) z, ← part-from m n) q
 
 module _ (m : List ℕ) (e : Entry) (read : e ≡ entry_of m) where
@@ -75,12 +75,12 @@ module _ (m : List ℕ) (e : Entry) (read : e ≡ entry_of m) where
   span_less n t p q = let w = spans-within m (sym read ∙ p) in part-shorter m n t q (omega arith) w.1
 
 -- Where the tag reaches into the fixed header there is no room, and so no chain.
-pub no_room : (m : List ℕ) (tag : ℕ) → length m < 40 + tag → read_chain (room_of tag m) ≡ Broken
+pub no_room : (m : List ℕ) (tag : ℕ) → length m < 40 + tag → read_chain (room_of tag m) ≡ None
 unfolding read_chain most_entries chain entry_of room_of
 no_room m tag h = let z : length m - tag - 40 ≡ 0 = omega arith in rw z
 
 -- A chain is two bytes at least: its end.
-followed : (m : List ℕ) (e : Entry) (next : List ℕ → Chain) → entry_of m ≡ e
+followed : (m : List ℕ) (e : Entry) (next : List ℕ → Option FoundChain) → entry_of m ≡ e
     → ((rest : List ℕ) → is_broken (next rest) ≡ false → leaves (next rest) + 2 ≤ length rest)
     → is_broken (follow e m next) ≡ false → leaves (follow e m next) + 2 ≤ length m
 followed m Wrong next p h b = absurd (true≢false b)

@@ -3,13 +3,13 @@
 use Rattle.laws.proofs.Kit.{ℕ, ◌≡◌, List, eq-eqb, ne_eqb}
 use Rattle.wire.specs.Reader.{header_found, refusal_of, read_header}
 use Rattle.wire.specs.declared.header.Header.{Header}
-use Rattle.wire.specs.declared.header.HeaderRead.TheVariants.{Refused, Read}
+use Rattle.std.specs.Prelude.{Ok, Err}
 
-pub read-refused : (m : List ℕ) (n : ℕ) → n ≡ refusal_of m → (n ≡ 0 → ⊥) → read_header m ≡ Refused n
+pub read-refused : (m : List ℕ) (n : ℕ) → n ≡ refusal_of m → (n ≡ 0 → ⊥) → read_header m ≡ Err n
 unfolding read_header
 read-refused m n e h = rw (← e, ne_eqb n 0 h)
 
-pub read-good : (m : List ℕ) → refusal_of m ≡ 0 → read_header m ≡ Read (header_found m)
+pub read-good : (m : List ℕ) → refusal_of m ≡ 0 → read_header m ≡ Ok (header_found m)
 unfolding read_header
 read-good m h = rw (eq-eqb (refusal_of m) 0 h)
 

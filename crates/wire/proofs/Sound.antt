@@ -4,8 +4,9 @@ use Rattle.laws.proofs.Kit.{ℕ, ◌+◌, ◌-◌, ◌/◌, ◌%◌, ◌≤◌, 
 use Rattle.laws.proofs.Kit.{leb, eq-eqb, eqb-true, eqb-false, ltb-false, leb-false, not-false, mod-lt, arith}
 use native.Mathlib.Nat.{zero-lt-suc}
 use Rattle.laws.specs.Bytes.{be8, be16}
-use Rattle.laws.specs.Rows.{test_of}
+use Rattle.laws.specs.Rows.{test_of, unless}
 use Rattle.laws.proofs.Firsts.{row-false}
+use Rattle.laws.proofs.Refusals.{passed, goes-on}
 use Rattle.laws.proofs.Cases.{on}
 use Rattle.laws.proofs.Bools.{or-false, or4-false, and-true, and-false-right}
 use Rattle.wire.specs.Refusals.{too_short, wrong_signature, wrong_length, wrong_version}
@@ -13,11 +14,10 @@ use Rattle.wire.specs.Refusals.{wrong_type, wrong_flags, wrong_piece, wrong_chai
 use Rattle.wire.specs.Chain.{read_chain, leaves, is_broken}
 use Rattle.wire.specs.Fields.{bad_type, bad_flags, bad_piece, most_pieces, is_sealed, hmac_flag, encrypted_flag, tag_size}
 use Rattle.wire.specs.Reader.{header_of, room_of, chain_of, header_rows, rows_of, refusal_with, refusal_of, header_found, read_header}
-use Rattle.wire.specs.declared.chain.Chain.{Chain}
+use Rattle.std.specs.Prelude.{Option, Result, Ok, Err}
+use Rattle.wire.specs.declared.chain.FoundChain.{FoundChain}
 use Rattle.wire.specs.declared.header.Header.{Header}
 use Rattle.wire.specs.declared.header.FoundHeader.{FoundHeader}
-use Rattle.wire.specs.declared.header.HeaderRead.{HeaderRead}
-use Rattle.wire.specs.declared.header.HeaderRead.TheVariants.{Refused, Read}
 use Rattle.wire.proofs.Chains.{room-left}
 use Rattle.wire.proofs.Reading.{read-refused, read-good}
 
@@ -114,41 +114,45 @@ sound-good m g =
     record { is = refl; good = g; spans = omega arith; past = omega arith; blocks = g.blocks }
 
 -- What that says of an answer, which is nothing of a refusal.
-abbrev sound_of : List ℕ → HeaderRead → Type 0
-sound_of m (Refused n) = Unit
-sound_of m (Read f) = Sound m f
+abbrev sound_of : List ℕ → Result FoundHeader ℕ → Type 0
+sound_of m (Err n) = Unit
+sound_of m (Ok f) = Sound m f
 
 sound-all : (m : List ℕ) → sound_of m (read_header m)
 sound-all m =
     on (eqb (refusal_of m) 0) (λ z. let e = eqb-true (refusal_of m) 0 z in rw (read-good m e) (sound-good m (good m e)))
     (λ z. rw (read-refused m (refusal_of m) refl (eqb-false (refusal_of m) 0 z)) tt)
 
-pub read-sound : (m : List ℕ) (f : FoundHeader) → read_header m ≡ Read f → Sound m f
+pub read-sound : (m : List ℕ) (f : FoundHeader) → read_header m ≡ Ok f → Sound m f
 read-sound m f r = rw r at (sound-all m)
 
 pub tag_small : (m : List ℕ) (h : Header) (tag : ℕ) → h ≡ header_of m → tag ≡ tag_size h.flags → tag ≤ 32
 tag_small m h tag e t = rw (t, e) (small-tag m)
 
 -- The way through `read_header`: each call answers its part of the definition.
-module _ (m : List ℕ) (h : Header) (tag : ℕ) (k : Chain) (n : ℕ)
-    (fields : h ≡ header_of m) (tags : tag ≡ tag_size h.flags) (chains : k ≡ read_chain (room_of tag m)) (first : n ≡ refusal_with m h k) where
-  told : n ≡ refusal_of m
+module _ (m : List ℕ) (h : Header) (tag : ℕ) (k : Option FoundChain)
+    (fields : h ≡ header_of m) (tags : tag ≡ tag_size h.flags) (chains : k ≡ read_chain (room_of tag m)) where
+  abbrev Judged : Result Unit ℕ → Type 0
+  Judged r = r ≡ unless (refusal_with m h k) tt
+
+  told : refusal_with m h k ≡ refusal_of m
   unfolding refusal_of chain_of
-  told = rw (first, chains, tags, fields)
+  told = rw (chains, tags, fields)
 
-  pub refused : (n ≡ 0 → ⊥) → Refused n ≡ read_header m
-  refused p = sym (read-refused m n told p)
+  pub refused : {n : ℕ} → Judged (Err n) → Err n ≡ read_header m
+  unfolding read_header
+  refused j = goes-on (refusal_with m h k) tt (header_found m) j ∙ rw told
 
-  fits : n ≡ 0 → leaves k + 42 + tag ≤ length m
+  fits : Judged (Ok tt) → leaves k + 42 + tag ≤ length m
   unfolding chain_of
-  fits z = rw (chains, tags, fields) (room-left (tag_size (be16 m 6)) m (good m (sym told ∙ z)).chained)
+  fits j = rw (chains, tags, fields) (room-left (tag_size (be16 m 6)) m (good m (sym told ∙ passed _ tt j)).chained)
 
-  pub tag_fits : n ≡ 0 → tag ≤ length m
-  tag_fits z = omega (arith, fits z)
+  pub tag_fits : Judged (Ok tt) → tag ≤ length m
+  tag_fits j = omega (arith, fits j)
 
-  pub rest-fits : n ≡ 0 → leaves k ≤ length m - tag
-  rest-fits z = omega (arith, fits z)
+  pub rest-fits : Judged (Ok tt) → leaves k ≤ length m - tag
+  rest-fits j = omega (arith, fits j)
 
-  pub accepted : n ≡ 0 → Read (record { header = h; start = length m - tag - leaves k; size = leaves k }) ≡ read_header m
+  pub accepted : Judged (Ok tt) → Ok (record { header = h; start = length m - tag - leaves k; size = leaves k }) ≡ read_header m
   unfolding chain_of
-  accepted z = rw (chains, tags, fields) (sym (read-good m (sym told ∙ z)))
+  accepted j = rw (chains, tags, fields) (sym (read-good m (sym told ∙ passed _ tt j)))

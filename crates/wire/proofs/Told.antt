@@ -8,8 +8,7 @@ use Rattle.wire.specs.Reader.{header_of, read_header}
 use Rattle.wire.specs.declared.answers.Found.{Found}
 use Rattle.wire.specs.declared.header.FoundHeader.{FoundHeader}
 use Rattle.wire.specs.declared.header.Header.{Header}
-use Rattle.wire.specs.declared.header.HeaderRead.{HeaderRead}
-use Rattle.wire.specs.declared.header.HeaderRead.TheVariants.{Refused, Read}
+use Rattle.std.specs.Prelude.{Result, Ok, Err}
 use Rattle.wire.proofs.Sound.{Good, read-sound}
 
 -- A good message has no type 0.
@@ -17,20 +16,20 @@ pub some-type : (m : List ℕ) (h : Header) → h ≡ header_of m → Good m →
 unfolding bad_type
 some-type m h is g z = true≢false (rw (sym (ap (λ (h : Header). h.kind) is) ∙ z) at g.kind)
 
-pub header_refused : (m : List ℕ) (n : ℕ) → found_header (read_header m) ≡ nothing n → read_header m ≡ Refused n
+pub header_refused : (m : List ℕ) (n : ℕ) → found_header (read_header m) ≡ nothing n → read_header m ≡ Err n
 header_refused m n p = by (read_header m) refl p
   where
-    by : (a : HeaderRead) → read_header m ≡ a → found_header a ≡ nothing n → a ≡ Refused n
-    by (Refused k) e q = ap Refused (ap (λ (f : Found). f.refusal) q)
-    by (Read f) e q =
+    by : (a : Result FoundHeader ℕ) → read_header m ≡ a → found_header a ≡ nothing n → a ≡ Err n
+    by (Err k) e q = ap Err (ap (λ (f : Found). f.refusal) q)
+    by (Ok f) e q =
         let s = read-sound m f e in
         absurd (some-type m f.header s.is s.good (ap (λ (g : Found). g.header.kind) q))
 
-pub refused-header : (m : List ℕ) (n : ℕ) → read_header m ≡ Refused n → found_header (read_header m) ≡ nothing n
+pub refused-header : (m : List ℕ) (n : ℕ) → read_header m ≡ Err n → found_header (read_header m) ≡ nothing n
 refused-header m n e = ap found_header e
 
 -- The way through `found`: by what the reader answered, and whether the message is sealed.
-module _ (a : HeaderRead) (f : FoundHeader) (s : Bool) (e : a ≡ Read f) (is : s ≡ is_sealed f.header.flags) where
+module _ (a : Result FoundHeader ℕ) (f : FoundHeader) (s : Bool) (e : a ≡ Ok f) (is : s ≡ is_sealed f.header.flags) where
   abbrev found_as : ℕ → Found
   found_as n = record { refusal = 0; header = f.header; sealed = n; from = f.start; size = f.size }
 

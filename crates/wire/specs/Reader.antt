@@ -1,17 +1,15 @@
 -- SPDX-License-Identifier: MPL-2.0
 -- The reader of headers: the fields at their places, refusals 1 to 9 as document 01's table lists them, and the answer.
-use Rattle.std.specs.Prelude.{ℕ, ◌-◌, ◌%◌, List, [], ◌∷◌, Bool, not, cond, ◌&&◌, ◌||◌, length, take, drop, ltb, eqb}
+use Rattle.std.specs.Prelude.{ℕ, ◌-◌, ◌%◌, List, [], ◌∷◌, Bool, not, cond, ◌&&◌, ◌||◌, length, take, drop, ltb, eqb, Option, Result}
 use Rattle.laws.specs.Bytes.{be8, be16, be32, be64}
-use Rattle.laws.specs.Rows.{first}
+use Rattle.laws.specs.Rows.{first, unless}
 use Rattle.wire.specs.Refusals.{too_short, wrong_signature, wrong_length, wrong_version, wrong_type, wrong_flags, wrong_piece, wrong_chain}
 use Rattle.wire.specs.Refusals.{wrong_sealed_size}
 use Rattle.wire.specs.Fields.{bad_type, bad_flags, bad_piece, is_sealed, tag_size}
 use Rattle.wire.specs.Chain.{read_chain, leaves, is_broken}
-use Rattle.wire.specs.declared.chain.Chain.{Chain}
+use Rattle.wire.specs.declared.chain.FoundChain.{FoundChain}
 use Rattle.wire.specs.declared.header.Header.{Header}
 use Rattle.wire.specs.declared.header.FoundHeader.{FoundHeader}
-use Rattle.wire.specs.declared.header.HeaderRead.{HeaderRead}
-use Rattle.wire.specs.declared.header.HeaderRead.TheVariants.{Refused, Read}
 
 -- A header with nothing in it.
 abbrev pub empty_header : Header
@@ -35,7 +33,7 @@ unfoldable pub room_of : ℕ → List ℕ → List ℕ
 room_of tag m = take (length m - tag - 40) (drop 40 m)
 
 -- The chain of a message.
-unfoldable pub chain_of : List ℕ → Chain
+unfoldable pub chain_of : List ℕ → Option FoundChain
 chain_of m = read_chain (room_of (tag_size (be16 m 6)) m)
 
 -- The table, row by row, over the bytes given and what was read of them; `rest` is what stands after the chain.
@@ -53,11 +51,11 @@ header_rows given signature size version h broken rest =
     ∷ []
 
 -- The table of a message.
-unfoldable pub rows_of : List ℕ → Header → Chain → List (ℕ × Bool)
+unfoldable pub rows_of : List ℕ → Header → Option FoundChain → List (ℕ × Bool)
 rows_of m h chain = header_rows (length m) (be16 m 0) (be16 m 2) (be8 m 4) h (is_broken chain) (leaves chain)
 
 -- The number of the first refusal of 1 to 9 that applies to a message with this header and this chain, 0 where none does.
-unfoldable pub refusal_with : List ℕ → Header → Chain → ℕ
+unfoldable pub refusal_with : List ℕ → Header → Option FoundChain → ℕ
 refusal_with m h chain = first (rows_of m h chain)
 
 -- The same, with the header and the chain that the message has.
@@ -73,8 +71,8 @@ header_found m = record {
 }
 
 -- What the reader answers: the refusal, or what it found.
-unfoldable pub read_header : List ℕ → HeaderRead
-read_header m = cond (eqb (refusal_of m) 0) (Read (header_found m)) (Refused (refusal_of m))
+unfoldable pub read_header : List ℕ → Result FoundHeader ℕ
+read_header m = unless (refusal_of m) (header_found m)
 
 -- "MessageLength bytes at a time, at least 42". Where MessageLength is not there it counts as 0.
 unfoldable pub wanted : List ℕ → ℕ

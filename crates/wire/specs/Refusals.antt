@@ -1,6 +1,8 @@
 -- SPDX-License-Identifier: MPL-2.0
--- The numbers of document 01's table "Refusal numbers", each named by the fault.
-use Rattle.std.specs.Prelude.{ℕ}
+-- The numbers of document 01's table "Refusal numbers", each named by the fault; and the refusals that have them.
+use Rattle.std.specs.Prelude.{ℕ, ◌-◌, ◌≡◌, refl, List, [], ◌∷◌, get_or}
+use Rattle.wire.specs.declared.refusals.Refusal.{Refusal}
+use Rattle.wire.specs.declared.refusals.Refusal.TheVariants as fault
 
 -- tests/refusals/write: definitions
 -- fewer than 42 bytes
@@ -102,5 +104,103 @@ wrong_fragment_size = 24
 -- verdict not 0 or 1
 abbrev pub wrong_verdict : ℕ
 wrong_verdict = 25
+
+-- tests/refusals/write: end
+
+-- The number of each.
+abbrev pub number : Refusal → ℕ
+-- tests/refusals/write: numbers
+number fault.TooShort = too_short
+number fault.WrongSignature = wrong_signature
+number fault.WrongLength = wrong_length
+number fault.WrongVersion = wrong_version
+number fault.WrongType = wrong_type
+number fault.WrongFlags = wrong_flags
+number fault.WrongPiece = wrong_piece
+number fault.WrongChain = wrong_chain
+number fault.WrongSealedSize = wrong_sealed_size
+number fault.WrongKeys = wrong_keys
+number fault.WrongTag = wrong_tag
+number fault.ShortWorking = short_working
+number fault.WrongPadding = wrong_padding
+number fault.WrongPayload = wrong_payload
+number fault.NotAllowed = not_allowed
+number fault.OtherSession = other_session
+number fault.PastSequence = past_sequence
+number fault.FutureSequence = future_sequence
+number fault.LastSequence = last_sequence
+number fault.WrongPieceSize = wrong_piece_size
+number fault.UnlikeFirstPiece = unlike_first_piece
+number fault.NoRoom = no_room
+number fault.UnlikeRepeat = unlike_repeat
+number fault.WrongFragmentSize = wrong_fragment_size
+number fault.WrongVerdict = wrong_verdict
+
+-- tests/refusals/write: end
+
+-- All of them, in the order of their numbers.
+abbrev pub refusals : List Refusal
+refusals =
+    -- tests/refusals/write: refusals
+    fault.TooShort
+    ∷ fault.WrongSignature
+    ∷ fault.WrongLength
+    ∷ fault.WrongVersion
+    ∷ fault.WrongType
+    ∷ fault.WrongFlags
+    ∷ fault.WrongPiece
+    ∷ fault.WrongChain
+    ∷ fault.WrongSealedSize
+    ∷ fault.WrongKeys
+    ∷ fault.WrongTag
+    ∷ fault.ShortWorking
+    ∷ fault.WrongPadding
+    ∷ fault.WrongPayload
+    ∷ fault.NotAllowed
+    ∷ fault.OtherSession
+    ∷ fault.PastSequence
+    ∷ fault.FutureSequence
+    ∷ fault.LastSequence
+    ∷ fault.WrongPieceSize
+    ∷ fault.UnlikeFirstPiece
+    ∷ fault.NoRoom
+    ∷ fault.UnlikeRepeat
+    ∷ fault.WrongFragmentSize
+    ∷ fault.WrongVerdict
+    ∷ []
+    -- tests/refusals/write: end
+
+-- The refusal of a number.
+abbrev pub refusal_of : ℕ → Refusal
+refusal_of n = get_or refusals (n - 1) fault.TooShort
+
+-- Its number says which refusal it is.
+pub refusal_of-number : (r : Refusal) → refusal_of (number r) ≡ r
+-- tests/refusals/write: inverses
+refusal_of-number fault.TooShort = refl
+refusal_of-number fault.WrongSignature = refl
+refusal_of-number fault.WrongLength = refl
+refusal_of-number fault.WrongVersion = refl
+refusal_of-number fault.WrongType = refl
+refusal_of-number fault.WrongFlags = refl
+refusal_of-number fault.WrongPiece = refl
+refusal_of-number fault.WrongChain = refl
+refusal_of-number fault.WrongSealedSize = refl
+refusal_of-number fault.WrongKeys = refl
+refusal_of-number fault.WrongTag = refl
+refusal_of-number fault.ShortWorking = refl
+refusal_of-number fault.WrongPadding = refl
+refusal_of-number fault.WrongPayload = refl
+refusal_of-number fault.NotAllowed = refl
+refusal_of-number fault.OtherSession = refl
+refusal_of-number fault.PastSequence = refl
+refusal_of-number fault.FutureSequence = refl
+refusal_of-number fault.LastSequence = refl
+refusal_of-number fault.WrongPieceSize = refl
+refusal_of-number fault.UnlikeFirstPiece = refl
+refusal_of-number fault.NoRoom = refl
+refusal_of-number fault.UnlikeRepeat = refl
+refusal_of-number fault.WrongFragmentSize = refl
+refusal_of-number fault.WrongVerdict = refl
 
 -- tests/refusals/write: end

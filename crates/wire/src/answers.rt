@@ -3,7 +3,8 @@
 ghost use Rattle.std.specs.Prelude.{◌≡◌};
 ghost use Rattle.wire.specs.Answers.{nothing, found_header};
 
-use super::header::{Header, HeaderRead, is_sealed};
+use super::header::{FoundHeader, Header, is_sealed};
+use super::refusals::Refused;
 
 // The payload stands in the message, which was plain.
 pub const PLAIN: u8 = 0;
@@ -37,14 +38,14 @@ impl Found {
     }
 }
 
-impl HeaderRead {
+impl From<Result<FoundHeader, Refused>> for Found {
+    ghost from_gives = { λ answer found. found ≡ found_header answer };
+
     // The number and the values of the reader of headers' answer.
-    pub fn found(self) -> Found
-        ensures { result ≡ found_header self }
-    {
-        match self {
-            HeaderRead::Refused(n) => Found::nothing(n),
-            HeaderRead::Read(read) => Found {
+    fn from(answer: Result<FoundHeader, Refused>) -> Found {
+        match answer {
+            Err(refused) => Found::nothing(refused.number()),
+            Ok(read) => Found {
                 refusal: 0,
                 header: read.header,
                 sealed: if is_sealed(read.header.flags) {

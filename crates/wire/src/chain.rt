@@ -5,7 +5,7 @@
 //
 // The chain is read entry by entry: what stands after an entry is again a chain, and shorter.
 ghost use Rattle.std.specs.Prelude.{◌≡◌};
-ghost use Rattle.wire.specs.Chain.{entry_of, chain, read_chain, leaves, is_broken, bad_chain};
+ghost use Rattle.wire.specs.Chain.{entry_of, chain, read_chain, leaves, bad_chain};
 
 // The most entries that may stand before the end.
 pub const MOST_ENTRIES: u8 = 8;
@@ -14,13 +14,6 @@ pub const MOST_ENTRIES: u8 = 8;
 #[derive(Clone, Copy)]
 pub struct FoundChain {
     pub leaves: usize,
-}
-
-// What a chain is: a whole one, or none.
-#[derive(Clone, Copy)]
-pub enum Chain {
-    Whole(FoundChain),
-    Broken,
 }
 
 // What stands at the start of a chain: its end, an entry of n bytes in all, or neither.
@@ -56,17 +49,17 @@ fn read_entry(room: &[u8]) -> Entry
 }
 
 // Walks a chain that has at most `left` entries before its end.
-fn walk(room: &[u8], left: u8) -> Chain
+fn walk(room: &[u8], left: u8) -> Option<FoundChain>
     ensures { result ≡ chain left room.now }
 {
     match read_entry(room) {
-        Entry::Wrong => Chain::Broken,
-        Entry::End => Chain::Whole(FoundChain {
+        Entry::Wrong => None,
+        Entry::End => Some(FoundChain {
             leaves: room.len() - 2,
         }),
         Entry::Spans(n) => {
             if left == 0 {
-                return Chain::Broken;
+                return None;
             }
             walk(&room[n..], left - 1)
         }
@@ -75,30 +68,17 @@ fn walk(room: &[u8], left: u8) -> Chain
 
 // The chain at the start of its room.
 #[tactic(auto, unfolding(crate::specs::Chain::read_chain, crate::specs::Chain::most_entries))]
-pub fn read_chain(room: &[u8]) -> Chain
+pub fn read_chain(room: &[u8]) -> Option<FoundChain>
     ensures { result ≡ read_chain room.now }
 {
     walk(room, MOST_ENTRIES)
 }
 
-// Whether there is no chain.
-pub fn is_broken(chain: Chain) -> bool
-    ensures { result ≡ is_broken chain }
-{
-    match chain {
-        Chain::Whole(_) => false,
-        Chain::Broken => true,
-    }
-}
-
 // How many bytes stand after the chain; 0 where there is none.
-pub fn leaves(chain: Chain) -> usize
+pub fn leaves(chain: Option<FoundChain>) -> usize
     ensures { result ≡ leaves chain }
 {
-    match chain {
-        Chain::Whole(found) => found.leaves,
-        Chain::Broken => 0,
-    }
+    chain.map_or(0, |found| found.leaves)
 }
 
 // Refusal 8 in the writer, which is given the chain with its end: no chain, or bytes after its end.
@@ -107,5 +87,5 @@ pub fn bad_chain(given: &[u8]) -> bool
     ensures { result ≡ bad_chain given.now }
 {
     let chain = read_chain(given);
-    is_broken(chain) | (leaves(chain) != 0)
+    chain.is_none() | (leaves(chain) != 0)
 }

@@ -5,18 +5,14 @@
 //     | 30 30   | length | version | type | flags | sequence | request | index | count | session | channel | chain, payload, tag
 //
 ghost use Rattle.std.specs.Prelude.{◌≡◌, ◌≤◌};
-ghost use Rattle.laws.specs.Rows.{first};
+ghost use Rattle.laws.specs.Rows.{first, unless};
 ghost use Rattle.wire.specs.Chain.{read_chain};
 ghost use Rattle.wire.specs.Fields.{bad_type, bad_flags, bad_piece, is_sealed, tag_size};
 ghost use Rattle.wire.specs.Reader.{empty_header, header_of, room_of, header_rows, refusal_with, read_header, wanted};
 
-use super::chain::{Chain, is_broken, leaves, read_chain};
-use super::refusals::{
-    TOO_SHORT, WRONG_CHAIN, WRONG_FLAGS, WRONG_LENGTH, WRONG_PIECE, WRONG_SEALED_SIZE,
-    WRONG_SIGNATURE, WRONG_TYPE, WRONG_VERSION,
-};
+use super::chain::{FoundChain, leaves, read_chain};
+use super::refusals::{Refusal, Refused};
 use octets::numbers::{byte, number16, number32, number64};
-use rows::next;
 
 // Discovery: a message type.
 pub const DISCOVERY: u8 = 1;
@@ -159,18 +155,19 @@ fn fields(message: &[u8]) -> Header
 
 // The chain's room is the message after the fixed header, less the tag. Where the tag reaches into the header there is none.
 #[tactic(auto, using(crate::proofs::Chains::no_room), unfolding(crate::specs::Reader::room_of))]
-fn chain_of(message: &[u8], tag: usize) -> Chain
+fn chain_of(message: &[u8], tag: usize) -> Option<FoundChain>
     requires { tag ≤ 32 }
     ensures { result ≡ read_chain (room_of tag message.now) }
 {
     if message.len() < Header::LENGTH + tag {
-        return Chain::Broken;
+        return None;
     }
     let end = message.len() - tag;
     read_chain(&message[Header::LENGTH..end])
 }
 
-// The table, over the bytes given and what was read of them: the number of the first refusal that applies, or 0.
+// The table, over the bytes given and what was read of them: the first refusal that applies.
+#[tactic(auto, unfolding(crate::specs::Reader::header_rows))]
 fn judge(
     given: usize,
     signature: u16,
@@ -179,26 +176,26 @@ fn judge(
     h: Header,
     broken: bool,
     rest: usize,
-) -> u8
-    ensures { result ≡ first (header_rows given signature size version h broken rest) }
+) -> Result<(), Refused>
+    ensures { result ≡ unless (first (header_rows given signature size version h broken rest)) tt }
 {
     let length = size as usize;
     let no_blocks = (rest == 0) | (rest % 16 != 0);
-    let n = next(0, TOO_SHORT, given < SHORTEST);
-    let n = next(n, WRONG_SIGNATURE, signature != Header::SIGNATURE);
-    let n = next(n, WRONG_LENGTH, (length < SHORTEST) | (length != given));
-    let n = next(n, WRONG_VERSION, version != Header::VERSION);
-    let n = next(n, WRONG_TYPE, bad_type(h.kind));
-    let n = next(n, WRONG_FLAGS, bad_flags(h.kind, h.flags));
-    let n = next(n, WRONG_PIECE, bad_piece(h.kind, h.index, h.count));
-    let n = next(n, WRONG_CHAIN, broken);
-    next(n, WRONG_SEALED_SIZE, is_sealed(h.flags) & no_blocks)
+    Refusal::TooShort.when(given < SHORTEST)?;
+    Refusal::WrongSignature.when(signature != Header::SIGNATURE)?;
+    Refusal::WrongLength.when((length < SHORTEST) | (length != given))?;
+    Refusal::WrongVersion.when(version != Header::VERSION)?;
+    Refusal::WrongType.when(bad_type(h.kind))?;
+    Refusal::WrongFlags.when(bad_flags(h.kind, h.flags))?;
+    Refusal::WrongPiece.when(bad_piece(h.kind, h.index, h.count))?;
+    Refusal::WrongChain.when(broken)?;
+    Refusal::WrongSealedSize.when(is_sealed(h.flags) & no_blocks)
 }
 
 // The first refusal of 1 to 9 that applies, given the header and the chain as they were read.
 #[tactic(auto, unfolding(crate::specs::Reader::refusal_with, crate::specs::Reader::rows_of))]
-fn refusal(message: &[u8], header: Header, chain: Chain) -> u8
-    ensures { result ≡ refusal_with message.now header chain }
+fn refusal(message: &[u8], header: Header, chain: Option<FoundChain>) -> Result<(), Refused>
+    ensures { result ≡ unless (refusal_with message.now header chain) tt }
 {
     judge(
         message.len(),
@@ -206,7 +203,7 @@ fn refusal(message: &[u8], header: Header, chain: Chain) -> u8
         number16(message, Header::LENGTH_AT),
         byte(message, Header::VERSION_AT),
         header,
-        is_broken(chain),
+        chain.is_none(),
         leaves(chain),
     )
 }
@@ -219,26 +216,16 @@ pub struct FoundHeader {
     pub size: usize,
 }
 
-// What the reader of headers answers: the number of a refusal, or what it found.
-#[derive(Clone, Copy)]
-pub enum HeaderRead {
-    Refused(u8),
-    Read(FoundHeader),
-}
-
 // Reads a message as far as it goes without keys: refusals 1 to 9, else the header.
-pub fn read_header(message: &[u8]) -> HeaderRead
+pub fn read_header(message: &[u8]) -> Result<FoundHeader, Refused>
     ensures { result ≡ read_header message.now }
 {
     let header = fields(message);
     let tag = tag_size(header.flags);
     let chain = chain_of(message, tag);
-    let n = refusal(message, header, chain);
-    if n != 0 {
-        return HeaderRead::Refused(n);
-    }
+    refusal(message, header, chain)?;
     let size = leaves(chain);
-    HeaderRead::Read(FoundHeader {
+    Ok(FoundHeader {
         header,
         start: message.len() - tag - size,
         size,

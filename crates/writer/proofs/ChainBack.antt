@@ -6,19 +6,19 @@ use lib.Seq.{drop-append-le}
 use Rattle.laws.proofs.Bools.{or-false}
 use Rattle.laws.proofs.Cases.{on}
 use Rattle.wire.specs.Chain.{entry_of, follow, chain, read_chain, most_entries, leaves, is_broken, bad_chain}
-use Rattle.wire.specs.declared.chain.Chain.{Chain}
+use Rattle.std.specs.Prelude.{Option, Some, None}
+use Rattle.wire.specs.declared.chain.FoundChain.{FoundChain}
 use Rattle.wire.specs.declared.chain.Entry.{Entry}
-use Rattle.wire.specs.declared.chain.Chain.TheVariants.{Whole, Broken}
 use Rattle.wire.specs.declared.chain.Entry.TheVariants.{End, Spans, Wrong}
 use Rattle.wire.proofs.Chains.{spans-within, end-within}
 
 -- A chain that leaves n bytes after it.
-abbrev pub leaving : ℕ → Chain
-leaving n = Whole (record { leaves = n })
+abbrev pub leaving : ℕ → Option FoundChain
+leaving n = Some (record { leaves = n })
 
 module _ (rest : List ℕ) where
   -- An entry that breaks no chain.
-  entry-append : (m : List ℕ) (next : List ℕ → Chain) → is_broken (follow (entry_of m) m next) ≡ false → entry_of (m ++ rest) ≡ entry_of m
+  entry-append : (m : List ℕ) (next : List ℕ → Option FoundChain) → is_broken (follow (entry_of m) m next) ≡ false → entry_of (m ++ rest) ≡ entry_of m
   unfolding entry_of
   entry-append [] next b = absurd (true≢false b)
   entry-append (x ∷ []) next b = absurd (true≢false b)
@@ -31,7 +31,7 @@ module _ (rest : List ℕ) where
       (λ l. absurd (true≢false (rw (p, z, f, l) at b)))
       λ l. rw (z, f, l, le-ltb k (2 + y) (omega (arith, ltb-false n (2 + y) l))))
 
-  follow-append : (m : List ℕ) (e : Entry) (next : List ℕ → Chain) → entry_of m ≡ e
+  follow-append : (m : List ℕ) (e : Entry) (next : List ℕ → Option FoundChain) → entry_of m ≡ e
       → ((r : List ℕ) → is_broken (next r) ≡ false → next (r ++ rest) ≡ leaving (leaves (next r) + length rest))
       → is_broken (follow e m next) ≡ false → follow e (m ++ rest) next ≡ leaving (leaves (follow e m next) + length rest)
   follow-append m Wrong next p ih b = absurd (true≢false b)
@@ -40,7 +40,7 @@ module _ (rest : List ℕ) where
 
   chain-append : (left : ℕ) (m : List ℕ) → is_broken (chain left m) ≡ false → chain left (m ++ rest) ≡ leaving (leaves (chain left m) + length rest)
   unfolding chain
-  chain-append zero m b = rw (entry-append m (λ r. Broken) b) (follow-append m (entry_of m) (λ r. Broken) refl (λ r p. absurd (true≢false p)) b)
+  chain-append zero m b = rw (entry-append m (λ r. None) b) (follow-append m (entry_of m) (λ r. None) refl (λ r p. absurd (true≢false p)) b)
   chain-append (suc left) m b = rw (entry-append m (chain left) b) (follow-append m (entry_of m) (chain left) refl (chain-append left) b)
 
   -- A chain that the writer accepts is read back, and leaves what stands after it.

@@ -11,7 +11,7 @@ use Rattle.wire.specs.Chain.{bad_chain}
 use Rattle.wire.specs.Reader.{header_of, room_of, chain_of, header_rows, rows_of, refusal_with, refusal_of, read_header}
 use Rattle.writer.specs.Header.{header_bytes}
 use Rattle.wire.specs.declared.header.Header.{Header}
-use Rattle.wire.specs.declared.header.HeaderRead.TheVariants.{Read}
+use Rattle.std.specs.Prelude.{Ok}
 use Rattle.wire.proofs.Chains.{chain-long}
 use Rattle.wire.proofs.Reading.{read-good}
 use Rattle.writer.proofs.ChainBack.{leaving, chain_back}
@@ -72,7 +72,7 @@ module _ (h : Header) (chain body tag : List ℕ) where
         rw (said, chained, fields) (none (length message) (omega (arith, length-message, chain-long chain a.chained)))
 
     -- What is written reads back.
-    pub read_back : read_header message ≡ Read (record { header = h; start = 40 + length chain; size = length body })
+    pub read_back : read_header message ≡ Ok (record { header = h; start = 40 + length chain; size = length body })
     read_back =
         let start : length message - length tag - length body ≡ 40 + length chain = omega (arith, length-message) in
         rw (read-good message accepted, chained, tags, start, fields)

@@ -5,9 +5,10 @@ ghost use Rattle.std.proofs.lemmas.List.Edits.{sets};
 ghost use Rattle.writer.specs.Header.{header_bytes};
 ghost use Rattle.writer.specs.Written.{written, output};
 
-use crate::{Written, put_refusal};
+use crate::put_refusal;
 use octets::stores::{store8, store16, store32, store64};
 use wire::header::Header;
+use wire::refusals::Refused;
 
 // Puts the fields, each at its place.
 fn put_header(h: Header, size: u16, out: &mut [u8])
@@ -27,14 +28,12 @@ fn put_header(h: Header, size: u16, out: &mut [u8])
 }
 
 // Writes the 40 bytes of a header whose message has `size` bytes.
-pub fn write_header(header: Header, size: u16, out: &mut [u8]) -> Written
+#[tactic(auto, unfolding(crate::specs::Written::written), using(crate::proofs::Writing::stored, crate::proofs::Writing::length_header))]
+pub fn write_header(header: Header, size: u16, out: &mut [u8]) -> Result<usize, Refused>
     ensures answer { result ≡ written false 40 out.old }
     ensures bytes { out.new ≡ output false 40 (header_bytes header size) out.old }
 {
-    let n = put_refusal(false, Header::LENGTH, out.len());
-    if n != 0 {
-        return Written::Refused(n);
-    }
+    put_refusal(false, Header::LENGTH, out.len())?;
     put_header(header, size, out);
-    Written::Bytes(Header::LENGTH)
+    Ok(Header::LENGTH)
 }

@@ -10,8 +10,6 @@ use Rattle.state.proofs.put_progress.Goals as goal
 pub returns : goal.returns
 unfolding progress_bytes most_pieces
 returns c =
-    let p = c.args.p in
-    let run = rw (length-gathered (heard_byte p.heard) heard_size) at (stored-joined c.args.out.now expected_place (progress_parts p)) in (
-      rw (c.store16.ensures, c.store64-2.ensures, c.store64.ensures) (rw (c.put_heard.ensures.0, c.store32.ensures) run),
-      c.put_heard.ensures.1,
-    )
+    let p = c.args.p.now in
+    let run = rw (length-gathered (heard_byte p.heard) heard_size) at (stored-joined c.args.out.now expected_place (progress_parts p)) in
+    rw (c.store16.ensures, c.store64-2.ensures, c.store64.ensures) (rw (c.store_bytes.ensures, c.heard_bytes.ensures, c.store32.ensures) run)

@@ -5,7 +5,7 @@ use Rattle.message.specs.Handed.{payload}
 use Rattle.message.proofs.Told.{handed-refused}
 use Rattle.message.proofs.payload.payload.Goals as goal
 
-pub returns-in-Refused : goal.returns-in-Refused
-returns-in-Refused c =
+pub returns-in-Err : goal.returns-in-Err
+returns-in-Err c =
     let a = c.args in
-    sym (ap (payload a.message.now a.working.now) c.in-Refused.is ∙ handed-refused a.message.now a.working.now c.in-Refused.field-0)
+    sym (ap (payload a.message.now a.working.now) c.in-Err.is ∙ handed-refused a.message.now a.working.now c.in-Err.field-0)

@@ -16,4 +16,6 @@ fields p {m} {k} {c} {t} d e f g =
     (rw (le-leb 0 t (omega arith)) at thumbprint))))
 
 pub returns : goal.returns
-returns c = fields _ c.number16.ensures c.byte-connect.ensures c.number16-certificate.ensures c.number16-thumbprint.ensures
+returns c =
+    rw c.shows_certificate.ensures
+    (fields _ c.number16.ensures c.byte-connect.ensures c.number16-certificate.ensures c.number16-thumbprint.ensures)

@@ -18,4 +18,4 @@ fields p {n} {d} {m} e f g =
     simp (and_one, and_assoc) at (over-fixed p one 1 0 _ f (over-free p two (at_most 2) 1 _ g device))
 
 pub returns : goal.returns
-returns c = fields _ c.number16-name.ensures c.byte.ensures c.number16.ensures
+returns c = rw c.number.ensures (fields _ c.number16-name.ensures c.byte.ensures c.number16.ensures)

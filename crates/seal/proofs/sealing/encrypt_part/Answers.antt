@@ -5,6 +5,4 @@ use Rattle.seal.proofs.Padded.{plain_text-blocks}
 use Rattle.seal.proofs.sealing.encrypt_part.Goals as goal
 
 pub returns : goal.returns
-returns c =
-    c.cbc_encrypt_in_place.ensures.new_buffer
-    ∙ rw (c.put_plain.ensures, plain_text-blocks, c.expand_key-round_keys.ensures, c.block_at.ensures)
+returns c = c.cbc_encrypt_in_place.ensures.new_buffer ∙ rw (c.put_plain.ensures, plain_text-blocks, c.round_keys.ensures)
