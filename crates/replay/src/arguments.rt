@@ -1,6 +1,5 @@
 // SPDX-License-Identifier: MPL-2.0
 // The arguments: KEYS F [VERDICT].
-use crate::report::text;
 use intake::read_full;
 use std::env::FillError;
 use std::fmt;
@@ -58,6 +57,11 @@ fn verdict_asked(rt: &impl Env) -> Result<u8, Wrong> {
         Ok(1) if text[0] == b'1' => Ok(1),
         _ => Err(Wrong::Verdict),
     }
+}
+
+// A path as the text that files are named by. Bytes that are no text give the empty path, which names no file.
+fn text(path: &[u8]) -> &str {
+    str::from_utf8(path).unwrap_or("")
 }
 
 // The bytes of the key file, argument 1.
