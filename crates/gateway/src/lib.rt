@@ -3,7 +3,7 @@
 #![tactic(auto)]
 
 mod hear;
-mod numbers;
+pub mod numbers;
 mod step;
 
 ghost use Rattle.std.specs.Prelude.{◌≡◌};
