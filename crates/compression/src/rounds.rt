@@ -44,7 +44,7 @@ fn round(v: Vars, k: u32, w: u32) -> Vars
     }
 }
 
-// Rounds t to t + 15. They are written out, so that no place in the ring is computed: a `for` takes 34 % more instructions.
+// Rounds t to t + 15. They are written out, so that no place in the ring is computed: a `for` takes 36 % more instructions.
 #[tactic(auto, unfolding(crate::specs::Ring::turn, crate::specs::Constants::K256))]
 fn sixteen_rounds(v: Vars, w: &[u32; 16], t: usize) -> Vars
     requires { t + 16 ≤ 64 }

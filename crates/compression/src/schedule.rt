@@ -25,7 +25,7 @@ fn put_word(w: &mut [u32; 16], i: usize)
     w[i] = mixed(w[(i + 14) % 16], w[(i + 9) % 16], w[(i + 1) % 16], w[i]);
 }
 
-// The next sixteen words, each in the place of the one sixteen before it; written out, since a `for` makes a digest 12 % more instructions.
+// The next sixteen words, each in the place of the one sixteen before it; written out, since a `for` takes 11 % more instructions.
 #[tactic(auto, unfolding(crate::specs::Ring::ring))]
 fn put_sixteen(w: &mut [u32; 16])
     ensures { w.new ≡ ring w.old 16 }
