@@ -36,6 +36,7 @@ pub extern "C" fn hub_gateway_open(fragment_size: u64, session: u64, gateway: &m
 
 // One message on the gateway's connection in a state buffer: refused, with the connection as it was and the answer's words 0; or the next
 // connection, and the answer in three words: kind, value, 0.
+#[tactic(auto, unfolding(crate::specs::Client::gateway_after))]
 #[unsafe(no_mangle)]
 pub extern "C" fn hub_gateway_step(
     gateway: &mut [u8],

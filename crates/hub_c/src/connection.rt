@@ -58,7 +58,7 @@ fn short_report(connection: Connection, room: usize) -> bool
 // One message on the connection in a state buffer: refused, with state and report as they were and the answer's words 0; or the next state,
 // and the answer in three words: kind, value, length. The length is never more than the report buffer has: one that is shorter than the report
 // is a wrong buffer.
-#[tactic(auto, unfolding(wire::specs::Fields::most_pieces))]
+#[tactic(auto, unfolding(crate::specs::Answered::state_after, wire::specs::Fields::most_pieces))]
 #[unsafe(no_mangle)]
 pub extern "C" fn hub_step(
     state: &mut [u8],
