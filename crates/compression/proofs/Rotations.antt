@@ -51,11 +51,11 @@ rotr-rotr m n x h hx =
     (rw (rotr-turned (m + n) k x (omega arith) hx) (turned-turned m n k x))
 
 -- nested once
-rotr-nested : (m n x : ℕ) → m + n ≤ 32 → x < 2 ^ 32 → ROTR m (bit_xor x (ROTR n x)) ≡ bit_xor (ROTR m x) (ROTR (m + n) x)
+pub rotr-nested : (m n x : ℕ) → m + n ≤ 32 → x < 2 ^ 32 → ROTR m (bit_xor x (ROTR n x)) ≡ bit_xor (ROTR m x) (ROTR (m + n) x)
 rotr-nested m n x h hx = rotr-xor m x (ROTR n x) (omega arith) hx (rotr-lt n x hx) ∙ ap (bit_xor (ROTR m x)) (rotr-rotr m n x h hx)
 
 -- nested twice
-rotr-nested-twice : (l m n x : ℕ) → l + (m + n) ≤ 32 → x < 2 ^ 32
+pub rotr-nested-twice : (l m n x : ℕ) → l + (m + n) ≤ 32 → x < 2 ^ 32
     → ROTR l (bit_xor x (ROTR m (bit_xor x (ROTR n x)))) ≡ bit_xor (bit_xor (ROTR l x) (ROTR (l + m) x)) (ROTR (l + (m + n)) x)
 rotr-nested-twice l m n x h hx =
     let a = ROTR m x in

@@ -1,7 +1,7 @@
 -- SPDX-License-Identifier: MPL-2.0
 -- Bytes put into others, a number's bytes, and a padding, made by stores.
-use Rattle.laws.proofs.Kit.{ℕ, ◌+◌, ◌-◌, ◌*◌, ◌/◌, ◌^◌, ◌≤◌, ◌<◌, ◌≡◌, List, [], ◌∷◌, ◌++◌, length, take, set, replicate, length-append, length-replicate}
-use Rattle.laws.proofs.Kit.{sets, take_at, ap₂, arith}
+use Rattle.laws.proofs.Kit.{ℕ, ◌+◌, ◌-◌, ◌*◌, ◌^◌, ◌≤◌, ◌<◌, ◌≡◌, List, ◌∷◌, ◌++◌, length, take, set, replicate, length-append, length-replicate}
+use Rattle.laws.proofs.Kit.{sets, take_at, arith}
 use borrow.Rule.Slice.PartMut.{put_mid}
 use lib.Seq.{sets-eq}
 use Rattle.std.specs.Int.{w32, w64, to_be_bytes}
@@ -14,17 +14,12 @@ use Rattle.sha256.proofs.Keys.{zeros-split}
 pub put_by : (out bytes back : List ℕ) (at k : ℕ) → back ≡ bytes → k ≡ length bytes → at + k ≤ length out → put_mid at k out back ≡ sets out at bytes
 put_by out bytes back at k e l fits = lent-stores out bytes at k e l fits
 
-four : (a b c d e f g h : ℕ) → a ≡ e → b ≡ f → c ≡ g → d ≡ h → (a ∷ b ∷ c ∷ d ∷ []) ≡ (e ∷ f ∷ g ∷ h ∷ [])
-four a b c d e f g h p q r s = rw (p, q, r, s)
-
+-- a number's bytes, as std counts them and as the definitions do
 pub be_bytes32 : (x : ℕ) → x < 2 ^ 32 → to_be_bytes w32 x ≡ bytes32 x
-be_bytes32 x h = four _ _ _ _ _ _ _ _ (omega arith) (omega arith) (omega arith) (omega arith)
+be_bytes32 x h = grind arith
 
 pub be_bytes64 : (x : ℕ) → x < 2 ^ 64 → to_be_bytes w64 x ≡ bytes64 x
-be_bytes64 x h =
-    ap₂ (λ (a b : List ℕ). a ++ b) {x = _ ∷ _ ∷ _ ∷ _ ∷ []} {y = bytes32 (x / 4294967296)}
-    (four _ _ _ _ _ _ _ _ (omega arith) (omega arith) (omega arith) (omega arith))
-    (four _ _ _ _ _ _ _ _ (omega arith) (omega arith) (omega arith) (omega arith))
+be_bytes64 x h = grind arith
 
 -- a first byte, zeros, and a run of stores after them
 pub padding_by : (r total : ℕ) (bs p : List ℕ) → p ≡ sets (set (replicate 72 0) 0 0x80) (1 + r) bs → r ≡ zeros total

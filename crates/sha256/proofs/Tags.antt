@@ -1,14 +1,12 @@
 -- SPDX-License-Identifier: MPL-2.0
 -- Differences or-ed together are 0 exactly where there are none.
-use Rattle.laws.proofs.Kit.{ℕ, ◌≡◌, sym, false, ◌&&◌, List, [], ◌∷◌, length, eqb, eq-eqb, ne_eqb, eqb-true, eqb-false, bit_xor, arith}
-use Rattle.std.proofs.Common.{◌≢◌}
+use Rattle.laws.proofs.Kit.{ℕ, ◌≡◌, sym, ◌&&◌, List, [], ◌∷◌, length, eqb, eq-eqb, ne_eqb, eqb-true, eqb-false, bit_xor, arith}
 use Rattle.std.specs.List.{fold, zip}
 use lib.Bits.{bit_or, xor_self}
 use Rattle.laws.specs.Same.{same}
 use Rattle.sha256.specs.Tags.{differing}
 use Rattle.laws.proofs.Cases.{on}
 use Rattle.laws.proofs.Bools.{and_one, and_assoc}
-use Rattle.laws.proofs.Sames.{same_length}
 use Rattle.laws.proofs.Xor.{or-zero, xor-zero}
 
 or-differ : (d x y : ℕ) → eqb (bit_or d (bit_xor x y)) 0 ≡ (eqb d 0 && eqb x y)
@@ -18,6 +16,7 @@ or-differ d x y =
     λ q. rw (p, q) (ne_eqb (bit_or d (bit_xor x y)) 0 λ e. eqb-false x y q (xor-zero x y (or-zero d (bit_xor x y) e).1)))
     λ p. rw p (ne_eqb (bit_or d (bit_xor x y)) 0 λ e. eqb-false d 0 p (or-zero d (bit_xor x y) e).0)
 
+-- from the bits d on
 differ-on : (xs ys : List ℕ) (d : ℕ) → length xs ≡ length ys
     → eqb (fold (λ bits pair. bit_or bits (bit_xor pair.0 pair.1)) d (zip xs ys)) 0 ≡ (eqb d 0 && same xs ys)
 differ-on [] [] d l = sym (and_one (eqb d 0))
@@ -28,6 +27,3 @@ differ-on (x ∷ xs) (y ∷ ys) d l = rw (differ-on xs ys (bit_or d (bit_xor x y
 pub differ_by : (xs ys : List ℕ) → length xs ≡ length ys → eqb (differing xs ys) 0 ≡ same xs ys
 unfolding differing
 differ_by xs ys l = differ-on xs ys 0 l
-
-pub lengths_differ : (xs ys : List ℕ) → length xs ≢ length ys → same xs ys ≡ false
-lengths_differ xs ys h = same_length xs ys h

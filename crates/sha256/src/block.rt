@@ -1,6 +1,6 @@
 // SPDX-License-Identifier: MPL-2.0
 // FIPS 180-4 §5.2.1: a block of sixty-four bytes as sixteen words, the highest byte first.
-ghost use Rattle.std.specs.Prelude.{◌≡◌, ◌<◌, ◌≤◌, ◌+◌, ◌*◌};
+ghost use Rattle.std.specs.Prelude.{◌≡◌, ◌≤◌, ◌+◌};
 ghost use Rattle.laws.specs.Bytes.{be32};
 ghost use Rattle.sha256.specs.Digests.{words, after_block};
 

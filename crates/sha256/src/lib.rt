@@ -83,7 +83,7 @@ fn digest_under(block: &[u8; 64], pad: u8, text: &Message<'_>) -> [u8; 32]
 
 // Whether a tag is the one computed. It reads every byte, ors the differences and has one exit; nothing is proved of its time. A tag that is not
 // of thirty-two bytes is another.
-#[tactic(auto, using(crate::proofs::Tags::differ_by, crate::proofs::Tags::lengths_differ))]
+#[tactic(auto, using(crate::proofs::Tags::differ_by, laws::proofs::Sames::same_length))]
 pub fn same_tag(ours: [u8; 32], theirs: &[u8]) -> bool
     ensures { result ≡ same ours theirs.now }
 {

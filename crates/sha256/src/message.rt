@@ -81,11 +81,11 @@ impl<'a> Message<'a> {
         };
         let mut room = [0; 72];
         let padding = put_padding(&mut room, total);
-        bytes_of(Padded {
+        let padded = Padded {
             message: *self,
             padding,
-        }
-        .hash(v))
+        };
+        bytes_of(padded.hash(v))
     }
 
     // The digest of the message.
