@@ -28,7 +28,7 @@ use Rattle.aes.proofs.StateWords.{bytes_of-block, columns-bytes, columns-added, 
 pub sums-forth : (s k : State) → reversed_bytes (sum s k) ≡ add_round_key (reversed_bytes s) (reversed_bytes k)
 sums-forth s k = words-added (reversed s) (reversed k)
 
-pub sums-back : (s k : State) → bytes_of (sum s k) ≡ add_round_key (bytes_of s) (bytes_of k)
+sums-back : (s k : State) → bytes_of (sum s k) ≡ add_round_key (bytes_of s) (bytes_of k)
 sums-back = words-added
 
 -- ---- the rounds with MixColumns
@@ -43,14 +43,14 @@ unfolding rows_added
 by-words f fits k l m n a b c d j =
     looked-up f k l m n fits j _ _ _ _ (byte_at-lt a 0) (byte_at-lt b 1) (byte_at-lt c 2) (byte_at-lt d 3) ∙ comm _ _
 
-pub words-forth : (s k : State) → reversed_bytes (round_words mixes s k) ≡ add_round_key (mix_columns (shift_rows (sub_bytes (reversed_bytes s)))) (reversed_bytes k)
+words-forth : (s k : State) → reversed_bytes (round_words mixes s k) ≡ add_round_key (mix_columns (shift_rows (sub_bytes (reversed_bytes s)))) (reversed_bytes k)
 unfolding round_words mixes mix_columns shift_rows shifted sub_bytes block run down bytes_of column mixed
 words-forth s k =
     let found = by-words sbox sbox-byte 2 3 1 1 in
     columns-added _ (mix-block _ (shift-block _ (sub-block _ (bytes_of-block (reversed s))))) (reversed (round_words mixes s k)) (reversed k) _ _ _ _
     (refl, refl, refl, refl) (found s.d s.c s.b s.a k.d) (found s.c s.b s.a s.d k.c) (found s.b s.a s.d s.c k.b) (found s.a s.d s.c s.b k.a)
 
-pub words-back : (s k : State) → bytes_of (round_words unmixes s k) ≡ add_round_key (inv_mix_columns (inv_sub_bytes (inv_shift_rows (bytes_of s)))) (bytes_of k)
+words-back : (s k : State) → bytes_of (round_words unmixes s k) ≡ add_round_key (inv_mix_columns (inv_sub_bytes (inv_shift_rows (bytes_of s)))) (bytes_of k)
 unfolding round_words unmixes inv_mix_columns inv_shift_rows unshifted inv_sub_bytes block run down bytes_of column unmixed
 words-back s k =
     let found = by-words inv_sbox inv_sbox-byte 14 11 13 9 in
@@ -59,23 +59,23 @@ words-back s k =
 
 -- ---- the last rounds, without MixColumns
 
-pub bytes-forth : (s k : State) → reversed_bytes (last_words sbox s k) ≡ add_round_key (shift_rows (sub_bytes (reversed_bytes s))) (reversed_bytes k)
+bytes-forth : (s k : State) → reversed_bytes (last_words sbox s k) ≡ add_round_key (shift_rows (sub_bytes (reversed_bytes s))) (reversed_bytes k)
 unfolding last_words substituted shift_rows shifted sub_bytes block run bytes_of
 bytes-forth s k =
     columns-added _ (shift-block _ (sub-block _ (bytes_of-block (reversed s)))) (reversed (last_words sbox s k)) (reversed k) _ _ _ _
     (refl, refl, refl, refl) refl refl refl refl
 
-pub bytes-back : (s k : State) → bytes_of (last_words inv_sbox s k) ≡ add_round_key (inv_sub_bytes (inv_shift_rows (bytes_of s))) (bytes_of k)
+bytes-back : (s k : State) → bytes_of (last_words inv_sbox s k) ≡ add_round_key (inv_sub_bytes (inv_shift_rows (bytes_of s))) (bytes_of k)
 unfolding last_words substituted inv_shift_rows unshifted inv_sub_bytes block run bytes_of
 bytes-back s k =
     columns-added _ (unsub-block _ (unshift-block _ (bytes_of-block s))) (last_words inv_sbox s k) k _ _ _ _ (refl, refl, refl, refl) refl refl refl refl
 
 -- ---- InvMixColumns of a round key
 
-pub unmixed-key : (s : State)
+pub unmixed_key : (s : State)
     → bytes_of (record { a = unmixed_word s.a; b = unmixed_word s.b; c = unmixed_word s.c; d = unmixed_word s.d }) ≡ inv_mix_columns (bytes_of s)
 unfolding unmixed_word inv_mix_columns block run down bytes_of column unmixed
-unmixed-key s = columns-bytes _ (unmix-block _ (bytes_of-block s)) _ (refl, refl, refl, refl)
+unmixed_key s = columns-bytes _ (unmix-block _ (bytes_of-block s)) _ (refl, refl, refl, refl)
 
 -- ---- one round less to come, and none
 

@@ -120,8 +120,8 @@ fn last_round<D: Direction>(s: State, k: State) -> State
     }
 }
 
-// All rounds on four words; round key n is that of the round before which n more come. Where it has two callers, a call of it in the loop of a chain
-// would cost: 622,007 instructions to decrypt 16 KiB, by valgrind, for 584,165 with the hint.
+// All rounds on four words: round key n is added where n more rounds come. The hint keeps them within the loop of a chain, though they have more callers:
+// without it 16 KiB took 622,007 instructions to decrypt, by valgrind, with it 584,165.
 #[inline(always)]
 pub(crate) fn crypt<D: Direction>(keys: &[State; 11], b: State) -> State
     ensures { result ≡ by_tables D.of_word D.of_byte keys.now b }
