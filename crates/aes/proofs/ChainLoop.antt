@@ -1,6 +1,7 @@
 -- SPDX-License-Identifier: MPL-2.0
 -- A chain that a loop writes block by block: what its invariant says, how it begins, goes on and ends.
-use Rattle.laws.proofs.Kit.{ℕ, zero, suc, ◌+◌, ◌-◌, ◌*◌, ◌/◌, ◌%◌, ◌≤◌, ◌<◌, ◌≡◌, refl, sym, ◌∙◌, List, [], ◌++◌, append-nil, append_assoc, length, take, drop, get_or}
+use Rattle.laws.proofs.Kit.{ℕ, zero, suc, ◌+◌, ◌-◌, ◌*◌, ◌/◌, ◌%◌, ◌≤◌, ◌<◌, ◌≡◌, refl, sym, ◌∙◌}
+use Rattle.laws.proofs.Kit.{List, [], ◌++◌, append-nil, append_assoc, length, take, drop, get_or}
 use Rattle.laws.proofs.Kit.{min, replicate, length-append, length-replicate, List·getD-eq-default, inl, inr}
 use mathlib.Core.Logic.{◌⊎◌}
 use Rattle.laws.proofs.Kit.{length-drop, take_all, length-take-le, drop-drop, get_or-take, arith}
