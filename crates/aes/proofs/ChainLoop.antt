@@ -1,6 +1,7 @@
 -- SPDX-License-Identifier: MPL-2.0
 -- A chain that a loop writes block by block: what its invariant says, how it begins, goes on and ends.
-use Rattle.laws.proofs.Kit.{ℕ, zero, suc, ◌+◌, ◌-◌, ◌*◌, ◌/◌, ◌%◌, ◌≤◌, ◌<◌, ◌≡◌, refl, sym, ◌∙◌, List, [], ◌++◌, append-nil, append_assoc, length, take, drop, get_or}
+use Rattle.laws.proofs.Kit.{ℕ, zero, suc, ◌+◌, ◌-◌, ◌*◌, ◌/◌, ◌%◌, ◌≤◌, ◌<◌, ◌≡◌, refl, sym, ◌∙◌}
+use Rattle.laws.proofs.Kit.{List, [], ◌++◌, append-nil, append_assoc, length, take, drop, get_or}
 use Rattle.laws.proofs.Kit.{min, replicate, length-append, length-replicate, List·getD-eq-default, inl, inr}
 use mathlib.Core.Logic.{◌⊎◌}
 use Rattle.laws.proofs.Kit.{length-drop, take_all, length-take-le, drop-drop, get_or-take, arith}
@@ -15,14 +16,14 @@ use Rattle.aes.proofs.Steps.{block-is}
 
 -- ---- sixteen bytes of a list, from its front and from a place of it
 
-pub loaded-front : (s : List ℕ) → 16 ≤ length s → load_block s ≡ take 16 s
+pub loaded_front : (s : List ℕ) → 16 ≤ length s → load_block s ≡ take 16 s
 unfolding load_block
-loaded-front s h = block-is _ (take 16 s) (length-take-le 16 s h) (λ i g. sym (get_or-take 16 s i 0 g))
+loaded_front s h = block-is _ (take 16 s) (length-take-le 16 s h) (λ i g. sym (get_or-take 16 s i 0 g))
 
 -- as many bytes as there are, at most sixteen, and zeros after them
-pub loaded-short : (s r : List ℕ) (n : ℕ) → n ≡ min (length s) 16 → r ≡ take n s → r ++ drop n (replicate 16 0) ≡ load_block s
+pub loaded_short : (s r : List ℕ) (n : ℕ) → n ≡ min (length s) 16 → r ≡ take n s → r ++ drop n (replicate 16 0) ≡ load_block s
 unfolding load_block
-loaded-short s r n e f = rw f (sym (block-is _ (take n s ++ drop n (replicate 16 0)) long (λ i h. here i h (lt-or-ge i n))))
+loaded_short s r n e f = rw f (sym (block-is _ (take n s ++ drop n (replicate 16 0)) long (λ i h. here i h (lt-or-ge i n))))
   where
     taken : length (take n s) ≡ n
     taken = length-take-le n s (omega arith)
@@ -43,7 +44,7 @@ module _ (s : List ℕ) (at : ℕ) (h : at + 16 ≤ length s) where
   enough = simp (part-from, length-drop) (omega arith)
 
   pub loaded : load_block (take (length s - at) (drop at s)) ≡ take 16 (drop at s)
-  loaded = rw part-from (loaded-front (drop at s) (simp length-drop (omega arith)))
+  loaded = rw part-from (loaded_front (drop at s) (simp length-drop (omega arith)))
 
 -- block n of the whole blocks of a list
 pub chunk_at : (n k : ℕ) (s : List ℕ) → n < k → get_or (first_chunks 16 k s) n [] ≡ take 16 (drop (16 * n) s)

@@ -18,7 +18,8 @@ use Rattle.field.proofs.Each.{byte_at-lt}
 use Rattle.aes.specs.declared.columns.State.{State}
 use Rattle.aes.specs.State.{block, Keys, sub_bytes, shifted, shift_rows, down, mix_columns, add_round_key}
 use Rattle.aes.specs.State.{unshifted, inv_shift_rows, inv_sub_bytes, inv_mix_columns}
-use Rattle.aes.specs.Words.{bytes_of, sum, reversed, reversed_bytes, rows_added, substituted, round_words, last_words, no_words, rounds_left, by_tables}
+use Rattle.aes.specs.Words.{bytes_of, sum, reversed, reversed_bytes, rows_added, substituted, round_words, last_words, no_words}
+use Rattle.aes.specs.Words.{rounds_left, by_tables}
 use Rattle.aes.specs.Cipher.{rounds, cipher, unrounds, inv_cipher, keys_back, eq_key, eq_keys}
 use Rattle.aes.proofs.Steps.{sub-block, shift-block, mix-block, unsub-block, unshift-block, unmix-block, unmix-add}
 use Rattle.aes.proofs.StateWords.{bytes_of-block, columns-bytes, columns-added, words-added}
@@ -28,7 +29,7 @@ use Rattle.aes.proofs.StateWords.{bytes_of-block, columns-bytes, columns-added, 
 pub sums-forth : (s k : State) → reversed_bytes (sum s k) ≡ add_round_key (reversed_bytes s) (reversed_bytes k)
 sums-forth s k = words-added (reversed s) (reversed k)
 
-pub sums-back : (s k : State) → bytes_of (sum s k) ≡ add_round_key (bytes_of s) (bytes_of k)
+sums-back : (s k : State) → bytes_of (sum s k) ≡ add_round_key (bytes_of s) (bytes_of k)
 sums-back = words-added
 
 -- ---- the rounds with MixColumns
@@ -43,14 +44,16 @@ unfolding rows_added
 by-words f fits k l m n a b c d j =
     looked-up f k l m n fits j _ _ _ _ (byte_at-lt a 0) (byte_at-lt b 1) (byte_at-lt c 2) (byte_at-lt d 3) ∙ comm _ _
 
-pub words-forth : (s k : State) → reversed_bytes (round_words mixes s k) ≡ add_round_key (mix_columns (shift_rows (sub_bytes (reversed_bytes s)))) (reversed_bytes k)
+words-forth : (s k : State)
+    → reversed_bytes (round_words mixes s k) ≡ add_round_key (mix_columns (shift_rows (sub_bytes (reversed_bytes s)))) (reversed_bytes k)
 unfolding round_words mixes mix_columns shift_rows shifted sub_bytes block run down bytes_of column mixed
 words-forth s k =
     let found = by-words sbox sbox-byte 2 3 1 1 in
     columns-added _ (mix-block _ (shift-block _ (sub-block _ (bytes_of-block (reversed s))))) (reversed (round_words mixes s k)) (reversed k) _ _ _ _
     (refl, refl, refl, refl) (found s.d s.c s.b s.a k.d) (found s.c s.b s.a s.d k.c) (found s.b s.a s.d s.c k.b) (found s.a s.d s.c s.b k.a)
 
-pub words-back : (s k : State) → bytes_of (round_words unmixes s k) ≡ add_round_key (inv_mix_columns (inv_sub_bytes (inv_shift_rows (bytes_of s)))) (bytes_of k)
+words-back : (s k : State)
+    → bytes_of (round_words unmixes s k) ≡ add_round_key (inv_mix_columns (inv_sub_bytes (inv_shift_rows (bytes_of s)))) (bytes_of k)
 unfolding round_words unmixes inv_mix_columns inv_shift_rows unshifted inv_sub_bytes block run down bytes_of column unmixed
 words-back s k =
     let found = by-words inv_sbox inv_sbox-byte 14 11 13 9 in
@@ -59,23 +62,24 @@ words-back s k =
 
 -- ---- the last rounds, without MixColumns
 
-pub bytes-forth : (s k : State) → reversed_bytes (last_words sbox s k) ≡ add_round_key (shift_rows (sub_bytes (reversed_bytes s))) (reversed_bytes k)
+bytes-forth : (s k : State) → reversed_bytes (last_words sbox s k) ≡ add_round_key (shift_rows (sub_bytes (reversed_bytes s))) (reversed_bytes k)
 unfolding last_words substituted shift_rows shifted sub_bytes block run bytes_of
 bytes-forth s k =
     columns-added _ (shift-block _ (sub-block _ (bytes_of-block (reversed s)))) (reversed (last_words sbox s k)) (reversed k) _ _ _ _
     (refl, refl, refl, refl) refl refl refl refl
 
-pub bytes-back : (s k : State) → bytes_of (last_words inv_sbox s k) ≡ add_round_key (inv_sub_bytes (inv_shift_rows (bytes_of s))) (bytes_of k)
+bytes-back : (s k : State) → bytes_of (last_words inv_sbox s k) ≡ add_round_key (inv_sub_bytes (inv_shift_rows (bytes_of s))) (bytes_of k)
 unfolding last_words substituted inv_shift_rows unshifted inv_sub_bytes block run bytes_of
 bytes-back s k =
-    columns-added _ (unsub-block _ (unshift-block _ (bytes_of-block s))) (last_words inv_sbox s k) k _ _ _ _ (refl, refl, refl, refl) refl refl refl refl
+    columns-added _ (unsub-block _ (unshift-block _ (bytes_of-block s))) (last_words inv_sbox s k) k _ _ _ _
+    (refl, refl, refl, refl) refl refl refl refl
 
 -- ---- InvMixColumns of a round key
 
-pub unmixed-key : (s : State)
+pub unmixed_key : (s : State)
     → bytes_of (record { a = unmixed_word s.a; b = unmixed_word s.b; c = unmixed_word s.c; d = unmixed_word s.d }) ≡ inv_mix_columns (bytes_of s)
 unfolding unmixed_word inv_mix_columns block run down bytes_of column unmixed
-unmixed-key s = columns-bytes _ (unmix-block _ (bytes_of-block s)) _ (refl, refl, refl, refl)
+unmixed_key s = columns-bytes _ (unmix-block _ (bytes_of-block s)) _ (refl, refl, refl, refl)
 
 -- ---- one round less to come, and none
 
@@ -134,11 +138,13 @@ module _ (ks : List (List ℕ)) (w : List State) (e : map reversed_bytes w ≡ k
   unfolding rounds_left rounds
   left-forth b zero i h s g = let z : i ≡ 9 = omega arith in rw (bytes-forth, key-forth 0 10 refl, g, z)
   left-forth b (suc n) i h s g =
-      left-forth b n (suc i) (omega arith) (round_words mixes s (get_or w (suc n) no_words)) (rw (words-forth, key-forth (suc n) (suc i) (omega arith), g))
+      left-forth b n (suc i) (omega arith) (round_words mixes s (get_or w (suc n) no_words))
+      (rw (words-forth, key-forth (suc n) (suc i) (omega arith), g))
 
   pub encrypted : (s : State) → reversed_bytes (by_tables mixes sbox w s) ≡ cipher ks (reversed_bytes s)
   unfolding by_tables cipher rounds
-  encrypted s = left-forth (add_round_key (reversed_bytes s) (get_or ks 0 [])) 9 0 refl _ (sums-forth s (get_or w 10 no_words) ∙ rw (key-forth 10 0 refl))
+  encrypted s =
+      left-forth (add_round_key (reversed_bytes s) (get_or ks 0 [])) 9 0 refl _ (sums-forth s (get_or w 10 no_words) ∙ rw (key-forth 10 0 refl))
 
 -- back
 module _ (ks : List (List ℕ)) (hk : Keys ks) (w : List State) (e : map bytes_of w ≡ eq_keys ks) where

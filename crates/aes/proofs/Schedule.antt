@@ -30,10 +30,10 @@ module _ (k : State) (c y p : ℕ) where
   abbrev third : ℕ
   third = xor k.c second
 
-  pub next-words : c < 256 → y ≡ word (byte_at k.d 1) (byte_at k.d 2) (byte_at k.d 3) (byte_at k.d 0) → p ≡ each sbox y
+  pub next_words : c < 256 → y ≡ word (byte_at k.d 1) (byte_at k.d 2) (byte_at k.d 3) (byte_at k.d 0) → p ≡ each sbox y
       → bytes_of (record { a = first; b = second; c = third; d = xor k.d third }) ≡ next_key (bytes_of k) c
   unfolding each next_key next_byte turned_byte block run bytes_of
-  next-words h ey ep =
+  next_words h ey ep =
       let sub : (m : ℕ) → sbox (byte_at y m) < 256 = λ m. sbox-byte _ (byte_at-lt y m) in
       let of : (m : ℕ) → byte_at k.d m < 256 = byte_at-lt k.d in
       let p0 : byte_at p 0 ≡ sbox (byte_at y 0) = rw ep (word-at0 _ _ _ _ (sub 0) (sub 1) (sub 2) (sub 3)) in

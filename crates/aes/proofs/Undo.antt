@@ -1,5 +1,5 @@
 -- SPDX-License-Identifier: MPL-2.0
--- Decryption undoes encryption, for every key and block; and the rounds as the code counts them.
+-- Decryption undoes encryption, for every key and block.
 use Rattle.laws.proofs.Kit.{ℕ, zero, suc, ◌<◌, ◌≡◌, List, [], length, get_or, lit<, arith}
 use Rattle.aes.specs.State.{Block, Keys, sub_bytes, shift_rows, add_round_key, inv_shift_rows, inv_sub_bytes}
 use Rattle.aes.specs.Key.{expand_key}
@@ -13,15 +13,6 @@ use Rattle.aes.proofs.Schedule.{expand_key-keys}
 pub cipher-length : (ks : List (List ℕ)) (b : List ℕ) → length (cipher ks b) ≡ 16
 unfolding cipher
 cipher-length ks b = add-length _ _
-
-unrounds-length : (ks : List (List ℕ)) (n : ℕ) (s : List ℕ) → length (unrounds ks n s) ≡ 16
-unfolding unrounds
-unrounds-length ks zero s = add-length _ _
-unrounds-length ks (suc n) s = unrounds-length ks n _
-
-pub inv_cipher-length : (ks : List (List ℕ)) (b : List ℕ) → length (inv_cipher ks b) ≡ 16
-unfolding inv_cipher
-inv_cipher-length ks b = unrounds-length ks 9 _
 
 -- ---- decryption undoes encryption
 

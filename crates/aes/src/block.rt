@@ -10,6 +10,7 @@ use super::roundkeys::{inverse_words, key_words};
 use super::rounds::{Back, Forth, crypt};
 
 // The sixteen bytes at the front of a slice that has them.
+#[tactic(auto, using(crate::proofs::ChainLoop::loaded_front))]
 pub(crate) fn front(s: &[u8]) -> [u8; 16]
     requires { 16 ≤ length s.now }
     ensures { result ≡ load_block s.now }
@@ -20,6 +21,7 @@ pub(crate) fn front(s: &[u8]) -> [u8; 16]
 }
 
 // Sixteen bytes from the front of a slice; those that are missing count as zero.
+#[tactic(auto, using(crate::proofs::ChainLoop::loaded_short))]
 pub fn load_block(s: &[u8]) -> [u8; 16]
     ensures { result ≡ load_block s.now }
 {
@@ -29,8 +31,9 @@ pub fn load_block(s: &[u8]) -> [u8; 16]
     block
 }
 
-// Cipher() on four words, the last column first, by the words of the round keys ks.
+// Cipher() on four words, the last column first, by the words of the round keys ks. The hint is that of `crypt`, here and below.
 #[tactic(auto, using(crate::proofs::Lookups::encrypted))]
+#[inline(always)]
 pub(crate) fn encrypt(keys: &[State; 11], b: State) -> State
     ensures { (ks : List (List ℕ)) → map reversed_bytes keys.now ≡ keys_back ks
         → reversed_bytes result ≡ cipher ks (reversed_bytes b) }
@@ -40,6 +43,7 @@ pub(crate) fn encrypt(keys: &[State; 11], b: State) -> State
 
 // InvCipher() on four words, as EqInvCipher() (5.3.5), by the words of its own round keys.
 #[tactic(auto, using(crate::proofs::Lookups::decrypted))]
+#[inline(always)]
 pub(crate) fn decrypt(keys: &[State; 11], b: State) -> State
     ensures { (ks : List (List ℕ)) → Keys ks → map bytes_of keys.now ≡ eq_keys ks
         → bytes_of result ≡ inv_cipher ks (bytes_of b) }

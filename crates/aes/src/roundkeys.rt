@@ -17,6 +17,7 @@ pub(crate) fn key_words(keys: [[u8; 16]; 11]) -> [State; 11]
 }
 
 // InvMixColumns of a round key.
+#[tactic(auto, using(crate::proofs::Lookups::unmixed_key))]
 fn unmixed(k: State) -> State
     ensures { bytes_of result ≡ inv_mix_columns (bytes_of k) }
 {

@@ -124,7 +124,9 @@ doubled x h =
 
 module _ (a b c d : ℕ) (ha : a < 256) (hb : b < 256) (hc : c < 256) (hd : d < 256) where
   word-up1 : rotate_right w32 (word a b c d) 8 ≡ word b c d a
-  word-up1 = let e : word a b c d * 16777216 % 4294967296 ≡ a * 2 ^ 24 = omega arith in rw (e, or_shifted_r a 24 (word a b c d / 256) (omega arith)) (omega arith)
+  word-up1 =
+      let e : word a b c d * 16777216 % 4294967296 ≡ a * 2 ^ 24 = omega arith in
+      rw (e, or_shifted_r a 24 (word a b c d / 256) (omega arith)) (omega arith)
 
   word-up2 : rotate_right w32 (word a b c d) 16 ≡ word c d a b
   word-up2 =
@@ -186,7 +188,8 @@ module _ (x x2 x4 x8 : ℕ) (h : x < 4294967296) (e2 : x2 ≡ each (mul 2) x) (f
   by14 = ap₂ xor (ap₂ xor by8 by4 ∙ each-sum 8 4 12 x numbers.5) e2 ∙ each-sum 12 2 14 x numbers.6
 
   pub column_by :
-      xor (xor (xor (xor (xor x8 x4) x2) (rotate_right w32 (xor (xor x8 x) x2) 8)) (rotate_right w32 (xor (xor x8 x) x4) 16)) (rotate_right w32 (xor x8 x) 24)
+      xor (xor (xor (xor (xor x8 x4) x2) (rotate_right w32 (xor (xor x8 x) x2) 8)) (rotate_right w32 (xor (xor x8 x) x4) 16))
+      (rotate_right w32 (xor x8 x) 24)
       ≡ column 14 11 13 9 (byte_at x 0) (byte_at x 1) (byte_at x 2) (byte_at x 3)
   unfolding each
   column_by =
