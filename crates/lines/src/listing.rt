@@ -31,12 +31,7 @@ fn put_header(header: Header, size: u16, out: &mut [u8], at: usize) -> usize
 // Puts the line of a message of n bytes at a place, and answers the place after it; where there is less room than a line
 // needs, nothing is put and the place itself is the answer.
 #[tactic(auto, unfolding(crate::specs::Listing::line_of, crate::specs::Text::put, crate::specs::Text::put_end))]
-pub fn put_line(
-    answer: Result<FoundHeader, Refused>,
-    size: u16,
-    out: &mut [u8],
-    at: usize,
-) -> usize
+pub fn put_line(answer: Result<FoundHeader, Refused>, size: u16, out: &mut [u8], at: usize) -> usize
     ensures value { result ≡ put_end 64 at (line_of answer size) out.old }
     ensures new_out { out.new ≡ put 64 at (line_of answer size) out.old }
 {
