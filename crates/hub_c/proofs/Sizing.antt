@@ -10,7 +10,7 @@ use Rattle.std.specs.Prelude.{Result, Ok, Err}
 use Rattle.wire.specs.declared.header.FoundHeader.{FoundHeader}
 use Rattle.wire.proofs.Sound.{read-sound}
 use Rattle.lines.specs.Listing.{header_line, line_of}
-use Rattle.joining.specs.Cut.{cut_refusal, cutting, cut_piece}
+use Rattle.joining.specs.Cut.{piece_count, cut_refusal, cutting, cut_piece}
 use Rattle.hub_c.specs.Pieces.{cut_words}
 use Rattle.hub_c.specs.Written.{too_wide}
 use Rattle.hub_c.specs.Line.{line_text}
@@ -50,7 +50,10 @@ module _ (F : ℕ) (R : List ℕ) (i : ℕ) where
 
   pub cut-told : (k : ℕ) (p w : List ℕ) → Answered (Ok k) → p ≡ cut_piece F R i → w ≡ k ∷ F * i ∷ length p ∷ [] → w ≡ cut_words F R i
   unfolding cut_words
-  cut-told k p w e f q = let z = cut-taken k e in rw (q, f, z) (ap (λ (n : ℕ). n ∷ F * i ∷ _) (value (e ∙ rw z)))
+  cut-told k p w e f q =
+      let z = cut-taken k e in
+      let v : k ≡ piece_count F (length R) = value (e ∙ rw z) in
+      rw (q, f, v, z)
 
 -- The length that stands in an accepted message is the number of its bytes; a refusal's line has none.
 pub line-told : (m : List ℕ) → line_of (read_header m) (be16 m 2) ≡ line_text m

@@ -20,7 +20,7 @@ fn rest(s: &[u8], at: usize) -> &[u8]
 
 // The N bytes from a place on.
 #[tactic(auto, using(crate::proofs::Places::whole, crate::proofs::Places::padded))]
-fn bytes_at<const N: usize>(s: &[u8], at: usize) -> [u8; N]
+pub fn bytes_at<const N: usize>(s: &[u8], at: usize) -> [u8; N]
     ensures { result ≡ bytes_at s.now at N }
 {
     let rest = rest(s, at);

@@ -4,6 +4,7 @@
 use Rattle.laws.proofs.Kit.{ℕ, zero, suc, ◌+◌, ◌*◌, ◌≤◌, ◌≡◌, refl, sym, Bool, true, ◌&&◌, List, [], ◌∷◌, ◌++◌, append-nil, append_assoc, length}
 use Rattle.laws.proofs.Kit.{drop, length-append, arith}
 use mathlib.Core.List.{flat_map}
+use Rattle.std.proofs.lemmas.Grind.{flat_map-append}
 use Rattle.laws.proofs.Bools.{and_one, and_assoc, and-true}
 use Rattle.laws.specs.Runs.{gathered}
 use Rattle.payloads.specs.Entries.{entry_at, each, all}
@@ -84,11 +85,6 @@ module _ {A : Type 0} where
   all_append test [] v = and_one (test v)
   all_append test (u ∷ vs) v = rw (all_append test vs v) (and_assoc (test u) (all test vs) (test v))
 
-  flat_map-append : (write : A → List ℕ) (vs : List A) (v : A) → flat_map write (vs ++ (v ∷ [])) ≡ flat_map write vs ++ write v
-  unfolding flat_map
-  flat_map-append write [] v = append-nil (write v)
-  flat_map-append write (u ∷ vs) v = rw (flat_map-append write vs v) (sym (append_assoc (write u) (flat_map write vs) (write v)))
-
   module _ (holds : ℕ → Bool) (says : ℕ → A) where
     -- What is said where a test holds passes another.
     pub all-gathered : (test : A → Bool) → ((at : ℕ) → holds at ≡ true → test (says at) ≡ true) → (place : ℕ → ℕ) (n : ℕ)
@@ -110,5 +106,5 @@ module _ {A : Type 0} where
         let place = entry_at ends first in
         let vs = gathered (λ i. says (place i)) n in
         let k = and-true (each (λ i. holds (place i)) n) (holds (place n)) h in
-        rw (flat_map-append write vs (says (place n)), append_assoc, single (place n) k.1 l)
+        rw (flat_map-append write vs (says (place n) ∷ []), append-nil, append_assoc, single (place n) k.1 l)
         (entries-then p write ends onward single first n k.0 (omega (arith, onward (place n))))

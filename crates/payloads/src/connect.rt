@@ -27,8 +27,8 @@ const Y: Span = Span {
     size: KEY_SIZE as usize,
 };
 
-// What a Connect payload says: its type and mode, its Result or Status, and the places of its parts. What its type has not is 0. The type is
-// the number that `ConnectBack` speaks of.
+// What a Connect payload says: its type and mode, its Result or Status, and the places of its parts. What its type has not is 0. Type,
+// mode, Result and Status are the numbers that `ConnectBack` speaks of, and that C is handed.
 #[derive(Clone, Copy, Default)]
 pub struct FoundConnect {
     pub connect: u8,

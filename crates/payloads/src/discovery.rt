@@ -12,7 +12,7 @@ use wire::header::DISCOVERY;
 use wire::refusals::{Refusal, Refused};
 
 // What a Discovery payload says: its type, and of a Presence Response mode, device type and the places of its parts. Of a Presence Request all
-// else is 0. The type is the number that `PresenceBack` speaks of.
+// else is 0. The type is the number that `PresenceBack` speaks of, and that C is handed.
 #[derive(Clone, Copy, Default)]
 pub struct FoundDiscovery {
     pub discovery: u8,

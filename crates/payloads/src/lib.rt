@@ -21,7 +21,8 @@ pub mod reading;
 pub mod shapes;
 pub mod types;
 
-// Stands for the type, Result or Status of a payload that is too short to have one.
+// Stands for the type, Result or Status of a payload that is too short to have one, which the promises read as a number (`connect_type` and
+// `code_of` in `FieldsBack`, `IsConnect` and `IsCoded`).
 pub const NONE: u8 = 255;
 
 // Pending, the Result of a Connection Response that carries the host's half of the exchange.

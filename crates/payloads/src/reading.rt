@@ -2,13 +2,13 @@
 // What is read out of a Connect payload.
 ghost use Rattle.std.specs.Prelude.{◌≡◌, ◌+◌, ◌<◌, ◌^◌, get_or};
 ghost use Rattle.std.specs.Option.{unwrap_or};
-ghost use Rattle.laws.specs.Bytes.{bytes_at};
 ghost use Rattle.payloads.specs.Connect.{nowhere};
 ghost use Rattle.payloads.specs.Reading.{connection_mode, connect_type, code_of, read_request, sized_at, certificate_of, thumbprint_of};
 
 use crate::{NONCE_AT, NONE, X_AT, Y_AT};
-use octets::numbers::{byte, number16};
+use octets::numbers::{bytes_at, number16};
 
+// The byte at a place, or `NONE`.
 fn byte_or_none(p: &[u8], at: usize) -> u8
     ensures { result ≡ get_or p.now at 255 }
 {
@@ -42,14 +42,6 @@ pub struct Request {
     pub nonce: [u8; 8],
     pub x: [u8; 32],
     pub y: [u8; 32],
-}
-
-// The bytes of `s` from a place on, as many as are asked for.
-fn bytes_at<const N: usize>(s: &[u8], at: usize) -> [u8; N]
-    requires { at + N < 2 ^ 32 }
-    ensures { result ≡ bytes_at s.now at N }
-{
-    std::array::from_fn(|i| byte(s, at + i))
 }
 
 // What a payload has at the places of nonce, X and Y; a byte past its end counts as 0.

@@ -11,6 +11,7 @@ use wire::header::Header;
 use wire::refusals::Refused;
 
 // Puts the fields, each at its place.
+#[tactic(auto, unfolding(crate::specs::Header::header_bytes))]
 fn put_header(h: Header, size: u16, out: &mut [u8])
     ensures { out.new ≡ sets out.old 0 (header_bytes h size) }
 {

@@ -1,5 +1,6 @@
 // SPDX-License-Identifier: MPL-2.0
-// The payloads of Discovery and Connect written, each at the start of its output.
+// The payloads of Discovery and Connect written, each at the start of its output. Mode, Result, Status and the type of a Device Authentication
+// payload come as numbers: C may give any, and one that the format has not is refused with 14.
 #![tactic(auto, unfolding(crate::specs::Written::written), using(crate::proofs::Payloads::writing))]
 
 ghost use Rattle.std.specs.Prelude.{◌≡◌, not, eqb};
@@ -152,7 +153,7 @@ pub fn write_done_response(mode: u16, status: u8, out: &mut [u8]) -> Result<usiz
     start.write((mode <= 2) & (status <= 4), out)
 }
 
-// Writes the payload of a Device Authentication Request or Response, by its type, which is a number since another one is refused with 14.
+// Writes the payload of a Device Authentication Request or Response, by its type.
 #[tactic(auto, unfolding(crate::specs::Written::written, crate::specs::Written::put_refusal), using(crate::proofs::Payloads::writing))]
 pub fn write_device_authentication(
     connect: u8,
