@@ -12,7 +12,7 @@ const KEYS: usize = 64;
 // The largest fragment size.
 pub(crate) const LARGEST: usize = 16384;
 
-// What the command line asks for.
+// What the command line asks for. The verdict is a number, as a step takes it.
 #[derive(Clone, Copy)]
 pub(crate) struct Asked {
     pub size: usize,
