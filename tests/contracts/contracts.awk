@@ -143,13 +143,13 @@ function borrows(type,    word, n, i) {
 }
 
 # Whether a type may do so: it does, or it has a word that is neither the language's own, a number or a constant (the length of an array), nor a type
-# of one of these sources.
+# of one of these sources. An Option or a Result holds what its arguments hold, which are words too.
 function may_borrow(type,    word, n, i) {
     if (borrows(type)) return 1
     gsub(/[A-Za-z0-9_]+::/, "", type)
     gsub(/[^A-Za-z0-9_]+/, " ", type)
     n = split(type, word, " ")
-    for (i = 1; i <= n; i++) if (word[i] !~ /^([iu](8|16|32|64|size)|f32|f64|bool|mut|Self|[0-9]+|[A-Z0-9_]+)$/ && !(word[i] in body)) return 1
+    for (i = 1; i <= n; i++) if (word[i] !~ /^([iu](8|16|32|64|size)|f32|f64|bool|mut|Self|Option|Result|[0-9]+|[A-Z0-9_]+)$/ && !(word[i] in body)) return 1
     return 0
 }
 
@@ -193,6 +193,11 @@ function take_parameters(s,    part, n, i, x) {
         if (!sub(/^[^:]*: ?/, "", type_of[i])) sub(/self$/, "Self", type_of[i])
         if (type_of[i] ~ /^&/) lent[x] = is_mut(type_of[i]) ? "old" : "now"
     }
+    # A size that is a parameter.
+    while (match(sizes, /const [A-Z]+/)) {
+        parameter[substr(sizes, RSTART + 6, RLENGTH - 6)] = 1
+        sizes = substr(sizes, RSTART + RLENGTH)
+    }
     return n
 }
 
@@ -209,9 +214,10 @@ function judge_lent(n,    i, x) {
 function judge(s,    from, to, n, type, word) {
     functions++
     claims = 0
-    if (s !~ /^[ \t\n\f]*(<('[A-Za-z0-9_]+|[ \t\n\f,:+])*>[ \t\n\f]*)?\(/) fault("contract", "has parameters that are types, which are not read here")
+    if (s !~ /^[ \t\n\f]*(<('[A-Za-z0-9_]+|const [A-Z]+: usize|[ \t\n\f,:+])*>[ \t\n\f]*)?\(/) fault("contract", "has parameters that are types, which are not read here")
     from = index(s, "(")
     to = closed(s, from, "(", ")")
+    sizes = substr(s, 1, from - 1)
     n = take_parameters(joined(substr(s, from + 1, to - from - 2)))
     s = substr(s, to)
     if (match(s, /^[ \t\n\f]*->[^\n{]*/)) {
@@ -249,9 +255,10 @@ function take_fields(type, s,    part, n, i) {
     home[type] = crate
 }
 
-# The types of a file: what each holds, and the fields of a struct.
-function find_types(s,    word, type, at, to) {
+# The public types of a file: what each holds, and the fields of a struct. Another type of the name, which is not public, may hold other things.
+function find_types(s,    word, type, at, to, public) {
     while (match(s, /(^|[^A-Za-z0-9_])(struct|enum|type)[ \t\n\f]+[A-Za-z0-9_]+/)) {
+        public = substr(s, 1, RSTART) ~ /(^|[^A-Za-z0-9_])pub[ \t\n\f]+$/
         type = joined(substr(s, RSTART, RLENGTH))
         word = type
         sub(/.* /, "", type)
@@ -260,8 +267,8 @@ function find_types(s,    word, type, at, to) {
         to = index(s, ";") + 1
         if (substr(s, at, 1) == "{") to = closed(s, at, "{", "}")
         if (substr(s, at, 1) == "(") to = closed(s, at, "(", ")")
-        body[type] = body[type] " " substr(s, 1, to - 1)
-        if (word ~ /struct / && substr(s, at, 1) == "{") take_fields(type, substr(s, at + 1, to - at - 2))
+        if (public) body[type] = body[type] " " substr(s, 1, to - 1)
+        if (public && word ~ /struct / && substr(s, at, 1) == "{") take_fields(type, substr(s, at + 1, to - at - 2))
         s = substr(s, to)
     }
 }
@@ -316,6 +323,54 @@ function impl_in(s, before) {
     return before
 }
 
+# What a conversion gives, as a contract of it: `λ a b. b ≡ E` says of a value a that the result b is E.
+function judge_from(block,    gives, a, b) {
+    if (!match(block, /ghost from_gives = \{ λ [a-z_]+ [a-z_]+\. [^;]*\};/)) { fault("contract", "has no exact from_gives"); return }
+    gives = substr(block, RSTART, RLENGTH - 2)
+    sub(/^ghost from_gives = \{ λ /, "", gives)
+    a = b = gives
+    sub(/ .*/, "", a)
+    sub(/^[a-z_]+ /, "", b)
+    sub(/\..*/, "", b)
+    sub(/^[^.]*\. /, "", gives)
+    claims = 0
+    split("", lent)
+    split("", parameter)
+    parameter[a] = 1
+    take_claims(gives)
+    if (!says(b) || has(substr(gives, length(b) + 1), b)) fault("contract", "has no exact from_gives")
+}
+
+# The methods that a type has of a trait are public without the word, where both are. A Model is what contracts see of a type, and no method.
+function judge_traits(s, module,    head, type, at, to, block) {
+    while (match(s, /(^|[ \t\n\f])impl[^{;]*[ \t\n\f]for[ \t\n\f][^{;]*\{/)) {
+        head = joined(substr(s, RSTART, RLENGTH - 1))
+        at = RSTART + RLENGTH - 1
+        to = closed(s, at, "{", "}")
+        block = joined(substr(s, at + 1, to - at - 2))
+        s = substr(s, to)
+        sub(/^impl ?(<[^>]*> )?/, "", head)
+        type = head
+        sub(/.* for /, "", type)
+        sub(/<.*/, "", type)
+        sub(/ for .*/, "", head)
+        sub(/<.*/, "", head)
+        if (head == "Model" || head in hidden || type in hidden) continue
+        name = module "::" type
+        if (head == "From") judge_from(block)
+        else fault("contract", "has methods of the trait " head ", which are not read here")
+    }
+}
+
+# The types and traits that are not public.
+function find_hidden(s) {
+    while (match(s, /(^|[ \t\n\f])(pub(\([a-z]+\))?[ \t\n\f]+)?(struct|enum|trait)[ \t\n\f]+[A-Za-z0-9_]+/)) {
+        name = joined(substr(s, RSTART, RLENGTH))
+        s = substr(s, RSTART + RLENGTH)
+        if (name !~ /^pub (struct|enum|trait)/) hidden[substr(name, match(name, /[A-Za-z0-9_]+$/))] = 1
+    }
+}
+
 # What C can call is public without the word.
 function find_functions(s, module,    after) {
     impl = ""
@@ -337,6 +392,7 @@ END {
     for (i = 1; i <= count; i++) {
         crate = crate_of(files[i])
         find_types(text[files[i]])
+        find_hidden(text[files[i]])
     }
     find_borrowing()
     for (i = 1; i <= count; i++) {
@@ -347,10 +403,10 @@ END {
         gsub(/\//, "::", module)
         module = crate (module == "lib" ? "" : "::" module)
         name = module
-        if (text[files[i]] ~ /(^|[ \t\n\f])trait[ \t\n\f]/) fault("contract", "has a trait, whose methods are not read here")
-        if (text[files[i]] ~ /(^|[ \t\n\f])impl[^{;]*[ \t\n\f]for[ \t\n\f]/) fault("contract", "has a type's methods of a trait, which are not read here")
+        if (text[files[i]] ~ /(^|[ \t\n\f])pub[ \t\n\f]+trait[ \t\n\f]/) fault("contract", "has a trait, whose methods are not read here")
         if (text[files[i]] ~ /\/\*/) fault("contract", "has a comment of the other kind, which is not read here")
         find_uses(text[files[i]])
+        judge_traits(text[files[i]], module)
         find_functions(text[files[i]], module)
     }
     print "functions " functions + 0

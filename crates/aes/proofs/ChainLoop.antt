@@ -1,26 +1,57 @@
 -- SPDX-License-Identifier: MPL-2.0
 -- A chain that a loop writes block by block: what its invariant says, how it begins, goes on and ends.
-use Rattle.laws.proofs.Kit.{ℕ, suc, ◌+◌, ◌-◌, ◌*◌, ◌/◌, ◌%◌, ◌≤◌, ◌<◌, ◌≡◌, refl, sym, ◌∙◌, List, ◌++◌, append-nil, append_assoc, length, take, drop}
+use Rattle.laws.proofs.Kit.{ℕ, zero, suc, ◌+◌, ◌-◌, ◌*◌, ◌/◌, ◌%◌, ◌≤◌, ◌<◌, ◌≡◌, refl, sym, ◌∙◌}
+use Rattle.laws.proofs.Kit.{List, [], ◌++◌, append-nil, append_assoc, length, take, drop, get_or}
+use Rattle.laws.proofs.Kit.{min, replicate, length-append, length-replicate, List·getD-eq-default, inl, inr}
+use mathlib.Core.Logic.{◌⊎◌}
 use Rattle.laws.proofs.Kit.{length-drop, take_all, length-take-le, drop-drop, get_or-take, arith}
-use lib.ListN.{take-append-drop}
-use lib.Seq.{paste, length-paste, take-paste, drop-paste}
+use lib.ListN.{take-append-drop, get_or-append, get_or-replicate}
+use Rattle.laws.proofs.Order.{lt-or-ge}
+use lib.Seq.{get_or-drop, get_or-append_right, paste, length-paste, take-paste, drop-paste}
 use Rattle.laws.proofs.Lists.{part-from}
+use Rattle.std.specs.Simd.{first_chunks}
 use Rattle.aes.specs.State.{load_block}
 use Rattle.aes.specs.Cbc.{chain}
 use Rattle.aes.proofs.Steps.{block-is}
 
 -- ---- sixteen bytes of a list, from its front and from a place of it
 
-pub loaded-front : (s : List ℕ) → 16 ≤ length s → load_block s ≡ take 16 s
+pub loaded_front : (s : List ℕ) → 16 ≤ length s → load_block s ≡ take 16 s
 unfolding load_block
-loaded-front s h = block-is _ (take 16 s) (length-take-le 16 s h) (λ i g. sym (get_or-take 16 s i 0 g))
+loaded_front s h = block-is _ (take 16 s) (length-take-le 16 s h) (λ i g. sym (get_or-take 16 s i 0 g))
+
+-- as many bytes as there are, at most sixteen, and zeros after them
+pub loaded_short : (s r : List ℕ) (n : ℕ) → n ≡ min (length s) 16 → r ≡ take n s → r ++ drop n (replicate 16 0) ≡ load_block s
+unfolding load_block
+loaded_short s r n e f = rw f (sym (block-is _ (take n s ++ drop n (replicate 16 0)) long (λ i h. here i h (lt-or-ge i n))))
+  where
+    taken : length (take n s) ≡ n
+    taken = length-take-le n s (omega arith)
+
+    long : length (take n s ++ drop n (replicate 16 0)) ≡ 16
+    long = rw (length-append, taken, length-drop, length-replicate) (omega arith)
+
+    here : (i : ℕ) → i < 16 → (i < n) ⊎ (n ≤ i) → get_or s i 0 ≡ get_or (take n s ++ drop n (replicate 16 0)) i 0
+    here i h (inl b) = rw (get_or-append (take n s) (drop n (replicate 16 0)) 0 i (omega (arith, taken)), get_or-take n s i 0 b)
+    here i h (inr b) =
+        let past : length (take n s) ≤ i = omega (arith, taken) in
+        let m : n + (i - length (take n s)) ≡ i = omega (arith, taken) in
+        rw (get_or-append_right (take n s) (drop n (replicate 16 0)) i 0 past, get_or-drop, m, get_or-replicate {A = ℕ} 16 i 0 0 h)
+        (List·getD-eq-default s 0 (omega arith))
 
 module _ (s : List ℕ) (at : ℕ) (h : at + 16 ≤ length s) where
   pub enough : 16 ≤ length (take (length s - at) (drop at s))
   enough = simp (part-from, length-drop) (omega arith)
 
   pub loaded : load_block (take (length s - at) (drop at s)) ≡ take 16 (drop at s)
-  loaded = rw part-from (loaded-front (drop at s) (simp length-drop (omega arith)))
+  loaded = rw part-from (loaded_front (drop at s) (simp length-drop (omega arith)))
+
+-- block n of the whole blocks of a list
+pub chunk_at : (n k : ℕ) (s : List ℕ) → n < k → get_or (first_chunks 16 k s) n [] ≡ take 16 (drop (16 * n) s)
+chunk_at n zero s h = absurd (omega arith)
+chunk_at zero (suc k) s h = refl
+chunk_at (suc n) (suc k) s h =
+    let e : 16 * suc n ≡ 16 + 16 * n = omega arith in chunk_at n k (drop 16 s) (omega arith) ∙ rw (e, drop-drop (16 * n) 16 s)
 
 -- ---- a chain written block by block
 

@@ -1,11 +1,9 @@
 -- SPDX-License-Identifier: MPL-2.0
 pub mod Steps
 pub mod StateWords
-pub mod TableRounds
-pub mod KeyWords
 pub mod Schedule
 pub mod Undo
+pub mod Lookups
 pub mod Chain
 pub mod ChainLoop
-pub mod ChainCalls
 pub mod Ends

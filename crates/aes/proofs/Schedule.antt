@@ -4,7 +4,7 @@ use Rattle.laws.proofs.Kit.{ℕ, zero, suc, ◌/◌, ◌%◌, ◌<◌, ◌≡◌
 use Rattle.laws.specs.Runs.{run}
 use Rattle.field.specs.Xor.{xor}
 use Rattle.field.specs.Sbox.{sbox}
-use Rattle.field.specs.Words.{word, byte_at}
+use Rattle.field.specs.Words.{word, byte_at, each}
 use Rattle.laws.proofs.Runs.{run-from-zero}
 use Rattle.field.proofs.Xor.{zero-r, byte, assoc}
 use Rattle.field.proofs.Linear.{xtime-byte}
@@ -16,7 +16,6 @@ use Rattle.aes.specs.Words.{bytes_of}
 use Rattle.aes.specs.Key.{rcon, turned_byte, next_byte, next_key, round_key, expand_key}
 use Rattle.aes.proofs.Steps.{all-bytes, block_of}
 use Rattle.aes.proofs.StateWords.{byte_at-sum}
-use Rattle.aes.proofs.TableRounds.{taken}
 
 -- ---- one round key more
 
@@ -31,10 +30,10 @@ module _ (k : State) (c y p : ℕ) where
   abbrev third : ℕ
   third = xor k.c second
 
-  pub next-words : c < 256 → y ≡ word (byte_at k.d 1) (byte_at k.d 2) (byte_at k.d 3) (byte_at k.d 0) → p ≡ taken word sbox y y y y
+  pub next_words : c < 256 → y ≡ word (byte_at k.d 1) (byte_at k.d 2) (byte_at k.d 3) (byte_at k.d 0) → p ≡ each sbox y
       → bytes_of (record { a = first; b = second; c = third; d = xor k.d third }) ≡ next_key (bytes_of k) c
-  unfolding next_key next_byte turned_byte block run bytes_of
-  next-words h ey ep =
+  unfolding each next_key next_byte turned_byte block run bytes_of
+  next_words h ey ep =
       let sub : (m : ℕ) → sbox (byte_at y m) < 256 = λ m. sbox-byte _ (byte_at-lt y m) in
       let of : (m : ℕ) → byte_at k.d m < 256 = byte_at-lt k.d in
       let p0 : byte_at p 0 ≡ sbox (byte_at y 0) = rw ep (word-at0 _ _ _ _ (sub 0) (sub 1) (sub 2) (sub 3)) in

@@ -1,7 +1,8 @@
 -- SPDX-License-Identifier: MPL-2.0
 -- The state as four words: their bytes, also with the words of a key added, and words that are made of a block's columns.
-use Rattle.laws.proofs.Kit.{ℕ, ◌*◌, ◌/◌, ◌%◌, ◌^◌, ◌<◌, ◌≡◌, refl, ◌∙◌, ap, List, [], ◌∷◌, ◌++◌, get_or, xor_shr, arith}
-use native.Mathlib.Nat.{div-one, mod-eq_of_lt}
+use Rattle.laws.proofs.Kit.{ℕ, ◌*◌, ◌/◌, ◌^◌, ◌≡◌, refl, ◌∙◌, ap, List, [], ◌∷◌, get_or, xor_shr, arith}
+use Rattle.std.specs.Int.{w32, from_le_bytes, to_le_bytes}
+use native.Mathlib.Nat.{div-one}
 use lib.Bits.{xor_mod}
 use Rattle.laws.specs.Bytes.{AreBytes}
 use Rattle.laws.proofs.ByteLists.{nil-bytes, cons-bytes, append-bytes}
@@ -24,7 +25,7 @@ Columns m a b c d = (a ≡ word (get_or m 0 0) (get_or m 1 0) (get_or m 2 0) (ge
     × (d ≡ word (get_or m 12 0) (get_or m 13 0) (get_or m 14 0) (get_or m 15 0))
 
 -- the bytes of a word
-abbrev four : ℕ → List ℕ
+abbrev pub four : ℕ → List ℕ
 four x = byte_at x 0 ∷ byte_at x 1 ∷ byte_at x 2 ∷ byte_at x 3 ∷ []
 
 four_bytes : (x : ℕ) → AreBytes (four x)
@@ -36,17 +37,15 @@ bytes_of-block s =
     let all = append-bytes (four_bytes s.a) (append-bytes (four_bytes s.b) (append-bytes (four_bytes s.c) (four_bytes s.d))) in
     record { len = refl; bytes = λ i h. all.at i }
 
--- as the code takes them out of a word
-four-of : (x : ℕ) → x < 4294967296 → x % 256 ∷ x / 256 % 256 ∷ x / 65536 % 256 ∷ x / 16777216 ∷ [] ≡ four x
-four-of x h = let top : x / 16777216 % 256 ≡ x / 16777216 = mod-eq_of_lt (omega arith) in rw (div-one x, top)
+pub block-by : (s : State) (b : List ℕ) → bytes_of s ≡ b → Block b
+block-by s b e = rw (← e) (bytes_of-block s)
 
-pub bytes-taken : (s : State) → s.a < 4294967296 → s.b < 4294967296 → s.c < 4294967296 → s.d < 4294967296
-    → s.a % 256 ∷ s.a / 256 % 256 ∷ s.a / 65536 % 256 ∷ s.a / 16777216 ∷
-    s.b % 256 ∷ s.b / 256 % 256 ∷ s.b / 65536 % 256 ∷ s.b / 16777216 ∷
-    s.c % 256 ∷ s.c / 256 % 256 ∷ s.c / 65536 % 256 ∷ s.c / 16777216 ∷
-    s.d % 256 ∷ s.d / 256 % 256 ∷ s.d / 65536 % 256 ∷ s.d / 16777216 ∷ [] ≡ bytes_of s
-unfolding bytes_of
-bytes-taken s ha hb hc hd t = four-of s.a ha t ++ four-of s.b hb t ++ four-of s.c hc t ++ four-of s.d hd t
+-- a word put together of its bytes, and taken apart
+pub joined : (a b c d : ℕ) → from_le_bytes w32 (a ∷ b ∷ c ∷ d ∷ []) ≡ word a b c d
+joined a b c d = omega arith
+
+pub apart : (x : ℕ) → to_le_bytes w32 x ≡ four x
+apart x = rw (div-one x)
 
 -- ---- words added: AddRoundKey
 

@@ -1,14 +1,13 @@
 -- SPDX-License-Identifier: MPL-2.0
 -- The steps of a round: each takes a block to a block, and each is undone by its inverse.
-use Rattle.laws.proofs.Kit.{ℕ, ◌+◌, ◌*◌, ◌/◌, ◌%◌, ◌≤◌, ◌<◌, ◌≡◌, refl, sym, subst, List, length, get_or, replicate, List·getD-eq-default, lit<, ⊎_elim}
+use Rattle.laws.proofs.Kit.{ℕ, ◌+◌, ◌*◌, ◌/◌, ◌%◌, ◌≤◌, ◌<◌, ◌≡◌, refl, sym, subst, List, length, get_or, List·getD-eq-default, lit<, ⊎_elim}
 use Rattle.laws.proofs.Kit.{arith}
 use native.Mathlib.Nat.{add-mod-mod}
-use lib.ListN.{get_or-replicate}
 use Rattle.laws.proofs.Order.{lt-or-ge}
 use Rattle.field.specs.Mix.{unmixed}
 use Rattle.laws.proofs.Below.{agree, bounded}
 use Rattle.laws.proofs.Runs.{run_length, run-from-zero, run_is}
-use Rattle.field.proofs.Xor.{byte, cancel, zero-r}
+use Rattle.field.proofs.Xor.{byte, cancel}
 use Rattle.field.proofs.Sbox.{sbox-byte, inv_sbox-byte, inv_sbox-sbox}
 use Rattle.field.proofs.Mix.{mixed-byte, unmixed-byte, unmixed-mixed, row-xor}
 use Rattle.aes.specs.State.{block, Block, sub_bytes, shifted, shift_rows, down, mix_columns, add_round_key}
@@ -49,11 +48,6 @@ add-block s k bs bk = block_of _ (λ i h. byte _ _ (all-bytes bs i) (all-bytes b
 pub add-add : (s k : List ℕ) → length s ≡ 16 → add_round_key (add_round_key s k) k ≡ s
 unfolding add_round_key
 add-add s k e = block-is _ s e (λ i h. rw (block_at _ i h) (cancel (get_or s i 0) (get_or k i 0)))
-
--- zeros add nothing
-pub add-zeros : (s : List ℕ) → length s ≡ 16 → add_round_key s (replicate 16 0) ≡ s
-unfolding add_round_key
-add-zeros s e = block-is _ s e (λ i h. rw (get_or-replicate {A = ℕ} 16 i 0 0 h) (zero-r (get_or s i 0)))
 
 -- ---- SubBytes
 

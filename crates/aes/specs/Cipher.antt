@@ -1,6 +1,6 @@
 -- SPDX-License-Identifier: MPL-2.0
 -- FIPS 197, 5.1 and 5.3: Cipher(), InvCipher() and EqInvCipher() on one block, by a list of eleven round keys.
-use Rattle.std.specs.Prelude.{◌&&◌, cond, List, [], ℕ, zero, suc, ltb, get_or}
+use Rattle.std.specs.Prelude.{◌&&◌, cond, List, [], ℕ, zero, suc, ◌-◌, ltb, get_or}
 use Rattle.laws.specs.Runs.{run}
 use Rattle.aes.specs.State.{sub_bytes, shift_rows, mix_columns, add_round_key, inv_shift_rows, inv_sub_bytes, inv_mix_columns}
 
@@ -22,14 +22,9 @@ unrounds ks (suc n) s = unrounds ks n (inv_mix_columns (add_round_key (inv_sub_b
 unfoldable pub inv_cipher : List (List ℕ) → List ℕ → List ℕ
 inv_cipher ks b = unrounds ks 9 (add_round_key b (get_or ks 10 []))
 
--- The same by EqInvCipher(), where the round key, of ds, is added after InvMixColumns.
-unfoldable pub eq_unrounds : List (List ℕ) → ℕ → List ℕ → List ℕ
-eq_unrounds ds zero s = add_round_key (inv_sub_bytes (inv_shift_rows s)) (get_or ds 0 [])
-eq_unrounds ds (suc n) s = eq_unrounds ds n (add_round_key (inv_mix_columns (inv_sub_bytes (inv_shift_rows s))) (get_or ds (suc n) []))
-
--- 5.3.5, EqInvCipher(): as InvCipher(), by these rounds and by round keys of its own.
-unfoldable pub eq_inv_cipher : List (List ℕ) → List ℕ → List ℕ
-eq_inv_cipher ds b = eq_unrounds ds 9 (add_round_key b (get_or ds 10 []))
+-- The eleven round keys from the last one on.
+unfoldable pub keys_back : List (List ℕ) → List (List ℕ)
+keys_back ks = run (λ n. get_or ks (10 - n) []) 0 11
 
 -- Round key i of KeyExpansionEIC() (5.3.5): InvMixColumns of it, but for the first and the last.
 unfoldable pub eq_key : List (List ℕ) → ℕ → List ℕ

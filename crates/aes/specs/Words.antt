@@ -1,7 +1,6 @@
 -- SPDX-License-Identifier: MPL-2.0
--- The state and the round keys as the code holds them: words, a column to each, its first byte the lowest.
-use Rattle.std.specs.Prelude.{List, [], ◌∷◌, ℕ, zero, suc, ◌+◌, ◌-◌, ◌*◌, ◌%◌, get_or, set}
-use Rattle.laws.specs.Runs.{run}
+-- The state as the code holds it: words, a column to each, its first byte the lowest; and what a round makes of them.
+use Rattle.std.specs.Prelude.{List, [], ◌∷◌, ℕ, zero, suc, get_or}
 use Rattle.field.specs.Xor.{xor}
 use Rattle.field.specs.Words.{word, byte_at, turned}
 use Rattle.aes.specs.declared.columns.State.{State}
@@ -14,27 +13,56 @@ bytes_of s =
     byte_at s.c 0 ∷ byte_at s.c 1 ∷ byte_at s.c 2 ∷ byte_at s.c 3 ∷
     byte_at s.d 0 ∷ byte_at s.d 1 ∷ byte_at s.d 2 ∷ byte_at s.d 3 ∷ []
 
--- The word of s that row m of the word at place n is read from: the one m places before it, from the end again before the first.
-abbrev pub row_from : List ℕ → ℕ → ℕ → ℕ
-row_from s n m = get_or s ((n + 4 - m) % 4) 0
+-- The sums of the words.
+abbrev pub sum : State → State → State
+sum s k = record { a = xor s.a k.a; b = xor s.b k.b; c = xor s.c k.c; d = xor s.d k.d }
 
--- The word k with what the first m rows add to it: row i is looked up in t by byte i of the word x i, and turned by i bytes.
-unfoldable pub looked_up : (ℕ → ℕ) → (ℕ → ℕ) → ℕ → ℕ → ℕ
-looked_up t x k zero = k
-looked_up t x k (suc m) = xor (looked_up t x k m) (turned (t (byte_at (x m) m)) m)
+-- The words the other way round.
+abbrev pub reversed : State → State
+reversed s = record { a = s.d; b = s.c; c = s.b; d = s.a }
 
--- Four bytes of one table as a word: the first looked up by the lowest byte of a, the last by the highest of d.
-unfoldable pub looked_up_bytes : List ℕ → ℕ → ℕ → ℕ → ℕ → ℕ
-looked_up_bytes t a b c d = word (get_or t (byte_at a 0) 0) (get_or t (byte_at b 1) 0) (get_or t (byte_at c 2) 0) (get_or t (byte_at d 3) 0)
+-- The block that the words are, the last column first.
+abbrev pub reversed_bytes : State → List ℕ
+reversed_bytes s = bytes_of (reversed s)
 
--- Round key i among the words of eleven, four to a key (5.2).
-unfoldable pub key_at : List ℕ → ℕ → State
-key_at w i = record { a = get_or w (4 * i) 0; b = get_or w (4 * i + 1) 0; c = get_or w (4 * i + 2) 0; d = get_or w (4 * i + 3) 0 }
+-- The word k with what four rows add to it: the first is looked up in t by the lowest byte of a, the last by the highest of d, turned by three bytes.
+unfoldable pub rows_added : (ℕ → ℕ) → ℕ → ℕ → ℕ → ℕ → ℕ → ℕ
+rows_added t a b c d k =
+    xor (xor (xor (xor k (turned (t (byte_at a 0)) 0)) (turned (t (byte_at b 1)) 1)) (turned (t (byte_at c 2)) 2)) (turned (t (byte_at d 3)) 3)
 
--- The words with another round key i.
-unfoldable pub put_key : List ℕ → ℕ → State → List ℕ
-put_key w i k = set (set (set (set w (4 * i) k.a) (4 * i + 1) k.b) (4 * i + 2) k.c) (4 * i + 3) k.d
+-- What f makes of four bytes, as a word: of the lowest of a first, of the highest of d last.
+unfoldable pub substituted : (ℕ → ℕ) → ℕ → ℕ → ℕ → ℕ → ℕ
+substituted f a b c d = word (f (byte_at a 0)) (f (byte_at b 1)) (f (byte_at c 2)) (f (byte_at d 3))
 
--- The round keys that the words are.
-unfoldable pub keys_of : List ℕ → List (List ℕ)
-keys_of w = run (λ i. bytes_of (key_at w i)) 0 11
+-- A round on words: row m of a word is looked up by the word m places before it, from the end again before the first.
+unfoldable pub round_words : (ℕ → ℕ) → State → State → State
+round_words t s k =
+    record {
+      a = rows_added t s.a s.d s.c s.b k.a;
+      b = rows_added t s.b s.a s.d s.c k.b;
+      c = rows_added t s.c s.b s.a s.d k.c;
+      d = rows_added t s.d s.c s.b s.a k.d;
+    }
+
+-- The last round on words.
+unfoldable pub last_words : (ℕ → ℕ) → State → State → State
+last_words f s k =
+    record {
+      a = xor (substituted f s.a s.d s.c s.b) k.a;
+      b = xor (substituted f s.b s.a s.d s.c) k.b;
+      c = xor (substituted f s.c s.b s.a s.d) k.c;
+      d = xor (substituted f s.d s.c s.b s.a) k.d;
+    }
+
+-- No words: what a list of words has past its end.
+abbrev pub no_words : State
+no_words = record { a = 0; b = 0; c = 0; d = 0 }
+
+-- What becomes of the words s by n rounds and the last, by the round keys ks: number n is added where n more rounds come.
+unfoldable pub rounds_left : (ℕ → ℕ) → (ℕ → ℕ) → List State → ℕ → State → State
+rounds_left t f ks zero s = last_words f s (get_or ks 0 no_words)
+rounds_left t f ks (suc n) s = rounds_left t f ks n (round_words t s (get_or ks (suc n) no_words))
+
+-- A direction on words: a round key added, nine rounds by the table of words t, and the last by the table of bytes f.
+unfoldable pub by_tables : (ℕ → ℕ) → (ℕ → ℕ) → List State → State → State
+by_tables t f ks b = rounds_left t f ks 9 (sum b (get_or ks 10 no_words))

@@ -1,9 +1,7 @@
 // SPDX-License-Identifier: MPL-2.0
 // The state as four words, a column to each, its first byte the lowest.
-ghost use Rattle.std.specs.Prelude.{◌≡◌, ◌<◌};
-ghost use Rattle.field.specs.Words.{word, byte_at};
-ghost use Rattle.aes.specs.State.{add_round_key};
-ghost use Rattle.aes.specs.Words.{bytes_of};
+ghost use Rattle.std.specs.Prelude.{◌≡◌};
+ghost use Rattle.aes.specs.Words.{bytes_of, sum, reversed, reversed_bytes};
 
 #[derive(Clone, Copy)]
 pub struct State {
@@ -13,36 +11,15 @@ pub struct State {
     pub d: u32,
 }
 
-pub(crate) fn wide(x: u8) -> u32
-    ensures { (result ≡ x) × (result < 256) }
-{
-    x as u32
-}
-
-// Four bytes as a word.
-pub(crate) fn join(a: u8, b: u8, c: u8, d: u8) -> u32
-    ensures { result ≡ word a b c d }
-{
-    ((wide(d) * 256 + wide(c)) * 256 + wide(b)) * 256 + wide(a)
-}
-
-// Byte m of a word.
-pub(crate) fn byte(w: u32, m: usize) -> u8
-    requires { m < 4 }
-    ensures { result ≡ byte_at w m }
-{
-    ((w >> (8 * m)) % 256) as u8
-}
-
 // The sixteen bytes of a block as four words.
 pub(crate) fn words(k: [u8; 16]) -> State
     ensures { bytes_of result ≡ k }
 {
     State {
-        a: join(k[0], k[1], k[2], k[3]),
-        b: join(k[4], k[5], k[6], k[7]),
-        c: join(k[8], k[9], k[10], k[11]),
-        d: join(k[12], k[13], k[14], k[15]),
+        a: u32::from_le_bytes([k[0], k[1], k[2], k[3]]),
+        b: u32::from_le_bytes([k[4], k[5], k[6], k[7]]),
+        c: u32::from_le_bytes([k[8], k[9], k[10], k[11]]),
+        d: u32::from_le_bytes([k[12], k[13], k[14], k[15]]),
     }
 }
 
@@ -50,29 +27,19 @@ pub(crate) fn words(k: [u8; 16]) -> State
 pub(crate) fn bytes_of(s: State) -> [u8; 16]
     ensures { result ≡ bytes_of s }
 {
+    let [a0, a1, a2, a3] = s.a.to_le_bytes();
+    let [b0, b1, b2, b3] = s.b.to_le_bytes();
+    let [c0, c1, c2, c3] = s.c.to_le_bytes();
+    let [d0, d1, d2, d3] = s.d.to_le_bytes();
     [
-        (s.a % 256) as u8,
-        (s.a / 256 % 256) as u8,
-        (s.a / 65536 % 256) as u8,
-        (s.a / 16777216) as u8,
-        (s.b % 256) as u8,
-        (s.b / 256 % 256) as u8,
-        (s.b / 65536 % 256) as u8,
-        (s.b / 16777216) as u8,
-        (s.c % 256) as u8,
-        (s.c / 256 % 256) as u8,
-        (s.c / 65536 % 256) as u8,
-        (s.c / 16777216) as u8,
-        (s.d % 256) as u8,
-        (s.d / 256 % 256) as u8,
-        (s.d / 65536 % 256) as u8,
-        (s.d / 16777216) as u8,
+        a0, a1, a2, a3, b0, b1, b2, b3, c0, c1, c2, c3, d0, d1, d2, d3,
     ]
 }
 
-// AddRoundKey.
+// The sum of the words: AddRoundKey.
+#[tactic(auto, unfolding(field::specs::Xor::xor))]
 pub(crate) fn add(s: State, k: State) -> State
-    ensures { bytes_of result ≡ add_round_key (bytes_of s) (bytes_of k) }
+    ensures { result ≡ sum s k }
 {
     State {
         a: s.a ^ k.a,
@@ -80,4 +47,30 @@ pub(crate) fn add(s: State, k: State) -> State
         c: s.c ^ k.c,
         d: s.d ^ k.d,
     }
+}
+
+// The words the other way round, the last column first.
+fn reversed(s: State) -> State
+    ensures { result ≡ reversed s }
+{
+    State {
+        a: s.d,
+        b: s.c,
+        c: s.b,
+        d: s.a,
+    }
+}
+
+// The sixteen bytes of a block as four words, the last column first.
+pub(crate) fn reversed_words(k: [u8; 16]) -> State
+    ensures { reversed_bytes result ≡ k }
+{
+    reversed(words(k))
+}
+
+// The sixteen bytes of four words, of which the last column is the first.
+pub(crate) fn reversed_bytes(s: State) -> [u8; 16]
+    ensures { result ≡ reversed_bytes s }
+{
+    bytes_of(reversed(s))
 }

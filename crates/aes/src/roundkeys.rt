@@ -1,75 +1,48 @@
 // SPDX-License-Identifier: MPL-2.0
-// The round keys as the rounds read them: words, four to a key, in FIPS 197's order (5.2); and those of the way back.
-ghost use Rattle.std.specs.Prelude.{◌≡◌, ◌<◌, get_or};
-ghost use Rattle.laws.specs.Runs.{run};
-ghost use Rattle.field.specs.Words.{unmixed_word};
-ghost use Rattle.aes.specs.State.{Keys};
-ghost use Rattle.aes.specs.Words.{key_at, put_key, keys_of};
-ghost use Rattle.aes.specs.Cipher.{eq_keys};
+// The round keys as the rounds take them: as words, number n where n more rounds come (FIPS 197, 5.2 and 5.3.5).
+ghost use Rattle.std.specs.Prelude.{◌≡◌, ◌<◌, List, [], get_or, map};
+ghost use Rattle.aes.specs.State.{Block, Keys, inv_mix_columns};
+ghost use Rattle.aes.specs.Words.{bytes_of, reversed_bytes};
+ghost use Rattle.aes.specs.Cipher.{keys_back, eq_key, eq_keys};
 
-use super::columns::{State, words};
+use super::columns::{State, reversed_words, words};
 use field::matrix::unmix;
+use std::array;
 
-// Round key i.
-#[tactic(auto, unfolding(crate::specs::Words::key_at))]
-pub(crate) fn key_at(w: &[u32; 44], i: usize) -> State
-    requires { i < 11 }
-    ensures { result ≡ key_at w.now i }
+// Those of the cipher.
+pub(crate) fn key_words(keys: [[u8; 16]; 11]) -> [State; 11]
+    ensures { map reversed_bytes result ≡ keys_back keys }
+{
+    array::from_fn(|n| reversed_words(keys[10 - n]))
+}
+
+// InvMixColumns of a round key.
+#[tactic(auto, using(crate::proofs::Lookups::unmixed_key))]
+fn unmixed(k: State) -> State
+    ensures { bytes_of result ≡ inv_mix_columns (bytes_of k) }
 {
     State {
-        a: w[4 * i],
-        b: w[4 * i + 1],
-        c: w[4 * i + 2],
-        d: w[4 * i + 3],
+        a: unmix(k.a),
+        b: unmix(k.b),
+        c: unmix(k.c),
+        d: unmix(k.d),
     }
 }
 
-// Puts round key i among the words.
-#[tactic(auto, unfolding(crate::specs::Words::put_key))]
-fn put_key(w: &mut [u32; 44], i: usize, k: State)
-    requires { i < 11 }
-    ensures { w.new ≡ put_key w.old i k }
+// Round key n of EqInvCipher(): the first and the last are as they were.
+fn inverse_key(keys: &[[u8; 16]; 11], n: usize) -> State
+    requires { n < 11 }
+    ensures key { bytes_of result ≡ eq_key keys.now n }
+    ensures is_block { Block (get_or keys.now n []) }
 {
-    w[4 * i] = k.a;
-    w[4 * i + 1] = k.b;
-    w[4 * i + 2] = k.c;
-    w[4 * i + 3] = k.d;
+    let k = words(keys[n]);
+    if 0 < n && n < 10 { unmixed(k) } else { k }
 }
 
-// The words of all round keys.
-pub(crate) fn key_words(keys: [[u8; 16]; 11]) -> [u32; 44]
-    ensures { keys_of result ≡ keys }
+// Those of EqInvCipher(). The keys are blocks, as its callers cite.
+pub(crate) fn inverse_words(keys: [[u8; 16]; 11]) -> [State; 11]
+    ensures words { map bytes_of result ≡ eq_keys keys }
+    ensures are_blocks { Keys keys }
 {
-    let mut w = [0u32; 44];
-    let mut i: usize = 0;
-    while i < 11 {
-        let k = keys[i];
-        put_key(&mut w, i, words(k));
-        i += 1;
-    }
-    w
-}
-
-// InvMixColumns of every word of the round keys.
-fn unmix_words(w: &[u32; 44]) -> [u32; 44]
-    ensures { result ≡ run (λ j. unmixed_word (get_or w.now j 0)) 0 44 }
-{
-    let mut r = [0u32; 44];
-    let mut j: usize = 0;
-    while j < 44 {
-        r[j] = unmix(w[j]);
-        j += 1;
-    }
-    r
-}
-
-// The words of the round keys of EqInvCipher() (FIPS 197, 5.3.5): the first and the last are as they were. The keys are blocks, as its callers cite.
-pub(crate) fn inverse_words(keys: [[u8; 16]; 11]) -> [u32; 44]
-    ensures { (keys_of result ≡ eq_keys keys) × Keys keys }
-{
-    let w = key_words(keys);
-    let mut r = unmix_words(&w);
-    put_key(&mut r, 0, key_at(&w, 0));
-    put_key(&mut r, 10, key_at(&w, 10));
-    r
+    array::from_fn(|n| inverse_key(&keys, n))
 }

@@ -23,7 +23,7 @@ pub extern "C" fn bench_encrypt(key: &[u8], vector: &[u8], source: &[u8], target
     cbc_encrypt(keys, first, source, target)
 }
 
-// Decrypts the source into the front of the target, as above.
+// Decrypts the source into the front of the target, as above. Two calls of C, a line each over aes: what they share is shared there.
 #[unsafe(no_mangle)]
 pub extern "C" fn bench_decrypt(key: &[u8], vector: &[u8], source: &[u8], target: &mut [u8]) -> bool
     ensures value { result ≡ blocks_fit source.now target.old }

@@ -6,17 +6,15 @@ ghost use Rattle.laws.specs.Parts.{part};
 ghost use Rattle.bench_c.specs.Course.{piece_of, length_told, course, not_one, joined_all};
 
 use joining::{Arrival, Joined, Piece, Progress};
-use octets::bounds::lesser;
 
 // The bytes of a source from a place on, as many as there are of those that are wanted.
 fn part_at(source: &[u8], at: usize, wanted: usize) -> &[u8]
     ensures { result.now ≡ part source.now at wanted }
 {
     if source.len() < at {
-        return &source[0..0];
+        return &source[..0];
     }
-    let end = at + lesser(wanted, source.len() - at);
-    &source[at..end]
+    &source[at..at + wanted.min(source.len() - at)]
 }
 
 // Piece i comes.
@@ -47,10 +45,8 @@ fn length_told(answer: Arrival) -> u64
     ensures { result ≡ length_told answer }
 {
     match answer {
-        Arrival::Refused(_) => 0,
-        Arrival::Taken(_) => 0,
-        Arrival::Repeat(_) => 0,
-        Arrival::Complete { length, heard: _ } => length as u64,
+        Arrival::Complete { length, .. } => length as u64,
+        _ => 0,
     }
 }
 
@@ -62,14 +58,10 @@ fn join_all(size: usize, count: usize, source: &[u8], report: &mut [u8]) -> u64
 {
     let mut held = Progress::expecting(0);
     let mut told: u64 = 0;
-    let mut i: usize = 0;
-    while i < count {
+    for i in 0..count {
         let joined = join_next(held, size, count, i, source, report);
-        let progress = joined.progress;
-        let answer = joined.answer;
-        held = progress;
-        told = length_told(answer);
-        i += 1;
+        held = joined.progress;
+        told = length_told(joined.answer);
     }
     told
 }

@@ -1,6 +1,6 @@
 -- SPDX-License-Identifier: MPL-2.0
 -- The schedule of a block, and the ring of its last sixteen words. The ring's law is `ring-word`: W_t stands at place t mod 16.
-use Rattle.laws.proofs.Kit.{ℕ, zero, suc, ◌+◌, ◌-◌, ◌%◌, ◌≤◌, ◌<◌, ◌≡◌, sym, ◌∙◌, List, [], length, get_or, length-set, get_or-set_same, get_or-set_other}
+use Rattle.laws.proofs.Kit.{ℕ, zero, suc, ◌+◌, ◌-◌, ◌%◌, min, ◌≤◌, ◌<◌, ◌≡◌, sym, ◌∙◌, List, [], length, get_or, length-set, get_or-set_same, get_or-set_other}
 use Rattle.laws.proofs.Kit.{length-append, add-zero, ⊎_elim, arith}
 use Rattle.std.proofs.Common.{add-suc}
 use lib.ListN.{get_or-append}
@@ -22,12 +22,18 @@ schedule-front m n (suc d) i p =
     rw (add-suc, get_or-append (schedule m (n + d)) _ 0 i (omega (arith, length-schedule m (n + d)))) (schedule-front m n d i p)
 
 -- the words that follow n, where W_n stands at place 0 again
-pub ring-on : (m : List ℕ) (n k : ℕ) → n % 16 ≡ 0 → ring m (n + k) ≡ ring (ring m n) k
+ring-on : (m : List ℕ) (n k : ℕ) → n % 16 ≡ 0 → ring m (n + k) ≡ ring (ring m n) k
 unfolding ring
 ring-on m n zero h = rw add-zero
 ring-on m n (suc k) h =
     let e : (n + k) % 16 ≡ k % 16 = omega arith in
     rw (add-suc, e, ring-on m n k h)
+
+-- the words of the next turn, before the last
+pub ring_next : (m : List ℕ) (t : ℕ) → t % 16 ≡ 0 → t < 48 → ring m (min (t + 16) 48) ≡ ring (ring m t) 16
+ring_next m t h k =
+    let e : min (t + 16) 48 ≡ t + 16 = omega arith in
+    rw e (ring-on m t 16 h)
 
 module _ (m : List ℕ) (sixteen : length m ≡ 16) where
   length-ring : (n : ℕ) → length (ring m n) ≡ 16

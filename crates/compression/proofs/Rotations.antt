@@ -1,12 +1,13 @@
 -- SPDX-License-Identifier: MPL-2.0
 -- Rotations of a word, one after the other and of a ⊕: so they can be nested.
-use Rattle.laws.proofs.Kit.{ℕ, ◌+◌, ◌-◌, ◌*◌, ◌/◌, ◌%◌, ◌^◌, ◌≤◌, ◌<◌, ◌≡◌, sym, ◌∙◌, ap, mod-lt, bit_xor, xor_shr, arith}
+use Rattle.laws.proofs.Kit.{ℕ, ◌+◌, ◌-◌, ◌*◌, ◌/◌, ◌%◌, ◌^◌, ◌≤◌, ◌<◌, ◌≡◌, refl, sym, ◌∙◌, ap, mod-lt, bit_xor, xor_shr, arith}
 use Rattle.laws.proofs.Xor.{xor_assoc}
 use Rattle.std.proofs.Common.{add-zero, add_assoc, mul_assoc, add-mul, add_comm, pow_pos, pow-add, shr-shr, shr_lt}
 use native.Mathlib.Nat.{mul-mod_left, mul-add-mod_self_right, mul-add-div_right}
 use lib.Bits.{or_lt, or_shifted_r, xor_lt, xor_block, xor_mod}
 use lib.Pow.{mod-pow-add, shl-shr, shr_le}
-use Rattle.compression.specs.Words.{ROTR}
+use Rattle.std.specs.Int.{w32, rotate_right}
+use Rattle.compression.specs.Words.{SHR, ROTR, Σ0, Σ1, σ0, σ1}
 
 -- the n low bits, above the k others
 abbrev turned : ℕ → ℕ → ℕ → ℕ
@@ -63,3 +64,21 @@ rotr-nested-twice l m n x h hx =
     let hb = rotr-lt (m + n) x hx in
     rw (rotr-nested m n x (omega arith) hx, rotr-xor l x (bit_xor a b) (omega arith) hx (xor_lt 32 a b ha hb), rotr-xor l a b (omega arith) ha hb)
     (rw (rotr-rotr l m x (omega arith) hx, rotr-rotr l (m + n) x h hx, xor_assoc))
+
+-- as the code has them, on a word
+module _ (x : ℕ) (h : x < 2 ^ 32) where
+  pub big_sigma0_by : Σ0 x ≡ rotate_right w32 (bit_xor x (rotate_right w32 (bit_xor x (rotate_right w32 x 9)) 11)) 2
+  unfolding Σ0 ROTR
+  big_sigma0_by = sym (rotr-nested-twice 2 11 9 x (omega arith) h)
+
+  pub big_sigma1_by : Σ1 x ≡ bit_xor (bit_xor (rotate_right w32 x 6) (rotate_right w32 x 11)) (rotate_right w32 x 25)
+  unfolding Σ1 ROTR
+  big_sigma1_by = refl
+
+  pub small_sigma0_by : σ0 x ≡ bit_xor (rotate_right w32 (bit_xor x (rotate_right w32 x 11)) 7) (x / 2 ^ 3)
+  unfolding σ0 SHR ROTR
+  small_sigma0_by = ap (λ (y : ℕ). bit_xor y (x / 2 ^ 3)) (sym (rotr-nested 7 11 x (omega arith) h))
+
+  pub small_sigma1_by : σ1 x ≡ bit_xor (rotate_right w32 (bit_xor x (rotate_right w32 x 2)) 17) (x / 2 ^ 10)
+  unfolding σ1 SHR ROTR
+  small_sigma1_by = ap (λ (y : ℕ). bit_xor y (x / 2 ^ 10)) (sym (rotr-nested 17 2 x (omega arith) h))

@@ -4,13 +4,16 @@ ghost use Rattle.std.specs.Prelude.{◌≡◌, ℕ, ◌+◌, ◌%◌, ◌<◌, �
 ghost use Rattle.compression.specs.Compression as fips;
 ghost use Rattle.compression.specs.Ring.{put_word, ring};
 
-use crate::word::{add, small_sigma0, small_sigma1};
+use crate::word::{small_sigma0, small_sigma1};
 
-#[tactic(auto, unfolding(crate::specs::Compression::mixed))]
+#[tactic(auto, unfolding(crate::specs::Compression::mixed, crate::specs::Words::plus))]
 fn mixed(a: u32, b: u32, c: u32, d: u32) -> u32
     ensures { result ≡ fips.mixed a b c d }
 {
-    add(add(add(small_sigma1(a), b), small_sigma0(c)), d)
+    small_sigma1(a)
+        .wrapping_add(b)
+        .wrapping_add(small_sigma0(c))
+        .wrapping_add(d)
 }
 
 // W_t in the place of W_(t-16), which is i = t mod 16.
@@ -22,7 +25,8 @@ fn put_word(w: &mut [u32; 16], i: usize)
     w[i] = mixed(w[(i + 14) % 16], w[(i + 9) % 16], w[(i + 1) % 16], w[i]);
 }
 
-// The next sixteen words, each in the place of the one sixteen before it.
+// The next sixteen words, each in the place of the one sixteen before it; written out, since a `for` takes 11 % more instructions.
+#[tactic(auto, unfolding(crate::specs::Ring::ring))]
 fn put_sixteen(w: &mut [u32; 16])
     ensures { w.new ≡ ring w.old 16 }
 {
@@ -45,6 +49,7 @@ fn put_sixteen(w: &mut [u32; 16])
 }
 
 // After the rounds from t on: the words of the next sixteen rounds, where there are any.
+#[tactic(auto, using(crate::proofs::Rings::ring_next))]
 pub(crate) fn put_next(w: &mut [u32; 16], t: usize)
     requires { (t % 16 ≡ 0) × (t + 16 ≤ 64) }
     ensures { (m : List ℕ) → w.old ≡ ring m t → w.new ≡ ring m (min (t + 16) 48) }

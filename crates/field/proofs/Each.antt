@@ -1,8 +1,9 @@
 -- SPDX-License-Identifier: MPL-2.0
 -- A word byte by byte: its multiples, their sums and the column that turned ones make.
-use Rattle.laws.proofs.Kit.{ℕ, ◌+◌, ◌-◌, ◌*◌, ◌/◌, ◌%◌, ◌<◌, ◌≡◌, refl, sym, ◌∙◌, ap, ap₂, lit<, mod-lt, arith}
+use Rattle.laws.proofs.Kit.{ℕ, ◌+◌, ◌-◌, ◌*◌, ◌/◌, ◌%◌, ◌^◌, ◌<◌, ◌≡◌, refl, sym, ◌∙◌, ap, ap₂, lit<, mod-lt, arith}
 use native.Mathlib.Nat.{div-one, div-div-eq-div-mul, mod-eq_of_lt}
-use lib.Bits.{bit_and, and_block, and_mask, and_high}
+use Rattle.std.specs.Int.{w32, rotate_right}
+use lib.Bits.{or_shifted_r, bit_and, and_block, and_mask, and_high}
 use Rattle.field.specs.Xor.{xor}
 use Rattle.field.specs.Field.{xtime, times, mul}
 use Rattle.field.specs.Mix.{xor4, row}
@@ -122,27 +123,25 @@ doubled x h =
 -- ---- a word turned
 
 module _ (a b c d : ℕ) (ha : a < 256) (hb : b < 256) (hc : c < 256) (hd : d < 256) where
-  word-up1 : word a b c d / 256 + word a b c d * 16777216 % 4294967296 ≡ word b c d a
-  word-up1 = omega arith
+  word-up1 : rotate_right w32 (word a b c d) 8 ≡ word b c d a
+  word-up1 =
+      let e : word a b c d * 16777216 % 4294967296 ≡ a * 2 ^ 24 = omega arith in
+      rw (e, or_shifted_r a 24 (word a b c d / 256) (omega arith)) (omega arith)
 
-  word-up2 : word a b c d / 65536 + word a b c d * 65536 % 4294967296 ≡ word c d a b
-  word-up2 = omega arith
+  word-up2 : rotate_right w32 (word a b c d) 16 ≡ word c d a b
+  word-up2 =
+      let e : word a b c d * 65536 % 4294967296 ≡ (b * 256 + a) * 2 ^ 16 = omega arith in
+      rw (e, or_shifted_r (b * 256 + a) 16 (word a b c d / 65536) (omega arith)) (omega arith)
 
-  word-up3 : word a b c d / 16777216 + word a b c d * 256 % 4294967296 ≡ word d a b c
-  word-up3 = omega arith
+  word-up3 : rotate_right w32 (word a b c d) 24 ≡ word d a b c
+  word-up3 =
+      let e : word a b c d * 256 % 4294967296 ≡ ((c * 256 + b) * 256 + a) * 2 ^ 8 = omega arith in
+      rw (e, or_shifted_r ((c * 256 + b) * 256 + a) 8 (word a b c d / 16777216) (omega arith)) (omega arith)
 
-module _ (x : ℕ) (h : x < 4294967296) where
-  pub up1 : x / 256 + x * 16777216 % 4294967296 ≡ word (byte_at x 1) (byte_at x 2) (byte_at x 3) (byte_at x 0)
-  up1 = ap (λ (x : ℕ). x / 256 + x * 16777216 % 4294967296) (of-bytes x h)
-      ∙ word-up1 _ _ _ _ (byte_at-lt x 0) (byte_at-lt x 1) (byte_at-lt x 2) (byte_at-lt x 3)
-
-  pub up2 : x / 65536 + x * 65536 % 4294967296 ≡ word (byte_at x 2) (byte_at x 3) (byte_at x 0) (byte_at x 1)
-  up2 = ap (λ (x : ℕ). x / 65536 + x * 65536 % 4294967296) (of-bytes x h)
-      ∙ word-up2 _ _ _ _ (byte_at-lt x 0) (byte_at-lt x 1) (byte_at-lt x 2) (byte_at-lt x 3)
-
-  pub up3 : x / 16777216 + x * 256 % 4294967296 ≡ word (byte_at x 3) (byte_at x 0) (byte_at x 1) (byte_at x 2)
-  up3 = ap (λ (x : ℕ). x / 16777216 + x * 256 % 4294967296) (of-bytes x h)
-      ∙ word-up3 _ _ _ _ (byte_at-lt x 0) (byte_at-lt x 1) (byte_at-lt x 2) (byte_at-lt x 3)
+pub up1 : (x : ℕ) → x < 4294967296 → rotate_right w32 x 8 ≡ word (byte_at x 1) (byte_at x 2) (byte_at x 3) (byte_at x 0)
+up1 x h =
+    ap (λ (x : ℕ). rotate_right w32 x 8) (of-bytes x h)
+    ∙ word-up1 _ _ _ _ (byte_at-lt x 0) (byte_at-lt x 1) (byte_at-lt x 2) (byte_at-lt x 3)
 
 -- ---- the column
 
@@ -162,19 +161,6 @@ module _ (x : ℕ) where
       ≡ column 14 11 13 9 (byte_at x 0) (byte_at x 1) (byte_at x 2) (byte_at x 3)
   unfolding column row xor4
   column-summed = simp (xor-word, byte, two, m-byte, assoc) refl
-
--- the bytes of a multiple
-multiple : (k x y : ℕ) → y ≡ each (mul k) x
-    → (byte_at y 0 ≡ mul k (byte_at x 0)) × (byte_at y 1 ≡ mul k (byte_at x 1)) × (byte_at y 2 ≡ mul k (byte_at x 2)) × (byte_at y 3 ≡ mul k (byte_at x 3))
-unfolding each
-multiple k x y e =
-    let f : (i : ℕ) → mul k (byte_at x i) < 256 = m-byte x k in
-    rw e (
-      word-at0 _ _ _ _ (f 0) (f 1) (f 2) (f 3),
-      word-at1 _ _ _ _ (f 0) (f 1) (f 2) (f 3),
-      word-at2 _ _ _ _ (f 0) (f 1) (f 2) (f 3),
-      word-at3 _ _ _ _ (f 0) (f 1) (f 2) (f 3),
-    )
 
 -- the numbers of the inverse row, by twos
 numbers : (mul 2 2 ≡ 4) × (mul 2 4 ≡ 8) × (xor 8 1 ≡ 9) × (xor 9 2 ≡ 11) × (xor 9 4 ≡ 13) × (xor 8 4 ≡ 12) × (xor 12 2 ≡ 14)
@@ -201,17 +187,20 @@ module _ (x x2 x4 x8 : ℕ) (h : x < 4294967296) (e2 : x2 ≡ each (mul 2) x) (f
   by14 : xor (xor x8 x4) x2 ≡ each (mul 14) x
   by14 = ap₂ xor (ap₂ xor by8 by4 ∙ each-sum 8 4 12 x numbers.5) e2 ∙ each-sum 12 2 14 x numbers.6
 
-  pub column-by : (p q r : ℕ)
-      → (let y = xor (xor x8 x) x2 in p ≡ word (byte_at y 1) (byte_at y 2) (byte_at y 3) (byte_at y 0))
-      → (let y = xor (xor x8 x) x4 in q ≡ word (byte_at y 2) (byte_at y 3) (byte_at y 0) (byte_at y 1))
-      → (let y = xor x8 x in r ≡ word (byte_at y 3) (byte_at y 0) (byte_at y 1) (byte_at y 2))
-      → xor (xor (xor (xor (xor x8 x4) x2) p) q) r ≡ column 14 11 13 9 (byte_at x 0) (byte_at x 1) (byte_at x 2) (byte_at x 3)
+  pub column_by :
+      xor (xor (xor (xor (xor x8 x4) x2) (rotate_right w32 (xor (xor x8 x) x2) 8)) (rotate_right w32 (xor (xor x8 x) x4) 16))
+      (rotate_right w32 (xor x8 x) 24)
+      ≡ column 14 11 13 9 (byte_at x 0) (byte_at x 1) (byte_at x 2) (byte_at x 3)
   unfolding each
-  column-by p q r ep eq er =
-      let b = multiple 11 x _ by11 in
-      let c = multiple 13 x _ by13 in
-      let d = multiple 9 x _ by9 in
-      let ep2 = ep ∙ words b.1 b.2 b.3 b.0 in
-      let eq2 = eq ∙ words c.2 c.3 c.0 c.1 in
-      let er2 = er ∙ words d.3 d.0 d.1 d.2 in
-      rw (by14, ep2, eq2, er2) (column-summed x)
+  column_by =
+      let f : (k i : ℕ) → mul k (byte_at x i) < 256 = m-byte x in
+      rw (
+        by14,
+        by11,
+        by13,
+        by9,
+        word-up1 _ _ _ _ (f 11 0) (f 11 1) (f 11 2) (f 11 3),
+        word-up2 _ _ _ _ (f 13 0) (f 13 1) (f 13 2) (f 13 3),
+        word-up3 _ _ _ _ (f 9 0) (f 9 1) (f 9 2) (f 9 3),
+      )
+      (column-summed x)

@@ -7,5 +7,4 @@ pub mod Inverse
 pub mod Sbox
 pub mod Mix
 pub mod Words
-pub mod Arms
 pub mod Each

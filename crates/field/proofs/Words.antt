@@ -6,9 +6,10 @@ use lib.Bits.{xor_block}
 use Rattle.field.specs.Xor.{xor}
 use Rattle.field.specs.Field.{mul}
 use Rattle.field.specs.Mix.{xor4, row}
-use Rattle.field.specs.Words.{word, column, spread, twice, turned}
+use Rattle.field.specs.Words.{word, column, spread, twice, turned, mixes, unmixes}
 use Rattle.field.proofs.Xor.{byte, assoc}
 use Rattle.field.proofs.Linear.{mul-byte}
+use Rattle.field.proofs.Sbox.{sbox_by, sbox-by, inv_sbox_by, inv_sbox-by}
 use Rattle.field.proofs.Mix.{turn}
 
 -- two words are added byte by byte; the highest byte may be any number
@@ -62,3 +63,19 @@ module _ (f : ℕ → ℕ) (k l m n : ℕ) where
   looked-up bytes j a b c d ha hb hc hd =
       simp (turn0, turn1, turn2, turn3, mul-byte, bytes, assoc)
       (ap (xor j) (simp assoc at (spread-column k l m n (f a) (f b) (f c) (f d) (bytes a ha) (bytes b hb) (bytes c hc) (bytes d hd))))
+
+-- ---- what the tables of words are tested against: the substitution by the list of inverses
+
+unfoldable pub mixes_by : ℕ → ℕ
+mixes_by x = twice (spread 0x02 0x03 0x01 0x01 (sbox_by x))
+
+unfoldable pub unmixes_by : ℕ → ℕ
+unmixes_by x = twice (spread 0x0E 0x0B 0x0D 0x09 (inv_sbox_by x))
+
+pub mixes-by : (x : ℕ) → x < 256 → mixes_by x ≡ mixes x
+unfolding mixes_by mixes
+mixes-by x h = ap (λ (s : ℕ). twice (spread 2 3 1 1 s)) (sbox-by x h)
+
+pub unmixes-by : (x : ℕ) → x < 256 → unmixes_by x ≡ unmixes x
+unfolding unmixes_by unmixes
+unmixes-by x h = ap (λ (s : ℕ). twice (spread 14 11 13 9 s)) (inv_sbox-by x h)

@@ -6,6 +6,7 @@ ghost use Rattle.field.specs.Field.{mul};
 ghost use Rattle.field.specs.Words.{word, byte_at, each, unmixed_word};
 
 // Each byte of a word times x: where an eighth digit comes out, 0x1b is added.
+#[tactic(auto, unfolding(crate::specs::Xor::xor), using(crate::proofs::Each::doubled))]
 fn double(x: u32) -> u32
     ensures { result ≡ each (mul 2) x }
 {
@@ -14,27 +15,15 @@ fn double(x: u32) -> u32
 }
 
 // The word whose first byte is the second of x, and so on: RotWord() of 5.2.
+#[tactic(auto, using(crate::proofs::Each::up1))]
 pub fn up1(x: u32) -> u32
     ensures { result ≡ word (byte_at x 1) (byte_at x 2) (byte_at x 3) (byte_at x 0) }
 {
-    (x >> 8) + (x << 24)
-}
-
-// The same by two bytes.
-fn up2(x: u32) -> u32
-    ensures { result ≡ word (byte_at x 2) (byte_at x 3) (byte_at x 0) (byte_at x 1) }
-{
-    (x >> 16) + (x << 16)
-}
-
-// By three.
-fn up3(x: u32) -> u32
-    ensures { result ≡ word (byte_at x 3) (byte_at x 0) (byte_at x 1) (byte_at x 2) }
-{
-    (x >> 24) + (x << 8)
+    x.rotate_right(8)
 }
 
 // The column times the inverse matrix (5.3.3): 9 is 8 + 1, 11 is 9 + 2, 13 is 9 + 4, 14 is 8 + 4 + 2.
+#[tactic(auto, unfolding(crate::specs::Xor::xor, crate::specs::Words::unmixed_word), using(crate::proofs::Each::column_by))]
 pub fn unmix(x: u32) -> u32
     ensures { result ≡ unmixed_word x }
 {
@@ -42,5 +31,5 @@ pub fn unmix(x: u32) -> u32
     let x4 = double(x2);
     let x8 = double(x4);
     let x9 = x8 ^ x;
-    (x8 ^ x4 ^ x2) ^ up1(x9 ^ x2) ^ up2(x9 ^ x4) ^ up3(x9)
+    (x8 ^ x4 ^ x2) ^ (x9 ^ x2).rotate_right(8) ^ (x9 ^ x4).rotate_right(16) ^ x9.rotate_right(24)
 }

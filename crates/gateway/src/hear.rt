@@ -6,12 +6,12 @@ ghost use Rattle.gateway.specs.Client.{refuse, in_state, fails, replied, take, c
 ghost use Rattle.gateway.specs.Step.{hear};
 
 use super::{
-    Answer, Due, FAILED, Gateway, READY, Stepped, WAITING_FOR_AUTHENTICATION, WAITING_FOR_DONE,
+    Answer, FAILED, Gateway, READY, Stepped, WAITING_FOR_AUTHENTICATION, WAITING_FOR_DONE,
     WAITING_FOR_RESPONSE,
 };
 use admission::another_session;
-use payloads::reading::{code_of, connect_type};
 use payloads::PENDING;
+use payloads::reading::{code_of, connect_type};
 use payloads::types::ConnectType;
 use wire::header::{CONNECT, Header};
 use wire::refusals::{Refusal, Refused};
@@ -46,13 +46,11 @@ impl Gateway {
     fn in_state(self, state: u8) -> Gateway
         ensures { result ≡ in_state self state }
     {
-        let mut next = self;
-        next.state = state;
-        next
+        Gateway { state, ..self }
     }
 
     // A reply that is awaited in one state: there it is taken, later it is Again, and before it is not allowed.
-    fn replied(self, awaited: u8, answer: Answer, due: Due) -> Stepped
+    fn replied(self, awaited: u8, answer: Answer, due: Option<ConnectType>) -> Stepped
         requires { awaited < 3 }
         ensures { result ≡ replied self awaited answer due }
     {
@@ -77,22 +75,18 @@ impl Gateway {
     fn take(self, connect: u8) -> Stepped
         ensures { result ≡ take self connect }
     {
-        let device = ConnectType::DeviceRequest.number();
-        let done = ConnectType::DoneRequest.number();
         match ConnectType::try_from(connect) {
             Ok(ConnectType::ConnectionResponse) => self.replied(
                 WAITING_FOR_RESPONSE,
-                Answer::Next(device),
-                Due::Request(device),
+                Answer::Next(ConnectType::DeviceRequest),
+                Some(ConnectType::DeviceRequest),
             ),
             Ok(ConnectType::DeviceResponse) => self.replied(
                 WAITING_FOR_AUTHENTICATION,
-                Answer::Next(done),
-                Due::Request(done),
+                Answer::Next(ConnectType::DoneRequest),
+                Some(ConnectType::DoneRequest),
             ),
-            Ok(ConnectType::DoneResponse) => {
-                self.replied(WAITING_FOR_DONE, Answer::Ready, Due::Nothing)
-            }
+            Ok(ConnectType::DoneResponse) => self.replied(WAITING_FOR_DONE, Answer::Ready, None),
             _ => self.refuse(Refusal::NotAllowed.into()),
         }
     }

@@ -3,7 +3,7 @@
 #![tactic(auto)]
 
 mod hear;
-mod numbers;
+pub mod numbers;
 mod step;
 
 ghost use Rattle.std.specs.Prelude.{◌≡◌};
@@ -11,6 +11,7 @@ ghost use Rattle.gateway.specs.Opening.{opened};
 ghost use Rattle.gateway.specs.Answers.{due_in};
 
 use joining::cut::bad_size;
+pub use numbers::due_number;
 use payloads::types::ConnectType;
 use wire::refusals::{Refusal, Refused};
 
@@ -25,7 +26,8 @@ pub struct Gateway {
     pub session: u64,
 }
 
-// The states, each of the first three by the reply that is awaited: the Connection Response,
+// The states. They are bytes and no enum, since any byte of a stored connection is a state and comes back as it was (`GatewayStored`, crates/state).
+// Each of the first three is named by the reply that is awaited: the Connection Response,
 pub const WAITING_FOR_RESPONSE: u8 = 0;
 
 // the Device Authentication Response,
@@ -40,31 +42,23 @@ pub const READY: u8 = 3;
 // Another Result or Status came, or a verdict was 0: all is refused.
 pub const FAILED: u8 = 4;
 
-// The request that is due.
-#[derive(Clone, Copy)]
-pub enum Due {
-    // The Connect type of the request that the caller has the writer make, or sends again as it was made.
-    Request(u8),
-    // None is.
-    Nothing,
-}
-
 // What a step answers.
 #[derive(Clone, Copy)]
 pub enum Answer {
     // The refusal; the connection is as it was.
     Refused(Refused),
-    // The awaited reply was taken: the Connect type of the next request.
-    Next(u8),
+    // The awaited reply was taken: the type of the next request.
+    Next(ConnectType),
     // The last reply was taken.
     Ready,
     // Another Result or Status, or a verdict of 0.
     Failed,
-    // A reply that was taken before, and nothing has changed: the request that follows it, once more.
-    Again(Due),
+    // A reply that was taken before, and nothing has changed: the request that follows it, once more, if one does.
+    Again(Option<ConnectType>),
 }
 
-// A connection that was opened; the refusal is 0 where there is none.
+// A connection that was opened; the refusal is 0 where there is none. It is no Result: beside 24 there is a connection too, all zero, as document 01
+// says and `GatewayOpens` (crates/promises) states.
 #[derive(Clone, Copy)]
 pub struct Opened {
     pub refusal: u8,
@@ -104,15 +98,15 @@ impl Gateway {
         }
     }
 
-    // The request that is due: the same until its reply is taken.
-    pub fn due(self) -> Due
+    // The type of the request that is due, if one is: the same until its reply is taken. The caller has the writer make it, or sends it once more.
+    pub fn due(self) -> Option<ConnectType>
         ensures { result ≡ due_in self.state }
     {
         match self.state {
-            WAITING_FOR_RESPONSE => Due::Request(ConnectType::ConnectionRequest.number()),
-            WAITING_FOR_AUTHENTICATION => Due::Request(ConnectType::DeviceRequest.number()),
-            WAITING_FOR_DONE => Due::Request(ConnectType::DoneRequest.number()),
-            _ => Due::Nothing,
+            WAITING_FOR_RESPONSE => Some(ConnectType::ConnectionRequest),
+            WAITING_FOR_AUTHENTICATION => Some(ConnectType::DeviceRequest),
+            WAITING_FOR_DONE => Some(ConnectType::DoneRequest),
+            _ => None,
         }
     }
 }

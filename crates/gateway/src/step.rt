@@ -7,7 +7,8 @@ ghost use Rattle.gateway.specs.Step.{step};
 use super::{Gateway, Stepped};
 
 impl Gateway {
-    // One message, with the keys, the working buffer and the verdict on the hub's certificate.
+    // One message, with the keys, the working buffer and the verdict on the hub's certificate: a byte, since one above 1 is answered with 25
+    // (`GatewayExact`, crates/promises).
     #[tactic(auto, unfolding(crate::specs::Step::step))]
     pub fn step(self, message: &[u8], keys: &[u8], working: &mut [u8], verdict: u8) -> Stepped
         ensures value { result ≡ step self message.now keys.now working.old verdict }

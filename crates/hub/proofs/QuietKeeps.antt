@@ -20,8 +20,8 @@ use Rattle.hub.proofs.StepCases.{hear-cases, step-cases}
 abbrev pub Still : Connection → List ℕ → Stepped → List ℕ → Type 0
 Still c b s b' = is_quiet (said s.answer) ≡ true → (s.connection ≡ c) × (b' ≡ b)
 
--- No other answer is quiet.
-loud : {A : Type 0} → false ≡ true → A
+-- No other answer is quiet, nor of another kind.
+pub loud : {A : Type 0} → false ≡ true → A
 loud e = absurd (false≢true e)
 
 module _ (c : Connection) (b : List ℕ) where

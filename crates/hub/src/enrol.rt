@@ -24,39 +24,33 @@ impl Connection {
     fn requested(self, session: u64, request: Request) -> Connection
         ensures { result ≡ requested self session request }
     {
-        let nonce = request.nonce;
-        let x = request.x;
-        let y = request.y;
-        let mut next = self;
-        next.state = REQUESTED;
-        next.session = session;
-        next.nonce = nonce;
-        next.x = x;
-        next.y = y;
-        next
+        let Request { nonce, x, y } = request;
+        Connection {
+            state: REQUESTED,
+            session,
+            nonce,
+            x,
+            y,
+            ..self
+        }
     }
 
     // The certificate's digest is remembered, in this state.
     fn with_digest_and_state(self, digest: [u8; 32], state: u8) -> Connection
         ensures { result ≡ with_digest_and_state self digest state }
     {
-        let mut next = self;
-        next.digest = digest;
-        next.state = state;
-        next
+        Connection {
+            digest,
+            state,
+            ..self
+        }
     }
 
     // The request has the nonce, X and Y that are remembered.
     fn knows(self, request: Request) -> bool
         ensures { result ≡ knows self request }
     {
-        let nonce = self.nonce;
-        let x = self.x;
-        let y = self.y;
-        let other_nonce = request.nonce;
-        let other_x = request.x;
-        let other_y = request.y;
-        alike(&nonce, &other_nonce) & alike(&x, &other_x) & alike(&y, &other_y)
+        alike(&self.nonce, &request.nonce) & alike(&self.x, &request.x) & alike(&self.y, &request.y)
     }
 
     // A Connection Request.
@@ -67,13 +61,13 @@ impl Connection {
         if state == WAITING {
             return Stepped {
                 connection: self.requested(session, request),
-                answer: Answer::Reply(ConnectType::ConnectionResponse.number()),
+                answer: Answer::Reply(ConnectType::ConnectionResponse),
             };
         }
         if (REQUESTED <= state) & (state <= READY) & self.knows(request) {
             return Stepped {
                 connection: self,
-                answer: Answer::Again(ConnectType::ConnectionResponse.number()),
+                answer: Answer::Again(ConnectType::ConnectionResponse),
             };
         }
         self.refuse(Refusal::NotAllowed.into())
@@ -87,7 +81,7 @@ impl Connection {
         if (state == REQUESTED) & (verdict == 1) {
             return Stepped {
                 connection: self.with_digest_and_state(digest, PASSED),
-                answer: Answer::Reply(ConnectType::DeviceResponse.number()),
+                answer: Answer::Reply(ConnectType::DeviceResponse),
             };
         }
         if (state == REQUESTED) & (verdict == 0) {
@@ -96,11 +90,10 @@ impl Connection {
                 answer: Answer::Failure,
             };
         }
-        let known = self.digest;
-        if (PASSED <= state) & (state <= READY) & alike(&known, &digest) {
+        if (PASSED <= state) & (state <= READY) & alike(&self.digest, &digest) {
             return Stepped {
                 connection: self,
-                answer: Answer::Again(ConnectType::DeviceResponse.number()),
+                answer: Answer::Again(ConnectType::DeviceResponse),
             };
         }
         self.refuse(Refusal::NotAllowed.into())
@@ -112,16 +105,15 @@ impl Connection {
     {
         let state = self.state;
         if state == PASSED {
-            let digest = self.digest;
             return Stepped {
-                connection: self.with_digest_and_state(digest, READY),
-                answer: Answer::Reply(ConnectType::DoneResponse.number()),
+                connection: self.with_digest_and_state(self.digest, READY),
+                answer: Answer::Reply(ConnectType::DoneResponse),
             };
         }
         if state == READY {
             return Stepped {
                 connection: self,
-                answer: Answer::Again(ConnectType::DoneResponse.number()),
+                answer: Answer::Again(ConnectType::DoneResponse),
             };
         }
         self.refuse(Refusal::NotAllowed.into())

@@ -14,13 +14,13 @@ use wire::header::{CONNECT, Header, SESSION};
 use wire::refusals::Refusal;
 
 // The SHA-256 of the certificate in a Device Authentication Request.
+#[tactic(auto, using(crate::proofs::Certificates::certificate_inside))]
 fn certificate_digest(payload: &[u8]) -> [u8; 32]
     ensures { result ≡ digest (certificate payload.now) }
 {
     let place = certificate_of(payload);
-    let from = place.from;
-    let end = from + place.size;
-    sha256::digest(&payload[from..end])
+    let end = place.from + place.size;
+    sha256::digest(&payload[place.from..end])
 }
 
 impl Connection {
@@ -51,16 +51,13 @@ impl Connection {
             count: header.count as usize,
             index: header.index as usize,
         };
-        let size = self.size;
-        let progress = self.progress;
-        let joined = progress.join(size, piece, payload, report);
-        let next = joined.progress;
-        let arrival = joined.answer;
-        let mut connection = self;
-        connection.progress = next;
+        let joined = self.progress.join(self.size, piece, payload, report);
         Stepped {
-            connection,
-            answer: arrival.into(),
+            connection: Connection {
+                progress: joined.progress,
+                ..self
+            },
+            answer: joined.answer.into(),
         }
     }
 

@@ -13,6 +13,7 @@ ghost use Rattle.hub.specs.Answers.{said, answer_of};
 use admission::AGAIN;
 use joining::answer::{COMPLETE, REPEAT, Said, TAKEN};
 use joining::{Arrival, Progress};
+use payloads::types::ConnectType;
 use wire::refusals::{Refusal, Refused};
 
 // What the hub remembers of a gateway. It goes through a step as a value and comes back as one.
@@ -33,7 +34,8 @@ pub struct Connection {
     pub progress: Progress,
 }
 
-// The states. Waiting for a Connection Request.
+// The states. They are bytes and no enum, since any byte of a stored connection is a state and comes back as it was (`Whole`, crates/state).
+// Waiting for a Connection Request.
 pub const WAITING: u8 = 0;
 
 // Requested; waiting for the gateway's authentication.
@@ -53,10 +55,10 @@ pub const FAILED: u8 = 4;
 pub enum Answer {
     // The refusal; connection and report buffer are as they were.
     Refused(Refused),
-    // The Connect type of the reply that the caller has the writer make.
-    Reply(u8),
+    // The type of the reply that the caller has the writer make.
+    Reply(ConnectType),
     // A repeated enrolment step: the same reply once more, and nothing has changed.
-    Again(u8),
+    Again(ConnectType),
     // Authentication Failure, which the caller makes without the writer.
     Failure,
     // A piece was written; how many different ones of its message have come.
@@ -67,7 +69,7 @@ pub enum Answer {
     Complete { length: usize, heard: usize },
 }
 
-// The kinds of a step's answers that neither a piece has nor the other role.
+// The kinds of a step's answers that neither a piece has nor the other role: numbers, since C is handed them so.
 pub const REPLY: u64 = 1;
 
 pub const FAILURE: u64 = 3;
@@ -75,7 +77,8 @@ pub const FAILURE: u64 = 3;
 // The Status of the reply of type 7; a reply of another type has none, and 0 stands there too.
 const DONE_STATUS: u64 = 0;
 
-// A connection that was opened; the refusal is 0 where there is none.
+// A connection that was opened; the refusal is 0 where there is none. It is no Result: beside 24 there is a connection too, all zero, as document 01
+// says and `OpenerExact` (crates/promises) states.
 #[derive(Clone, Copy)]
 pub struct Opened {
     pub refusal: u8,
@@ -110,8 +113,8 @@ impl From<Answer> for Said {
     fn from(answer: Answer) -> Said {
         match answer {
             Answer::Refused(refused) => Said::refused(refused.number()),
-            Answer::Reply(connect) => Said::words(REPLY, connect as u64, DONE_STATUS),
-            Answer::Again(connect) => Said::words(AGAIN, connect as u64, DONE_STATUS),
+            Answer::Reply(connect) => Said::words(REPLY, connect.number() as u64, DONE_STATUS),
+            Answer::Again(connect) => Said::words(AGAIN, connect.number() as u64, DONE_STATUS),
             Answer::Failure => Said::words(FAILURE, 0, 0),
             Answer::Taken(heard) => Said::words(TAKEN, heard as u64, 0),
             Answer::Repeat(heard) => Said::words(REPEAT, heard as u64, 0),

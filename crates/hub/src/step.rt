@@ -7,7 +7,8 @@ ghost use Rattle.hub.specs.Step.{step, report_stepped};
 use super::{Connection, Stepped};
 
 impl Connection {
-    // One message, with the keys, the working buffer, the report buffer and the verdict on the gateway's certificate.
+    // One message, with the keys, the working buffer, the report buffer and the verdict on the gateway's certificate: a byte, since one above 1 is
+    // answered with 25 (`StepExact`, crates/promises).
     #[tactic(auto, unfolding(crate::specs::Step::step, crate::specs::Step::report_stepped))]
     pub fn step(
         self,

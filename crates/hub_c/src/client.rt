@@ -11,32 +11,13 @@ ghost use Rattle.hub_c.specs.Answered.{verdict_of};
 ghost use Rattle.hub_c.specs.Client.{gateway_after, gateway_answer, wrong_gateway_step, wrong_gateway_due};
 
 use super::connection::verdict_of;
-use super::words::{ANSWER, WRONG_BUFFER, fill, put_length, put_said};
-use gateway::{Gateway, Stepped};
-use joining::answer::Said;
+use super::words::{ANSWER, WRONG_BUFFER, fill, hand_said, put_length};
+use gateway::Gateway;
+use gateway::numbers::due_number;
 use state::client::{GATEWAY, decode_gateway, encode_gateway};
 
 // The words of the request that is due.
 const DUE: usize = 1;
-
-// The gateway's connection in a state buffer.
-fn gateway_of(state: &[u8]) -> Gateway
-    requires { length state.now ≡ gateway_size }
-    ensures { result ≡ gateway_at state.now }
-{
-    let mut held = [0u8; GATEWAY];
-    fill(&mut held, state);
-    decode_gateway(&held)
-}
-
-// Puts a gateway's connection into a state buffer.
-fn put_gateway(state: &mut [u8], gateway: Gateway)
-    requires { length state.old ≡ gateway_size }
-    ensures { state.new ≡ gateway_bytes gateway }
-{
-    let bytes = encode_gateway(gateway);
-    fill(state, &bytes);
-}
 
 // Opens a gateway's connection of this fragment size and SessionID. Refused with 24 it is all zero.
 #[unsafe(no_mangle)]
@@ -49,31 +30,13 @@ pub extern "C" fn hub_gateway_open(fragment_size: u64, session: u64, gateway: &m
         return WRONG_BUFFER;
     }
     let opened = Gateway::open(fragment_size as usize, session);
-    let next = opened.gateway;
-    put_gateway(gateway, next);
+    fill(gateway, &encode_gateway(opened.gateway));
     opened.refusal as u32
-}
-
-// Hands out what a step gives: the answer's words, and the next connection or the refusal's number.
-#[tactic(auto, unfolding(crate::specs::Client::gateway_after))]
-fn settle_gateway(stepped: Stepped, state: &mut [u8], answer: &mut [u64]) -> u32
-    requires { (length state.old ≡ gateway_size) × (length answer.old ≡ answer_size) }
-    ensures value { result ≡ (said stepped.answer).refusal }
-    ensures new_state { state.new ≡ gateway_after stepped state.old }
-    ensures new_answer { answer.new ≡ gateway_answer stepped }
-{
-    let said = Said::from(stepped.answer);
-    put_said(answer, said);
-    if said.refusal != 0 {
-        return said.refusal as u32;
-    }
-    let next = stepped.gateway;
-    put_gateway(state, next);
-    0
 }
 
 // One message on the gateway's connection in a state buffer: refused, with the connection as it was and the answer's words 0; or the next
 // connection, and the answer in three words: kind, value, 0.
+#[tactic(auto, unfolding(crate::specs::Client::gateway_after))]
 #[unsafe(no_mangle)]
 pub extern "C" fn hub_gateway_step(
     gateway: &mut [u8],
@@ -96,12 +59,20 @@ pub extern "C" fn hub_gateway_step(
         (gateway_answer (step (gateway_at gateway.old) message.now keys.now working.old
         (verdict_of verdict))) }
 {
-    if (gateway.len() != GATEWAY) | (answer.len() != ANSWER) {
+    let Some(held) = gateway.as_array() else {
+        return WRONG_BUFFER;
+    };
+    let held = decode_gateway(held);
+    if answer.len() != ANSWER {
         return WRONG_BUFFER;
     }
-    let held = gateway_of(gateway);
     let stepped = held.step(message, keys, working, verdict_of(verdict));
-    settle_gateway(stepped, gateway, answer)
+    let refusal = hand_said(stepped.answer.into(), answer);
+    if refusal != 0 {
+        return refusal;
+    }
+    fill(gateway, &encode_gateway(stepped.gateway));
+    0
 }
 
 // The request that is due on the gateway's connection in a state buffer: its type, or 256 where none is.
@@ -111,11 +82,12 @@ pub extern "C" fn hub_gateway_due(gateway: &[u8], due: &mut [u64]) -> u32
     ensures new_due { due.new ≡ cond (wrong_gateway_due gateway.now due.old) due.old
         (due_number (due_in (gateway_at gateway.now).state) ∷ []) }
 {
-    if (gateway.len() != GATEWAY) | (due.len() != DUE) {
+    let Some(held) = gateway.as_array() else {
+        return WRONG_BUFFER;
+    };
+    if due.len() != DUE {
         return WRONG_BUFFER;
     }
-    let held = gateway_of(gateway);
-    let request = held.due();
-    put_length(due, request.number());
+    put_length(due, due_number(decode_gateway(held).due()));
     0
 }

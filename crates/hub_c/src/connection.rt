@@ -10,36 +10,14 @@ ghost use Rattle.state.specs.State.{connection_at, state_bytes};
 ghost use Rattle.hub_c.specs.Sizes.{wrong_buffer, answer_size, sized, kept};
 ghost use Rattle.hub_c.specs.Answered.{state_after, answer_after, verdict_of, short_report, wrong_step};
 
-use super::words::{ANSWER, WRONG_BUFFER, fill, put_said};
-use hub::{Connection, Stepped};
-use joining::answer::Said;
+use super::words::{ANSWER, WRONG_BUFFER, fill, hand_said};
+use hub::Connection;
 use joining::cut::bad_size;
 use state::{STATE, decode, encode};
 use wire::header::MOST_PIECES;
 
 // The most pieces of a report.
 const PIECES: usize = MOST_PIECES as usize;
-
-// The connection in a state buffer.
-#[tactic(auto, unfolding(wire::specs::Fields::most_pieces))]
-fn connection_of(state: &[u8]) -> Connection
-    requires { length state.now ≡ state_size }
-    ensures { result ≡ connection_at state.now }
-{
-    let mut held = [0u8; STATE];
-    fill(&mut held, state);
-    decode(&held)
-}
-
-// Puts a connection into a state buffer.
-#[tactic(auto, unfolding(wire::specs::Fields::most_pieces))]
-fn put_connection(state: &mut [u8], connection: Connection)
-    requires { length state.old ≡ state_size }
-    ensures { state.new ≡ state_bytes connection }
-{
-    let bytes = encode(connection);
-    fill(state, &bytes);
-}
 
 // Opens a connection of this fragment size into a state buffer. Refused with 24 the state is that of the connection that is all zero.
 #[tactic(auto, unfolding(wire::specs::Fields::most_pieces))]
@@ -53,27 +31,8 @@ pub extern "C" fn hub_open(fragment_size: u64, state: &mut [u8]) -> u32
         return WRONG_BUFFER;
     }
     let opened = Connection::open(fragment_size as usize);
-    let connection = opened.connection;
-    put_connection(state, connection);
+    fill(state, &encode(opened.connection));
     opened.refusal as u32
-}
-
-// Hands out what a step gives: the answer's words, and the next state or the refusal's number.
-#[tactic(auto, unfolding(crate::specs::Answered::state_after))]
-fn settle(stepped: Stepped, state: &mut [u8], answer: &mut [u64]) -> u32
-    requires { (length state.old ≡ state_size) × (length answer.old ≡ answer_size) }
-    ensures value { result ≡ (said stepped.answer).refusal }
-    ensures new_state { state.new ≡ state_after stepped state.old }
-    ensures new_answer { answer.new ≡ answer_after stepped }
-{
-    let said = Said::from(stepped.answer);
-    put_said(answer, said);
-    if said.refusal != 0 {
-        return said.refusal as u32;
-    }
-    let connection = stepped.connection;
-    put_connection(state, connection);
-    0
 }
 
 // The verdict as a step takes it, in either role. Every word but 0 and 1 is one that it refuses with 25.
@@ -88,21 +47,18 @@ pub(crate) fn verdict_of(word: u64) -> u8
 fn short_report(connection: Connection, room: usize) -> bool
     ensures { result ≡ short_report connection room }
 {
-    let size = connection.size;
     let held = connection.progress;
-    let count = held.count;
-    if bad_size(size) | (count == 0) | (PIECES < count) {
+    if bad_size(connection.size) | (held.count == 0) | (PIECES < held.count) {
         return false;
     }
-    let heard = held.heard;
-    let last = count - 1;
-    heard[last] & (room < size * last + held.last as usize)
+    let last = held.count - 1;
+    held.heard[last] & (room < connection.size * last + usize::from(held.last))
 }
 
 // One message on the connection in a state buffer: refused, with state and report as they were and the answer's words 0; or the next state,
 // and the answer in three words: kind, value, length. The length is never more than the report buffer has: one that is shorter than the report
 // is a wrong buffer.
-#[tactic(auto, unfolding(wire::specs::Fields::most_pieces))]
+#[tactic(auto, unfolding(crate::specs::Answered::state_after, wire::specs::Fields::most_pieces))]
 #[unsafe(no_mangle)]
 pub extern "C" fn hub_step(
     state: &mut [u8],
@@ -129,13 +85,18 @@ pub extern "C" fn hub_step(
         (answer_after (step (connection_at state.old) message.now keys.now working.old
         report.old (verdict_of verdict))) }
 {
-    if (state.len() != STATE) | (answer.len() != ANSWER) {
+    let Some(held) = state.as_array() else {
         return WRONG_BUFFER;
-    }
-    let connection = connection_of(state);
-    if short_report(connection, report.len()) {
+    };
+    let connection = decode(held);
+    if (answer.len() != ANSWER) | short_report(connection, report.len()) {
         return WRONG_BUFFER;
     }
     let stepped = connection.step(message, keys, working, report, verdict_of(verdict));
-    settle(stepped, state, answer)
+    let refusal = hand_said(stepped.answer.into(), answer);
+    if refusal != 0 {
+        return refusal;
+    }
+    fill(state, &encode(stepped.connection));
+    0
 }

@@ -105,10 +105,12 @@ pub(crate) fn put_triple(out: &mut [u64], a: u64, b: u64, c: u64)
     put_three(out, 0, a, b, c);
 }
 
-// Puts the words of what a step answers, in either role: kind, value, detail.
-pub(crate) fn put_said(out: &mut [u64], said: Said)
+// Hands out what a step answers, in either role: kind, value, detail, and the refusal's number.
+pub(crate) fn hand_said(said: Said, out: &mut [u64]) -> u32
     requires { length out.old ≡ 3 }
-    ensures { out.new ≡ said_words said }
+    ensures value { result ≡ said.refusal }
+    ensures new_out { out.new ≡ said_words said }
 {
     put_triple(out, said.kind, said.value, said.detail);
+    u32::from(said.refusal)
 }

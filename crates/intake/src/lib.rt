@@ -48,7 +48,8 @@ fn read_on<R: Read>(source: &mut R, input: &mut [u8], held: usize) -> Held
     }
 }
 
-// Keeps what the buffer holds between two places, at its front, and reads on after it, where there is room.
+// Keeps what the buffer holds between two places, at its front, and reads on after it, where there is room. The buffer is lent beside its places,
+// since `Refilled` says what then stands in it.
 pub fn refill<R: Read>(source: &mut R, input: &mut [u8], from: usize, to: usize) -> Held
     ensures held_in_bounds { result.held ≤ length input.new }
     ensures refilled { Refilled (between input.old from to) input.new result }
@@ -60,7 +61,7 @@ pub fn refill<R: Read>(source: &mut R, input: &mut [u8], from: usize, to: usize)
 }
 
 // Reads until a buffer is full, the input ends or a read fails, and answers how many bytes came. A read brings as many as it likes, so that no
-// `for` counts them.
+// `for` counts them; of std's methods `read_to_end` wants a heap, and `read_exact` does not say how many came.
 pub fn read_full<R: Read>(source: &mut R, buffer: &mut [u8]) -> usize
     ensures in_bounds { result ≤ length buffer.new }
     ensures bytes { Consumes (R.remaining source.old) (R.remaining source.new) (take result buffer.new) }

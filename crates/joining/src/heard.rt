@@ -28,13 +28,13 @@ impl Marked {
         ensures told { result.told ≡ come placed.now.piece.count (mark heard.now placed.now.piece.index) }
     {
         let mut next = *heard;
-        let mut turn = TURN - placed.piece.count as u8;
-        let here = turn + placed.piece.index as u8;
+        let first = TURN - placed.piece.count as u8;
+        let here = first + placed.piece.index as u8;
         let mut told: u8 = 0;
-        for is_heard in next.iter_mut() {
+        for (i, is_heard) in next.iter_mut().enumerate() {
+            let turn = first + i as u8;
             *is_heard = *is_heard | (turn == here);
             told += (*is_heard & (turn < TURN)) as u8;
-            turn += 1;
         }
         Marked {
             heard: next,

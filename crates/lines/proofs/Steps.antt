@@ -1,6 +1,7 @@
 -- SPDX-License-Identifier: MPL-2.0
 -- The listing's step is steady: what it does is decided by the message that it takes.
-use Rattle.laws.proofs.Kit.{ℕ, ◌≤◌, ◌<◌, ◌≡◌, refl, Bool, true, false, List, [], ◌++◌, append-nil, length, take, eqb, leb, leb-true, leb-false, inl, inr}
+use Rattle.laws.proofs.Kit.{ℕ, ◌≤◌, ◌<◌, ◌≡◌, refl, Bool, true, false, List, [], ◌++◌, append-nil, length, take, eqb, leb, leb-true}
+use Rattle.laws.proofs.Kit.{leb-false, inl, inr}
 use mathlib.Core.Logic.{◌⊎◌}
 use lib.Seq.{take-append-le}
 use Rattle.laws.proofs.Cases.{on}

@@ -1,6 +1,6 @@
 -- SPDX-License-Identifier: MPL-2.0
 -- The first message of a stream: its bounds, and that it is the same whatever follows it.
-use Rattle.laws.proofs.Kit.{ℕ, ◌≤◌, ◌<◌, ◌≡◌, Bool, false, List, ◌++◌, length, length-append, eqb, ltb, leb, le-leb, lt-leb}
+use Rattle.laws.proofs.Kit.{ℕ, ◌≤◌, ◌<◌, ◌≡◌, sym, Bool, false, List, ◌++◌, length, take, length-append, length-take, eqb, ltb, leb, le-leb, lt-leb}
 use Rattle.laws.proofs.Kit.{leb-true, ltb-false, eqb-false, arith}
 use lib.ListN.{get_or-append}
 use Rattle.laws.specs.Bytes.{AreBytes, be16}
@@ -22,6 +22,13 @@ unfolding ahead
 ahead-fits s ended =
     on (leb (wanted s) (length s)) (λ p. rw p (leb-true (wanted s) (length s) p)) λ p.
     on ended (λ q. on (eqb (length s) 0) (λ r. rw (p, q, r) (omega arith)) (λ r. rw (p, q, r) (omega arith))) λ q. rw (p, q) (omega arith)
+
+-- A message that is found lies in the stream.
+pub message-fits : (s : List ℕ) (ended : Bool) (size : ℕ) → Message size ≡ ahead s ended → size ≤ length s
+message-fits s ended size e = rw (sym e) at (ahead-fits s ended)
+
+pub message-taken : (s : List ℕ) (ended : Bool) (size : ℕ) → Message size ≡ ahead s ended → size ≡ length (take size s)
+message-taken s ended size e = rw length-take (omega (arith, message-fits s ended size e))
 
 -- A message takes 42 bytes at least.
 pub wanted-least : (s : List ℕ) → 42 ≤ wanted s

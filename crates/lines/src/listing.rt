@@ -9,34 +9,30 @@ ghost use Rattle.lines.specs.Listing.{header_line, line_of, stops, tells, turn_a
 use super::stream::{Next, ahead};
 use super::text::{put_field, put_name};
 use octets::bounds::lacks;
-use wire::header::{FoundHeader, Header, read_header};
+use wire::header::{FoundHeader, Header, SHORTEST, read_header};
 use wire::refusals::Refused;
 
 // The room that a line needs in the output.
 pub const LINE: usize = 64;
 
 // Puts the line of a header and a message's length.
+#[tactic(auto, using(crate::proofs::Puts::joined), unfolding(crate::specs::Listing::header_line))]
 fn put_header(header: Header, size: u16, out: &mut [u8], at: usize) -> usize
     requires { at + 55 ≤ length out.old }
     ensures value { result ≡ at + length (header_line header size) }
     ensures new_out { out.new ≡ sets out.old at (header_line header size) }
 {
-    let sequence = put_field(header.kind as u32, b' ', out, at);
+    let sequence = put_field(header.kind.into(), b' ', out, at);
     let index = put_field(header.sequence, b' ', out, sequence);
-    let count = put_field(header.index as u32, b' ', out, index);
-    let last = put_field(header.count as u32, b' ', out, count);
-    put_field(size as u32, b'\n', out, last)
+    let count = put_field(header.index.into(), b' ', out, index);
+    let last = put_field(header.count.into(), b' ', out, count);
+    put_field(size.into(), b'\n', out, last)
 }
 
 // Puts the line of a message of n bytes at a place, and answers the place after it; where there is less room than a line
 // needs, nothing is put and the place itself is the answer.
 #[tactic(auto, unfolding(crate::specs::Listing::line_of, crate::specs::Text::put, crate::specs::Text::put_end))]
-pub fn put_line(
-    answer: Result<FoundHeader, Refused>,
-    size: u16,
-    out: &mut [u8],
-    at: usize,
-) -> usize
+pub fn put_line(answer: Result<FoundHeader, Refused>, size: u16, out: &mut [u8], at: usize) -> usize
     ensures value { result ≡ put_end 64 at (line_of answer size) out.old }
     ensures new_out { out.new ≡ put 64 at (line_of answer size) out.old }
 {
@@ -44,7 +40,7 @@ pub fn put_line(
         return at;
     }
     match answer {
-        Err(refused) => put_name(b"refused ", u32::from(refused.number()), out, at),
+        Err(refused) => put_name(b"refused ", refused.number().into(), out, at),
         Ok(found) => put_header(found.header, size, out, at),
     }
 }
@@ -129,7 +125,7 @@ pub fn list(stream: &[u8], ended: bool, out: &mut [u8]) -> Listed
         written: 0,
         stage: Stage::Going,
     };
-    for _ in 0..stream.len() / 42 + 2 {
+    for _ in 0..stream.len() / SHORTEST + 2 {
         let Stage::Going = run.stage else { break };
         run = run.turn(stream, ended, out);
     }

@@ -28,7 +28,8 @@ fn buffer() -> [u8; 262144]
     [0; 262144]
 }
 
-// One turn: lists what is in the buffer, writes the lines, keeps what is left of the input and reads on.
+// One turn: lists what is in the buffer, writes the lines, keeps what is left of the input and reads on. The buffer stands beside what it holds,
+// since `list` and `refill` are lent the one and answer of the other.
 fn turn<R: Read, W: Write>(
     source: &mut R,
     input: &mut [u8],

@@ -60,11 +60,7 @@ fn read_sealed(
 
 // Reads a message. The working buffer is left alone by a plain message and by refusals 1 to 13; after a sealed message got past 13 its first
 // bytes hold the opened sealed part.
-pub fn read(
-    message: &[u8],
-    keys: &[u8],
-    working: &mut [u8],
-) -> Result<FoundMessage, Refused>
+pub fn read(message: &[u8], keys: &[u8], working: &mut [u8]) -> Result<FoundMessage, Refused>
     ensures value { result ≡ read_message message.now keys.now (length working.old) }
     ensures new_working { working.new ≡ working_after message.now keys.now working.old }
 {

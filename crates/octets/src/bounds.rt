@@ -2,13 +2,6 @@
 // Bounds.
 ghost use Rattle.std.specs.Prelude.{◌≡◌, ◌+◌, min, ltb};
 
-// The lesser of two numbers.
-pub fn lesser(a: usize, b: usize) -> usize
-    ensures { result ≡ min a b }
-{
-    a.min(b)
-}
-
 // Whether `need` bytes from a place on reach past a length. The sum is not formed, since it might not fit.
 pub fn lacks(length: usize, at: usize, need: usize) -> bool
     ensures { result ≡ ltb length (at + need) }

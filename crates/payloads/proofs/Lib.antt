@@ -5,3 +5,4 @@ pub mod Formats
 pub mod TypedBytes
 pub mod Shaped
 pub mod ByKind
+pub mod TypeOf

@@ -1,10 +1,9 @@
 -- SPDX-License-Identifier: MPL-2.0
 -- Demand 2's count: joining counts the indexes accepted, and nothing but joining touches what is remembered of them.
-use Rattle.laws.proofs.Kit.{ℕ, ◌≡◌, refl, sym, ◌∙◌, ap, true, false, List, [], ◌∷◌}
+use Rattle.laws.proofs.Kit.{ℕ, ◌≡◌, refl, sym, ◌∙◌, ap, false, List, [], ◌∷◌}
 use Rattle.wire.specs.declared.header.Header.{Header}
 use Rattle.message.specs.Reading.{working_after}
 use Rattle.message.specs.Handed.{payload}
-use mathlib.Core.Bool.{false≢true}
 use Rattle.joining.specs.declared.answer.Said.{Said}
 use Rattle.std.specs.Prelude.{Ok}
 use Rattle.joining.specs.declared.Piece.{Piece}
@@ -19,15 +18,12 @@ use Rattle.hub.specs.Hear.{connect, piece_in, joined}
 use Rattle.hub.specs.Step.{step}
 use Rattle.hub.proofs.HostWays.{connect-cases}
 use Rattle.hub.proofs.StepCases.{hear-cases, step-cases}
+use Rattle.hub.proofs.QuietKeeps.{loud}
 use Rattle.promises.specs.Counted.{index_in, accepted, accepted_all, Counts, HeardCount}
 use Rattle.promises.proofs.ReadAgain.{read-header}
 use Rattle.joining.specs.Events.{Event}
 use Rattle.admission.specs.Calls.{Call}
 use Rattle.hub.specs.Calls.{Standing, after, says, after_all}
-
--- Another kind.
-loud : {A : Type 0} → false ≡ true → A
-loud e = absurd (false≢true e)
 
 module _ (c : Connection) (es : List Event) (w : Holds c.progress es) where
   -- What a step leaves is counted.

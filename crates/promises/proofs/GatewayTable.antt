@@ -13,7 +13,8 @@ use Rattle.joining.specs.Cut.{bad_size}
 use Rattle.admission.specs.Admission.{another_session}
 use Rattle.gateway.specs.declared.Gateway.{Gateway}
 use Rattle.gateway.specs.declared.Stepped.{Stepped}
-use Rattle.gateway.specs.declared.Due.{Due}
+use Rattle.std.specs.Prelude.{Option}
+use Rattle.payloads.specs.declared.types.ConnectType.{ConnectType}
 use Rattle.gateway.specs.declared.Opened.{Opened}
 use Rattle.gateway.specs.declared.Answer.{Answer}
 use Rattle.gateway.specs.declared.Answer.TheVariants.{Refused, Next, Ready, Failed, Again}
@@ -34,7 +35,7 @@ abbrev number : Stepped → ℕ
 number s = (said s.answer).refusal
 
 -- A reply is refused before its state alone.
-replied-number : (g : Gateway) (awaited : ℕ) (a : Answer) (d : Due) → (said a).refusal ≡ 0
+replied-number : (g : Gateway) (awaited : ℕ) (a : Answer) (d : Option ConnectType) → (said a).refusal ≡ 0
     → number (replied g awaited a d) ≡ cond (leb awaited g.state) 0 15
 replied-number g awaited a d z =
     on (eqb g.state awaited)

@@ -12,7 +12,7 @@ use Rattle.laws.proofs.Cases.{on}
 use Rattle.laws.proofs.Parts.{bytes_at-part}
 use Rattle.payloads.specs.Format.{one, end, fixed, Format, fits, write, ends_from, holds_from, read_from, accepts_from, accepts, read}
 use Rattle.payloads.specs.Shapes.{presence_request, presence_response, is_shaped, bad_payload}
-use Rattle.payloads.specs.Discovery.{nothing_discovery, said_response, read_discovery, discovery_told}
+use Rattle.payloads.specs.Discovery.{nothing_discovery, said_response, read_discovery}
 use Rattle.payloads.proofs.Formats.{read_back, write-back}
 use Rattle.payloads.proofs.Shaped.{shape-good}
 use Rattle.writer.specs.Answers.{wrote}

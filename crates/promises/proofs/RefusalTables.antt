@@ -9,8 +9,7 @@ use Rattle.laws.proofs.Firsts.{first-append}
 use Rattle.laws.proofs.Refusals.{refused as number-refused}
 use Rattle.wire.specs.Chain.{leaves}
 use Rattle.wire.specs.Reader.{chain_of, header_rows, rows_of, refusal_with, refusal_of, header_found, read_header}
-use Rattle.std.specs.Prelude.{Result, Ok, Err}
-use Rattle.wire.specs.declared.header.FoundHeader.{FoundHeader}
+use Rattle.std.specs.Prelude.{Ok, Err}
 use Rattle.wire.specs.declared.header.Header.{Header}
 use Rattle.wire.proofs.Reading.{read-good}
 use Rattle.wire.proofs.Sound as wire
@@ -21,7 +20,7 @@ use Rattle.message.specs.Writing.{finished_length, length_of, write_refusal, wri
 use Rattle.message.proofs.Told.{message-refused, refused-message}
 use Rattle.writer.specs.declared.Wrote.{Wrote}
 use Rattle.writer.specs.Answers.{wrote}
-use Rattle.joining.specs.Cut.{bad_size, piece_count, cut_refusal, cut_count}
+use Rattle.joining.specs.Cut.{bad_size, cut_refusal}
 use Rattle.hub.specs.declared.Opened.{Opened}
 use Rattle.hub.specs.Opening.{opened}
 use Rattle.promises.specs.Refusals.{sealed, start, header_table, payload_in, sealed_table, reader_table, HeaderExact, ReaderExact}

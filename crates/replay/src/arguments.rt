@@ -1,61 +1,45 @@
 // SPDX-License-Identifier: MPL-2.0
 // The arguments: KEYS F [VERDICT].
-ghost use Rattle.std.specs.Prelude.{◌≤◌, length};
-
-use crate::report::text;
+use intake::read_full;
 use std::env::FillError;
+use std::fmt;
 use std::fs::File;
-use std::io::Read;
 use std::rt::{Env, Files};
 
-// Room for the 64 key bytes, and one more, by which a longer file is known.
-pub(crate) const KEY_ROOM: usize = 65;
+// The key bytes of a connection.
+const KEYS: usize = 64;
 
-// What the command line asks for. Where it is no good, a line on standard error has said what is wrong.
+// The largest fragment size.
+pub(crate) const LARGEST: usize = 16384;
+
+// What the command line asks for. The verdict is a number, as a step takes it.
 #[derive(Clone, Copy)]
 pub(crate) struct Asked {
-    pub good: bool,
     pub size: usize,
     pub verdict: u8,
-    pub keys: [u8; KEY_ROOM],
+    pub keys: [u8; KEYS],
 }
 
-// A line on standard error: what is wrong, and the usage.
-fn complain(rt: &impl Eprint, what: &str) -> Asked {
-    let _ = eprintln!(rt;
-        "replay: {what}; usage: replay KEYS F [VERDICT] < CAPTURE, KEYS a file of 64 bytes, F from 1 to 16384, VERDICT 0 or 1"
-    );
-    Asked {
-        good: false,
-        size: 0,
-        verdict: 0,
-        keys: [0u8; KEY_ROOM],
-    }
+// What is wrong with a command line.
+#[derive(Clone, Copy)]
+pub(crate) enum Wrong {
+    Count,
+    Verdict,
+    KeysUnread,
+    KeysLength,
+    Size,
 }
 
-// The number that a text of digits says; over 16,384 where it is none or exceeds that.
-fn number(text: &[u8]) -> usize {
-    let mut value: usize = 0;
-    let mut i = 0;
-    while i < text.len() {
-        value = longer(value, text[i]);
-        i += 1;
+impl fmt::Display for Wrong {
+    fn fmt<W: fmt::Write>(&self, f: &mut fmt::Formatter<W>) -> fmt::Result {
+        f.write_str(match self {
+            Wrong::Count => "2 or 3 arguments are wanted",
+            Wrong::Verdict => "VERDICT is neither 0 nor 1",
+            Wrong::KeysUnread => "KEYS cannot be read",
+            Wrong::KeysLength => "KEYS has not 64 bytes",
+            Wrong::Size => "F is no number from 1 to 16384",
+        })
     }
-    value
-}
-
-// A number with one more digit; what is no digit or exceeds 16,384 gives a number over it, which stays over it.
-fn longer(value: usize, digit: u8) -> usize {
-    if digit < b'0' {
-        return 16385;
-    }
-    if b'9' < digit {
-        return 16385;
-    }
-    if 16384 < value {
-        return 16385;
-    }
-    value * 10 + (digit - b'0') as usize
 }
 
 // Whether an argument was given.
@@ -64,83 +48,66 @@ fn is_given(rt: &impl Env, i: usize) -> bool {
     !matches!(rt.arg(i, &mut text), Err(FillError::NotPresent))
 }
 
-// The fragment size, argument 2; 0 where it is no number from 1 to 16,384.
-fn size_asked(rt: &impl Env) -> usize {
-    let mut text = [0u8; 16];
-    let length = rt.arg(2, &mut text).unwrap_or(0);
-    let size = number(&text[..length]);
-    if 16384 < size { 0 } else { size }
-}
-
-// The verdict, argument 3, which is 1 where it is not given; 2 where it is neither 0 nor 1.
-fn verdict_asked(rt: &impl Env, given: bool) -> u8 {
-    if !given {
-        return 1;
-    }
+// The verdict, argument 3, which is 1 where it is not given.
+fn verdict_asked(rt: &impl Env) -> Result<u8, Wrong> {
     let mut text = [0u8; 2];
-    let length = rt.arg(3, &mut text).unwrap_or(0);
-    if length != 1 {
-        return 2;
+    match rt.arg(3, &mut text) {
+        Err(FillError::NotPresent) => Ok(1),
+        Ok(1) if text[0] == b'0' => Ok(0),
+        Ok(1) if text[0] == b'1' => Ok(1),
+        _ => Err(Wrong::Verdict),
     }
-    if text[0] == b'0' {
-        return 0;
-    }
-    if text[0] == b'1' {
-        return 1;
-    }
-    2
 }
 
-// Reads until a buffer is full, the input ends or a read fails, and answers how many bytes came.
-fn read_full<R: Read>(source: &mut R, buffer: &mut [u8]) -> usize
-    ensures { result ≤ length buffer.new }
-{
-    let mut done = 0;
-    while done < buffer.len() {
-        let more = source.read(&mut buffer[done..]).unwrap_or(0);
-        if more == 0 {
-            break;
-        }
-        done += more;
-    }
-    done
+// A path as the text that files are named by. Bytes that are no text give the empty path, which names no file.
+fn text(path: &[u8]) -> &str {
+    str::from_utf8(path).unwrap_or("")
 }
 
-// Reads the key file, argument 1, and answers how many bytes it has, 65 for any more; 66 where it cannot be read.
-fn read_keys(rt: &(impl Env + Files), keys: &mut [u8; KEY_ROOM]) -> usize {
+// The bytes of the key file, argument 1.
+fn keys_asked(rt: &(impl Env + Files)) -> Result<[u8; KEYS], Wrong> {
     let mut path = [0u8; 4096];
     let length = rt.arg(1, &mut path).unwrap_or(0);
-    match File::open(rt, text(&path[..length])) {
-        Ok(mut file) => read_full(&mut file, keys),
-        Err(_) => 66,
+    let mut file = File::open(rt, text(&path[..length])).map_err(|_| Wrong::KeysUnread)?;
+    let mut keys = [0u8; KEYS];
+    let mut more = [0u8; 1];
+    if read_full(&mut file, &mut keys) < KEYS || 0 < read_full(&mut file, &mut more) {
+        return Err(Wrong::KeysLength);
+    }
+    Ok(keys)
+}
+
+// The number that a text of digits says, 0 where it has none; none where another byte stands in it or it does not fit.
+fn number(text: &[u8]) -> Option<u32> {
+    text.iter().try_fold(0u32, |value, byte| {
+        let digit = char::from(*byte).to_digit(10)?;
+        value.checked_mul(10)?.checked_add(digit)
+    })
+}
+
+// The fragment size, argument 2.
+fn size_asked(rt: &impl Env) -> Result<usize, Wrong> {
+    let mut text = [0u8; 16];
+    let length = rt.arg(2, &mut text).unwrap_or(0);
+    let size = number(&text[..length]).ok_or(Wrong::Size)? as usize;
+    if (1..=LARGEST).contains(&size) {
+        Ok(size)
+    } else {
+        Err(Wrong::Size)
     }
 }
 
 // Takes the arguments apart.
-pub(crate) fn read_arguments(rt: &(impl Env + Files + Eprint)) -> Asked {
-    if !is_given(rt, 2) | is_given(rt, 4) {
-        return complain(rt, "2 or 3 arguments are wanted");
+pub(crate) fn read_arguments(rt: &(impl Env + Files)) -> Result<Asked, Wrong> {
+    if !is_given(rt, 2) || is_given(rt, 4) {
+        return Err(Wrong::Count);
     }
-    let verdict = verdict_asked(rt, is_given(rt, 3));
-    if 1 < verdict {
-        return complain(rt, "VERDICT is neither 0 nor 1");
-    }
-    let mut keys = [0u8; KEY_ROOM];
-    let read = read_keys(rt, &mut keys);
-    if read == 66 {
-        return complain(rt, "KEYS cannot be read");
-    }
-    if read != 64 {
-        return complain(rt, "KEYS has not 64 bytes");
-    }
-    let size = size_asked(rt);
-    if size == 0 {
-        return complain(rt, "F is no number from 1 to 16384");
-    }
-    Asked {
-        good: true,
+    let verdict = verdict_asked(rt)?;
+    let keys = keys_asked(rt)?;
+    let size = size_asked(rt)?;
+    Ok(Asked {
         size,
         verdict,
         keys,
-    }
+    })
 }

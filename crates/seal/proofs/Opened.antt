@@ -1,18 +1,17 @@
 -- SPDX-License-Identifier: MPL-2.0
--- Opening: a sealed part by its first and its last block, what the rows before the tag leave, and the table as a whole.
-use Rattle.laws.proofs.Kit.{ℕ, suc, ◌+◌, ◌-◌, ◌*◌, ◌/◌, ◌%◌, ◌≤◌, ◌<◌, ◌≡◌, refl, sym, ◌∙◌, ap, Bool, false, List, ◌++◌, length, take, drop, length-drop, length-take-le, leb}
+-- Opening: a sealed part by its first and its last block, and the table as a whole.
+use Rattle.laws.proofs.Kit.{ℕ, suc, ◌+◌, ◌-◌, ◌*◌, ◌/◌, ◌%◌, ◌≤◌, ◌<◌, ◌≡◌, refl, sym, ◌∙◌, ap, Bool, false, List, ◌++◌, length, take, drop, length-drop, length-take-le}
 use Rattle.std.specs.Prelude.{Option, Some, None, MatchOption, unwrap_or, option_copied}
 use Rattle.std.specs.Array.{IsWholeChunk}
 use Rattle.std.proofs.lemmas.List.{drop-take}
 use denote.Bor.{Bor}
-use Rattle.laws.proofs.Kit.{true, not, ltb, take_all, take_at, ne_eqb, eqb-true, ltb-false, le-leb, leb-false, not-false, arith}
-use Rattle.laws.proofs.Bools.{or-false}
-use Rattle.laws.specs.Rows.{first, or_else, test_of, unless}
-use Rattle.laws.proofs.Firsts.{first-append, row-false}
+use Rattle.laws.proofs.Kit.{true, not, ltb, take_all, take_at, ne_eqb, le-leb, arith}
+use Rattle.laws.specs.Rows.{first, or_else, unless}
+use Rattle.laws.proofs.Firsts.{first-append}
 use Rattle.laws.proofs.Refusals.{unless-none, passed, refused}
 use Rattle.std.proofs.lemmas.Result.{err_from_is_err_and}
 use Rattle.std.specs.Prelude.{Result, Ok, Err, IsErrAnd}
-use Rattle.wire.specs.Refusals.{too_short, wrong_length, wrong_sealed_size, wrong_keys, wrong_tag, short_working}
+use Rattle.wire.specs.Refusals.{wrong_tag, short_working}
 use Rattle.aes.specs.Cbc.{cbc_decrypt, cbc_decrypt_block, block_before, written}
 use Rattle.aes.proofs.Chain.{cbc_decrypt-length}
 use Rattle.aes.proofs.Ends.{cbc_decrypt-first, cbc_decrypt-last}
@@ -75,30 +74,22 @@ before-last bytes v (Some b) some whole h =
     let past : 16 * k + 16 - 16 ≡ 16 * k = omega arith in
     rw later (h.1.same ∙ rw (n, at, past) (drop-take (16 * k) 16 bytes))
 
--- What the rows before the tag leave.
-pub record Placed (given start keys : ℕ) : Type 0 where
-  pub long : 42 ≤ given
-  pub short : given ≤ 65535
-  pub before-tag : start < given - 32
-  pub blocks : (given - 32 - start) % 16 ≡ 0
-  pub keys64 : keys ≡ 64
-
-pub placed : (given start keys : ℕ) → first (early_rows given start keys) ≡ 0 → Placed given start keys
-placed given start keys e =
-    let rows = early_rows given start keys in
-    let at : (n : ℕ) → test_of n rows ≡ false = λ n. row-false n rows refl e in
-    let nine = or-false (leb (given - 32) start) _ (at wrong_sealed_size) in
-    record {
-      long = ltb-false given 42 (at too_short);
-      short = ltb-false 65535 given (at wrong_length);
-      before-tag = leb-false (given - 32) start nine.0;
-      blocks = eqb-true _ 0 (not-false _ nine.1);
-      keys64 = eqb-true keys 64 (not-false _ (at wrong_keys));
-    }
-
--- A refusal goes on as it is.
+-- A refusal goes on as it is,
 pub left : {A : Type 0} {n : ℕ} (r : Result A ℕ) → IsErrAnd r (λ k. k ≡ n) → r ≡ Err n
 left r h = let p = err_from_is_err_and r h in rw (p.1, p.2)
+
+-- and is none of nothing; a value goes on too.
+value_or : {A : Type 0} → A → Result A ℕ → A
+value_or d (Ok a) = a
+value_or d (Err n) = d
+
+module _ {A : Type 0} (n : ℕ) (a : A) where
+  pub some : {k : ℕ} → Err k ≡ unless n a → (k ≡ n) × (k ≡ 0 → ⊥)
+  some e = let w = refused n a e in (w.0, λ z. w.1 (sym w.0 ∙ z))
+
+  pub given : {b : A} → Ok b ≡ unless n a → b ≡ a
+  unfolding value_or
+  given e = ap (value_or a) (e ∙ unless-none n a (passed n a e))
 
 -- The way through `open_part`: p is the plain text, `r` and `after` what came of opening it where there is room.
 module _ (keys m sealed working : List ℕ) where
@@ -124,22 +115,10 @@ module _ (keys m : List ℕ) (start room : ℕ) where
   one_table =
       rw (first-append (no_part_rows (length m) start) _ refl, first-append (key_rows (length keys) ++ tag_rows keys m) _ refl)
 
--- The value of an answer that is one.
-value_or : {A : Type 0} → A → Result A ℕ → A
-value_or d (Ok a) = a
-value_or d (Err n) = d
-
-pub given : {A : Type 0} (n : ℕ) (a : A) {b : A} → Ok b ≡ unless n a → b ≡ a
-unfolding value_or
-given n a e = ap (value_or a) (e ∙ unless-none n a (passed n a e))
-
 -- The way through `open`, table by table: a refusal leaves the working buffer alone, and else it holds what opening the part left.
 module _ (keys m : List ℕ) (start : ℕ) (working : List ℕ) where
   abbrev Answered : Result Unit ℕ → List ℕ → Type 0
   Answered r after = (r ≡ unless (open_refusal keys m start (length working)) tt) × (after ≡ opened_into keys m start working)
-
-  abbrev Placed_part : List ℕ → Type 0
-  Placed_part part = Ok part ≡ unless (no_part (length m) start) (sealed_part m start)
 
   refused_with : (n : ℕ) → (n ≡ 0 → ⊥) → open_refusal keys m start (length working) ≡ n → Answered (Err n) working
   unfolding opened_into into_unless
@@ -148,9 +127,8 @@ module _ (keys m : List ℕ) (start : ℕ) (working : List ℕ) where
   pub no-part : {n : ℕ} → Err n ≡ unless (no_part (length m) start) (sealed_part m start) → Answered (Err n) working
   unfolding open_refusal
   no-part {n} e =
-      let w = refused _ _ e in
-      let some : n ≡ 0 → ⊥ = λ z. w.1 (sym w.0 ∙ z) in
-      refused_with n some (rw (← w.0, ne_eqb n 0 some))
+      let w = some _ _ e in
+      refused_with n w.1 (rw (← w.0, ne_eqb n 0 w.1))
 
   -- Past the part: the keys.
   past : no_part (length m) start ≡ 0
@@ -165,9 +143,8 @@ module _ (keys m : List ℕ) (start : ℕ) (working : List ℕ) where
 
     pub no-keys : {n : ℕ} → Err n ≡ unless (first (key_rows (length keys))) keys → Answered (Err n) working
     no-keys {n} e =
-        let w = refused _ _ e in
-        let some : n ≡ 0 → ⊥ = λ z. w.1 (sym w.0 ∙ z) in
-        refused_with n some (past there ∙ rw (← w.0, ne_eqb n 0 some, ne_eqb n 0 some))
+        let w = some _ _ e in
+        refused_with n w.1 (past there ∙ rw (← w.0, ne_eqb n 0 w.1, ne_eqb n 0 w.1))
 
     module _ {whole : List ℕ} (sixty_four : Ok whole ≡ unless (first (key_rows (length keys))) keys) where
       pub no-tag : not (same (tag_of whole (body_of m)) (tag_in m)) ≡ true → Answered (Err wrong_tag) working

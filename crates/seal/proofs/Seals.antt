@@ -8,9 +8,9 @@ use Rattle.laws.proofs.Kit.{take_at, length-take-le, ne_eqb, eqb-true, le-ltb, l
 use borrow.Rule.Slice.PartMut.{put_mid, Post-is}
 use Rattle.laws.specs.Bytes.{bytes_at}
 use Rattle.laws.specs.Rows.{first, or_else, unless}
-use Rattle.laws.proofs.Refusals.{passed, refused}
+use Rattle.laws.proofs.Refusals.{passed}
 use Rattle.seal.specs.Opening.{key_rows}
-use Rattle.seal.proofs.Opened.{given}
+use Rattle.seal.proofs.Opened.{some, given}
 use Rattle.laws.proofs.Parts.{bytes_at-take}
 use Rattle.laws.proofs.Stores.{put-after}
 use Rattle.laws.proofs.Firsts.{first-append, row-false}
@@ -100,16 +100,14 @@ module _ (keys payload out : List ℕ) (start : ℕ) where
 
   pub no-end : {n : ℕ} → Err n ≡ unless (first (body_rows start size)) (start + sealed_size size) → SealAnswered (Err n) out
   no-end {n} e =
-      let w = refused _ _ e in
-      let some : n ≡ 0 → ⊥ = λ z. w.1 (sym w.0 ∙ z) in
-      refused_with n some (table ∙ rw (← w.0, ne_eqb n 0 some))
+      let w = some _ _ e in
+      refused_with n w.1 (table ∙ rw (← w.0, ne_eqb n 0 w.1))
 
   module _ {end : ℕ} (ended : Ok end ≡ unless (first (body_rows start size)) (start + sealed_size size)) where
     pub no-keys : {n : ℕ} → Err n ≡ unless (first (key_rows (length keys))) keys → SealAnswered (Err n) out
     no-keys {n} e =
-        let w = refused _ _ e in
-        let some : n ≡ 0 → ⊥ = λ z. w.1 (sym w.0 ∙ z) in
-        refused_with n some (table ∙ rw (passed _ _ ended, ← w.0, ne_eqb n 0 some))
+        let w = some _ _ e in
+        refused_with n w.1 (table ∙ rw (passed _ _ ended, ← w.0, ne_eqb n 0 w.1))
 
     pub no-room : {whole : List ℕ} → Ok whole ≡ unless (first (key_rows (length keys))) keys
         → ltb (length out) (start + sealed_size size + 32) ≡ true → SealAnswered (Err no_room) out

@@ -28,7 +28,7 @@ impl<'a> Blocks<'a> {
         Blocks { bytes }
     }
 
-    // The bytes: so many are whole blocks.
+    // The bytes, which are whole blocks, and not none.
     pub(crate) fn bytes(&self) -> &'a [u8]
         ensures value { result.now ≡ self.now }
         ensures some { 16 ≤ length self.now }

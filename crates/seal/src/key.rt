@@ -3,7 +3,7 @@
 ghost use Rattle.std.specs.Prelude.{◌≡◌, ℕ, List, ◌+◌, ◌≤◌, ◌<◌, length};
 ghost use Rattle.laws.specs.Rows.{first, unless};
 ghost use Rattle.aes.specs.Key.{expand_key};
-ghost use Rattle.seal.specs.Keys.{encryption_key, vector_key, vector_block, vector, tag_of};
+ghost use Rattle.seal.specs.Keys.{encryption_key, vector_block, vector, tag_of};
 ghost use Rattle.seal.specs.Opening.{key_rows};
 
 use crate::KEYS;
@@ -37,31 +37,27 @@ impl<'a> Model for Keys<'a> {
     ghost invariant = { λ keys. length keys.bytes.now ≡ 64 };
 }
 
-impl<'a> Keys<'a> {
-    // The keys that some bytes are, if they are 64.
-    pub(crate) fn of(bytes: &'a [u8]) -> Result<Keys<'a>, Refused>
-        ensures { result ≡ unless (first (key_rows (length bytes.now))) bytes.now }
-    {
+impl<'a> TryFrom<&'a [u8]> for Keys<'a> {
+    type Error = Refused;
+
+    ghost try_from_gives = { λ bytes keys. keys ≡ unless (first (key_rows (length bytes.now))) bytes.now };
+
+    // Refusal 10: other than 64 bytes are no keys.
+    fn try_from(bytes: &'a [u8]) -> Result<Keys<'a>, Refused> {
         match bytes.as_array() {
             Some(bytes) => Ok(Keys { bytes }),
             None => Err(Refusal::WrongKeys.into()),
         }
     }
+}
 
-    // The round keys of the cipher.
+impl Keys<'_> {
+    // The round keys of the sealed part.
     pub(crate) fn round_keys(&self) -> [[u8; 16]; 11]
         ensures { result ≡ expand_key (encryption_key self.now) }
     {
         let bytes = self.bytes;
         aes::key::expand_key(*bytes.first_chunk().unwrap())
-    }
-
-    // The key of the block that is the vector.
-    fn vector_key(&self) -> [u8; 16]
-        ensures { result ≡ vector_key self.now }
-    {
-        let bytes = self.bytes;
-        *bytes[16..].first_chunk().unwrap()
     }
 
     // The vector of a message: one AES block under the vector key, by the code that encrypts the sealed part.
@@ -70,7 +66,8 @@ impl<'a> Keys<'a> {
         requires { 40 ≤ length message.now }
         ensures { result ≡ vector self.now message.now }
     {
-        let round_keys = aes::key::expand_key(self.vector_key());
+        let bytes = self.bytes;
+        let round_keys = aes::key::expand_key(*bytes[16..].first_chunk().unwrap());
         aes::cbc::cbc_encrypt_one(round_keys, vector_block(message))
     }
 

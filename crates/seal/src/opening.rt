@@ -6,12 +6,10 @@
 //
 // The first and the last block of the sealed part decide 13 in locals, so that nothing is written to the working buffer before. A small part is
 // decrypted whole into a local and copied from there, a larger one is decrypted into the working buffer once these two were judged.
-ghost use Rattle.std.specs.Prelude.{◌≡◌, true, false, not, ◌-◌, ◌≤◌, ◌<◌, length, OnOk};
+ghost use Rattle.std.specs.Prelude.{◌≡◌, ◌≤◌, ◌<◌, length, OnOk};
 ghost use Rattle.laws.specs.Rows.{first, unless};
-ghost use Rattle.laws.specs.Same.{same};
 ghost use Rattle.aes.specs.Cbc.{cbc_decrypt};
-ghost use Rattle.seal.specs.Keys.{tag_of};
-ghost use Rattle.seal.specs.Opening.{body_of, tag_in, sealed_part, no_part, padding_rows, part_refusal, unless_bad, part_into, open_refusal, opened_into};
+ghost use Rattle.seal.specs.Opening.{sealed_part, no_part, padding_rows, part_refusal, unless_bad, part_into, open_refusal, opened_into};
 
 use crate::blocks::Blocks;
 use crate::key::Keys;
@@ -39,16 +37,9 @@ fn sealed_blocks(message: &[u8], start: usize) -> Result<Blocks<'_>, Refused>
     Ok(Blocks::of(&message[start..end]))
 }
 
-// Refusal 11: whether the message's last 32 bytes are other than the tag of what stands before them.
-fn wrong_tag(keys: &Keys, message: &[u8]) -> bool
-    requires { (42 ≤ length message.now) × (length message.now < 65536) }
-    ensures { result ≡ not (same (tag_of keys.now (body_of message.now)) (tag_in message.now)) }
-{
-    let (body, tag) = message.split_at(message.len() - TAG);
-    !sha256::same_tag(keys.tag_of(body), tag)
-}
-
-// Opens a small sealed part, for which the working buffer has room, or refuses with 13. Each block is decrypted once, into a local.
+// Opens a small sealed part, for which the working buffer has room, or refuses with 13. Each block is decrypted once, into a local. Round keys and
+// vector stand beside one another, here and below: as a struct with methods they are copied out of it for each call of aes. So reading a message
+// took 1,552 bytes of stack for 1,344, and writing one 1,500 for 1,324, which is past the bar of `hub_write`.
 fn open_small(
     round_keys: [[u8; 16]; 11],
     vector: [u8; 16],
@@ -86,8 +77,13 @@ fn open_blocks(
         return open_small(round_keys, vector, sealed, working);
     }
     let before = sealed.before_last(vector);
-    let ends =
-        aes::cbc::cbc_decrypt_ends(round_keys, vector, sealed.first(), before, sealed.last());
+    let ends = aes::cbc::cbc_decrypt_ends(
+        round_keys,
+        vector,
+        sealed.first(),
+        before,
+        sealed.last(),
+    );
     Refusal::WrongPadding.when(bad_blocks(bytes.len(), ends.first, ends.last))?;
     aes::cbc::cbc_decrypt(round_keys, vector, bytes, working);
     Ok(())
@@ -96,7 +92,12 @@ fn open_blocks(
 // Opens a sealed part that was found in a message whose tag is right, or refuses with 12 or 13. By itself, so that what it takes of the stack is
 // not held while the tag is made.
 #[inline(never)]
-fn open_part(keys: &Keys, message: &[u8], sealed: &Blocks, working: &mut [u8]) -> Result<(), Refused>
+fn open_part(
+    keys: &Keys,
+    message: &[u8],
+    sealed: &Blocks,
+    working: &mut [u8],
+) -> Result<(), Refused>
     requires { 42 ≤ length message.now }
     ensures value { result ≡ unless (part_refusal keys.now message.now sealed.now (length working.old)) tt }
     ensures new_working { working.new ≡ part_into keys.now message.now sealed.now working.old }
@@ -113,7 +114,8 @@ pub fn open(keys: &[u8], message: &[u8], start: usize, working: &mut [u8]) -> Re
     ensures new_working { working.new ≡ opened_into keys.now message.now start working.old }
 {
     let sealed = sealed_blocks(message, start)?;
-    let keys = Keys::of(keys)?;
-    Refusal::WrongTag.when(wrong_tag(&keys, message))?;
+    let keys = Keys::try_from(keys)?;
+    let (body, tag) = message.split_at(message.len() - TAG);
+    Refusal::WrongTag.when(!sha256::same_tag(keys.tag_of(body), tag))?;
     open_part(&keys, message, &sealed, working)
 }

@@ -8,20 +8,20 @@ ghost use Rattle.seal.specs.Padding.{padding, sealed_size, bad_blocks};
 
 use octets::numbers::number32;
 
-// How many padding bytes follow a payload of n bytes.
-#[tactic(auto, unfolding(crate::specs::Padding::padding))]
-pub(crate) fn padding(size: u32) -> u8
-    ensures { (result ≡ padding size) × (result ≤ 16) }
-{
-    ((16 - (4 + u64::from(size)) % 16) % 16) as u8
-}
-
-// How many bytes the sealed part of a payload of n bytes has. No size wraps.
-#[tactic(auto, unfolding(crate::specs::Padding::sealed_size))]
+// How many bytes the sealed part of a payload of n bytes has: size and payload, up to whole blocks. No size wraps.
+#[tactic(auto, unfolding(crate::specs::Padding::sealed_size, crate::specs::Padding::padding))]
 pub fn sealed_size(size: u32) -> usize
     ensures { result ≡ sealed_size size }
 {
-    4 + size as usize + usize::from(padding(size))
+    (4 + size as usize).next_multiple_of(16)
+}
+
+// How many padding bytes follow a payload of n bytes.
+#[tactic(auto, unfolding(crate::specs::Padding::sealed_size, crate::specs::Padding::padding))]
+pub(crate) fn padding(size: u32) -> u8
+    ensures { (result ≡ padding size) × (result ≤ 16) }
+{
+    (sealed_size(size) - 4 - size as usize) as u8
 }
 
 // Whether one of the bytes is other than `byte`. Every one is looked at.

@@ -71,7 +71,7 @@ pub fn seal(keys: &[u8], payload: &[u8], start: usize, out: &mut [u8]) -> Result
     ensures new_out { out.new ≡ sealed_into keys.now start payload.now out.old }
 {
     let end = sealed_end(start, payload.len())?;
-    let keys = Keys::of(keys)?;
+    let keys = Keys::try_from(keys)?;
     Refusal::NoRoom.when(out.len() < end + TAG)?;
     let vector = keys.vector(out);
     encrypt_part(&keys, vector, payload, &mut out[start..end]);

@@ -1,24 +1,18 @@
 -- SPDX-License-Identifier: MPL-2.0
--- The digest of three parts, after `front`, which was hashed already.
-use Rattle.laws.proofs.Kit.{ℕ, ◌+◌, ◌^◌, ◌≡◌, Bool, true, false, List, ◌++◌, append_assoc, length, replicate, length-append, ltb, arith}
+-- The digest of a message m after `front`, which was hashed already.
+use Rattle.laws.proofs.Kit.{ℕ, ◌+◌, ◌^◌, ◌≤◌, ◌<◌, ◌≡◌, List, ◌++◌, append_assoc, length, replicate, length-append, lt-ltb, le-ltb, arith}
 use Rattle.compression.specs.declared.Vars.{Vars}
 use Rattle.sha256.specs.Digests.{padding, H0, hashed, bytes_of, digest}
 
--- how many bytes three parts have
-abbrev pub count : List ℕ → List ℕ → List ℕ → ℕ
-count first second third = length first + (length second + length third)
+module _ (front m : List ℕ) (done : ℕ) (l : length front ≡ done) where
+  joined-length : length (front ++ m) ≡ done + length m
+  joined-length = rw length-append (omega arith)
 
-module _ (front first second third : List ℕ) (done : ℕ) (fits : Bool) (l : length front ≡ done)
-    (f : fits ≡ ltb (done + count first second third) (2 ^ 61)) where
-  total : length (front ++ (first ++ (second ++ third))) ≡ done + count first second third
-  total = simp length-append (omega arith)
-
-  pub digest-by : (v : Vars) (r : List ℕ) → ((m : List ℕ) → hashed H0 (front ++ m) ≡ hashed v m) → fits ≡ true
-      → r ≡ bytes_of (hashed v ((first ++ (second ++ third)) ++ padding (done + count first second third)))
-      → r ≡ digest (front ++ (first ++ (second ++ third)))
+  pub digest_by : (v : Vars) (total : ℕ) → total ≡ done + length m → total < 2 ^ 61 → ((x : List ℕ) → hashed H0 (front ++ x) ≡ hashed v x)
+      → bytes_of (hashed v (m ++ padding total)) ≡ digest (front ++ m)
   unfolding digest
-  digest-by v r after t e = rw (total, ← f, t, append_assoc front, after) e
+  digest_by v total e h after = rw (joined-length, ← e, lt-ltb total (2 ^ 61) h, append_assoc front, after)
 
-  pub digest-none : fits ≡ false → replicate 32 0 ≡ digest (front ++ (first ++ (second ++ third)))
+  pub digest_none : 2 ^ 61 ≤ done + length m → replicate 32 0 ≡ digest (front ++ m)
   unfolding digest
-  digest-none t = rw (total, ← f, t)
+  digest_none h = rw (joined-length, le-ltb (done + length m) (2 ^ 61) h)

@@ -1,4 +1,5 @@
 -- SPDX-License-Identifier: MPL-2.0
+pub mod Made
 pub mod Stores
 pub mod Laying
 pub mod Hashing

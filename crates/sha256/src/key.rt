@@ -3,13 +3,14 @@
 ghost use Rattle.std.specs.Prelude.{◌≡◌, ◌≤◌, length};
 ghost use Rattle.sha256.specs.Macs as rfc;
 
-use crate::message::digest_from;
+use crate::message::Message;
 
+#[tactic(auto, using(crate::proofs::Keys::filled_by))]
 fn filled(key: &[u8]) -> [u8; 64]
     requires { length key.now ≤ 64 }
     ensures { result ≡ rfc.filled key.now }
 {
-    let mut block = [0u8; 64];
+    let mut block = [0; 64];
     block[..key.len()].copy_from_slice(key);
     block
 }
@@ -20,22 +21,14 @@ pub(crate) fn key_block(key: &[u8]) -> [u8; 64]
     ensures { result ≡ rfc.key_block key.now }
 {
     if 64 < key.len() {
-        let short = digest_from(&key[0..0], &key[0..0], key);
-        return filled(&short);
+        return filled(&Message::from(key).digest());
     }
     filled(key)
 }
 
 // Each byte of a key block with the pad's.
 pub(crate) fn masked(key: &[u8; 64], pad: u8) -> [u8; 64]
-    requires { length key.now ≡ 64 }
     ensures { result ≡ rfc.masked pad key.now }
 {
-    let mut block = [0u8; 64];
-    let mut i: usize = 0;
-    while i < 64 {
-        block[i] = key[i] ^ pad;
-        i += 1;
-    }
-    block
+    std::array::from_fn(|i| key[i] ^ pad)
 }

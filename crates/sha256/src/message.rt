@@ -1,15 +1,37 @@
 // SPDX-License-Identifier: MPL-2.0
-// The digest of a message in three parts, from the start or after a block.
-ghost use Rattle.std.specs.Prelude.{◌≡◌, ◌++◌, ◌<◌, ◌≤◌, ◌+◌, ◌^◌, ltb, length};
-ghost use Rattle.sha256.specs.Digests.{padding, H0, hashed, bytes_of, digest};
+// A message in three parts, and its digest, from the start or after a block.
+ghost use Rattle.std.specs.Prelude.{◌≡◌, ℕ, List, ◌++◌, ◌<◌, ◌≤◌, ◌+◌, ◌^◌, length, MatchOption};
+ghost use Rattle.sha256.specs.Digests.{H0, hashed, digest};
+ghost use Rattle.sha256.specs.Parts.{joined};
 
 use crate::block::absorb_block;
-use crate::parts::hash;
-use crate::store::{bytes_of, put_padding, zeros_of};
+use crate::parts::Padded;
+use crate::store::{bytes_of, put_padding};
 use compression::Vars;
 
 // 2^61 bytes are 2^64 bits, the first length that FIPS 180-4 does not count.
 const TOO_MANY: usize = 2305843009213693952;
+
+// A message whose parts are hashed one after the other.
+#[derive(Clone, Copy)]
+pub(crate) struct Message<'a> {
+    pub first: &'a [u8],
+    pub second: &'a [u8],
+    pub third: &'a [u8],
+}
+
+// A message in one part.
+impl<'a> From<&'a [u8]> for Message<'a> {
+    ghost from_gives = { λ bytes m. joined m ≡ bytes.now };
+
+    fn from(bytes: &'a [u8]) -> Message<'a> {
+        Message {
+            first: &[],
+            second: &[],
+            third: bytes,
+        }
+    }
+}
 
 // FIPS 180-4 §5.3.3.
 #[tactic(auto, unfolding(crate::specs::Digests::H0))]
@@ -28,54 +50,57 @@ fn initial() -> Vars
     }
 }
 
-// Whether the parts, after `done` bytes before them, have a digest; no sum of lengths may wrap before that is known.
-fn fits(done: usize, first: &[u8], second: &[u8], third: &[u8]) -> bool
-    requires { done ≤ 64 }
-    ensures { result ≡ ltb (done + (length first.now + (length second.now + length third.now))) (2 ^ 61) }
-{
-    if TOO_MANY <= first.len() {
-        return false;
+impl<'a> Message<'a> {
+    // How many bytes there are.
+    pub(crate) fn len(&self) -> usize
+        requires { length (joined self.now) < 2 ^ 64 }
+        ensures { result ≡ length (joined self.now) }
+    {
+        self.first.len() + self.second.len() + self.third.len()
     }
-    if TOO_MANY <= second.len() {
-        return false;
-    }
-    if TOO_MANY <= third.len() {
-        return false;
-    }
-    done + (first.len() + (second.len() + third.len())) < TOO_MANY
-}
 
-// The digest of the parts, from the hash value after the `done` bytes before them.
-fn finish(v: Vars, done: usize, first: &[u8], second: &[u8], third: &[u8]) -> [u8; 32]
-    requires { done + (length first.now + (length second.now + length third.now)) < 2 ^ 61 }
-    ensures { result ≡ bytes_of (hashed v ((first.now ++ (second.now ++ third.now))
-        ++ padding (done + (length first.now + (length second.now + length third.now))))) }
-{
-    let total = done + (first.len() + (second.len() + third.len()));
-    let mut tail = [0u8; 72];
-    put_padding(&mut tail, total);
-    let count = 9 + zeros_of(total);
-    bytes_of(hash(v, first, second, third, &tail[0..count]))
-}
-
-// The digest of the parts.
-pub(crate) fn digest_from(first: &[u8], second: &[u8], third: &[u8]) -> [u8; 32]
-    ensures { result ≡ digest (first.now ++ (second.now ++ third.now)) }
-{
-    if fits(0, first, second, third) {
-        return finish(initial(), 0, first, second, third);
+    // How many bytes there are with the `done` before them, if so many have a digest.
+    fn total(&self, done: usize) -> Option<usize>
+        ensures { MatchOption result (2 ^ 61 ≤ done + length (joined self.now))
+            (λ total. (total ≡ done + length (joined self.now)) × (total < 2 ^ 61)) }
+    {
+        let total = done
+            .checked_add(self.first.len())?
+            .checked_add(self.second.len())?
+            .checked_add(self.third.len())?;
+        if total < TOO_MANY { Some(total) } else { None }
     }
-    [0u8; 32]
-}
 
-// The digest of a block and the parts after it.
-pub(crate) fn digest_after(block: &[u8], first: &[u8], second: &[u8], third: &[u8]) -> [u8; 32]
-    requires { length block.now ≡ 64 }
-    ensures { result ≡ digest (block.now ++ (first.now ++ (second.now ++ third.now))) }
-{
-    if fits(64, first, second, third) {
-        let v = absorb_block(initial(), block);
-        return finish(v, 64, first, second, third);
+    // The digest of a message that goes on with these parts, from the hash value after the `done` bytes before them.
+    fn finish(&self, v: Vars, done: usize) -> [u8; 32]
+        ensures { (front : List ℕ) → length front ≡ done → ((m : List ℕ) → hashed H0 (front ++ m) ≡ hashed v m)
+            → result ≡ digest (front ++ joined self.now) }
+    {
+        let Some(total) = self.total(done) else {
+            return [0; 32];
+        };
+        let mut room = [0; 72];
+        let padding = put_padding(&mut room, total);
+        let padded = Padded {
+            message: *self,
+            padding,
+        };
+        bytes_of(padded.hash(v))
     }
-    [0u8; 32]
+
+    // The digest of the message.
+    pub(crate) fn digest(&self) -> [u8; 32]
+        ensures { result ≡ digest (joined self.now) }
+    {
+        self.finish(initial(), 0)
+    }
+
+    // The digest of a block and the message after it.
+    pub(crate) fn digest_after(&self, block: &[u8; 64]) -> [u8; 32]
+        ensures { result ≡ digest (block.now ++ joined self.now) }
+    {
+        let mut v = initial();
+        absorb_block(&mut v, block);
+        self.finish(v, 64)
+    }
 }

@@ -1,159 +1,107 @@
 // SPDX-License-Identifier: MPL-2.0
-// A message given as consecutive parts, which are never copied together. A block that lies in the third part or in the tail is hashed where it
-// stands; any other, as one that touches a seam, is laid out of the parts first:
+// A message with its padding, as consecutive parts, which are never copied together. A block that lies in the third part or in the padding is
+// hashed where it stands; any other, as one that touches a seam, is laid out of the parts first:
 //
-//     message     |  first  | second |           third           |   tail  |
+//     message     |  first  | second |           third           | padding |
 //     blocks      |     |     |     |     |     |     |     |     |     |
-//                 laid  laid  laid  in third ..         laid  laid  in tail
-ghost use Rattle.std.specs.Prelude.{◌≡◌, List, ◌++◌, ℕ, ◌<◌, ◌≤◌, ◌+◌, ◌*◌, ◌^◌, length};
+//                 laid  laid  laid  in third ..         laid  laid  in padding
+ghost use Rattle.std.specs.Prelude.{◌≡◌, List, [], ◌++◌, ℕ, ◌<◌, ◌≤◌, ◌+◌, ◌^◌, length, IfSome};
 ghost use Rattle.laws.specs.Bytes.{bytes_at};
 ghost use Rattle.sha256.specs.Digests.{after_block, hashed};
+ghost use Rattle.sha256.specs.Parts.{joined};
 
 use crate::block::absorb_block;
+use crate::message::Message;
 use compression::Vars;
 
-// The least number that is neither below a nor below b.
-fn larger(a: usize, b: usize) -> usize
-    ensures { (a ≤ result) × (b ≤ result) × ((i : ℕ) → b ≤ i → a ≤ i → result ≤ i) }
-{
-    if a < b {
-        return b;
-    }
-    a
+// A message with its padding.
+#[derive(Clone, Copy)]
+pub(crate) struct Padded<'a> {
+    pub message: Message<'a>,
+    pub padding: &'a [u8],
+    ghost fits: { length (joined message) + length padding.now < 2 ^ 62 },
 }
 
-// The greatest number that is neither above a nor above b.
-fn smaller(a: usize, b: usize) -> usize
-    ensures { (result ≤ a) × (result ≤ b) × ((i : ℕ) → i < a → i < b → i < result) }
-{
-    if a < b {
-        return a;
-    }
-    b
-}
-
-// The part starts at `ahead` in the message and the block at `at`. The places of the message from `from` up to `to`, which are those that both
-// have, are copied: a block that had the bytes of what stands before the part has those of the part as well. Past their end it has zeros.
-fn lay(block: &mut [u8], part: &[u8], ahead: usize, at: usize, from: usize, to: usize)
-    requires { (length block.old ≡ 64) × (at ≤ from) × (ahead ≤ from) × ((i : ℕ) → at ≤ i → ahead ≤ i → from ≤ i)
-        × (to ≤ at + 64) × (to ≤ ahead + length part.now) × ((i : ℕ) → i < ahead + length part.now → i < at + 64 → i < to) }
-    ensures { (length block.new ≡ 64) × ((front : List ℕ) → length front ≡ ahead → block.old ≡ bytes_at front at 64
-        → block.new ≡ bytes_at (front ++ part.now) at 64) }
-{
-    let mut i = from;
-    while i < to {
-        block[i - at] = part[i - ahead];
-        i += 1;
-    }
-}
-
-// The same, of whatever part and block have in common.
-fn gather(block: &mut [u8], part: &[u8], ahead: usize, at: usize)
-    requires { (length block.old ≡ 64) × (at + 64 < 2 ^ 64) × (ahead + length part.now < 2 ^ 64) }
-    ensures { (length block.new ≡ 64) × ((front : List ℕ) → length front ≡ ahead → block.old ≡ bytes_at front at 64
-        → block.new ≡ bytes_at (front ++ part.now) at 64) }
-{
-    let end = ahead + part.len();
-    if end <= at {
-        return;
-    }
-    if at + 64 <= ahead {
-        return;
-    }
-    lay(
-        block,
-        part,
-        ahead,
-        at,
-        larger(ahead, at),
-        smaller(end, at + 64),
-    );
-}
-
-// The block at a place of the message, laid out of the parts.
-fn assembled(first: &[u8], second: &[u8], third: &[u8], tail: &[u8], at: usize) -> [u8; 64]
-    requires { (at + 64 < 2 ^ 64) × (length first.now + (length second.now + (length third.now + length tail.now)) < 2 ^ 64) }
-    ensures { result ≡ bytes_at (first.now ++ (second.now ++ (third.now ++ tail.now))) at 64 }
-{
-    let mut block = [0u8; 64];
-    gather(&mut block, first, 0, at);
-    gather(&mut block, second, first.len(), at);
-    gather(&mut block, third, first.len() + second.len(), at);
-    gather(
-        &mut block,
-        tail,
-        first.len() + second.len() + third.len(),
-        at,
-    );
-    block
-}
-
-// The block at a place of the message where it stands, if it lies in this part, which starts at `ahead` in the message; else nothing.
-fn inside<'a>(part: &'a [u8], ahead: usize, at: usize) -> &'a [u8]
+// The part starts at `ahead` in the message and the block at `at`. The places of the message that both have are copied: a block that had the bytes
+// of what stands before the part has those of the part as well. Past their end it has zeros.
+fn lay(block: &mut [u8; 64], part: &[u8], ahead: usize, at: usize)
     requires { (at + 64 < 2 ^ 64) × (ahead + length part.now < 2 ^ 64) }
-    ensures { length result.now ≡ 64 → (before after : List ℕ) → length before ≡ ahead
-        → result.now ≡ bytes_at (before ++ (part.now ++ after)) at 64 }
+    ensures { (front : List ℕ) → length front ≡ ahead → block.old ≡ bytes_at front at 64 → block.new ≡ bytes_at (front ++ part.now) at 64 }
 {
-    if ahead <= at {
-        if at + 64 <= ahead + part.len() {
-            let from = at - ahead;
-            return &part[from..from + 64];
+    let from = at.max(ahead);
+    let to = (at + 64).min(ahead + part.len());
+    if from < to {
+        block[from - at..to - at].copy_from_slice(&part[from - ahead..to - ahead]);
+    }
+}
+
+// The block at a place of the message where it stands, if it lies in this part, which starts at `ahead` in the message.
+fn inside<'a>(part: &'a [u8], ahead: usize, at: usize) -> Option<&'a [u8; 64]>
+    ensures { IfSome result (λ block. (before after : List ℕ) → length before ≡ ahead
+        → block.now ≡ bytes_at (before ++ (part.now ++ after)) at 64) }
+{
+    let block = part.get(at.checked_sub(ahead)?..)?.first_chunk()?;
+    Some(block)
+}
+
+impl<'a> Padded<'a> {
+    ghost use Rattle.sha256.specs.Padded.{whole};
+
+    // How many bytes there are.
+    fn len(&self) -> usize
+        ensures { result ≡ length (whole self.now) }
+    {
+        self.message.len() + self.padding.len()
+    }
+
+    // The block at a place, laid over zeros out of the parts. It is lent, not returned: that takes 64 bytes of stack less.
+    fn lay_out(&self, block: &mut [u8; 64], at: usize)
+        requires { at + 64 < 2 ^ 64 }
+        ensures { block.old ≡ bytes_at [] at 64 → block.new ≡ bytes_at (whole self.now) at 64 }
+    {
+        let m = self.message;
+        lay(block, m.first, 0, at);
+        lay(block, m.second, m.first.len(), at);
+        lay(block, m.third, m.first.len() + m.second.len(), at);
+        lay(block, self.padding, m.len(), at);
+    }
+
+    // The block at a place where it stands, if it lies in the third part or in the padding.
+    fn standing(&self, at: usize) -> Option<&'a [u8; 64]>
+        ensures { IfSome result (λ block. block.now ≡ bytes_at (whole self.now) at 64) }
+    {
+        let m = self.message;
+        match inside(m.third, m.first.len() + m.second.len(), at) {
+            Some(block) => Some(block),
+            None => inside(self.padding, m.len(), at),
         }
     }
-    &part[0..0]
-}
 
-// The block at a place of the message where it stands, if it lies in the third part or in the tail; else nothing.
-fn standing<'a>(first: &[u8], second: &[u8], third: &'a [u8], tail: &'a [u8], at: usize) -> &'a [u8]
-    requires { (at + 64 < 2 ^ 64) × (length first.now + (length second.now + (length third.now + length tail.now)) < 2 ^ 64) }
-    ensures { length result.now ≡ 64
-        → result.now ≡ bytes_at (first.now ++ (second.now ++ (third.now ++ tail.now))) at 64 }
-{
-    let ahead = first.len() + second.len();
-    let block = inside(third, ahead, at);
-    if block.len() == 64 {
-        return block;
+    // The hash value after the block at a place.
+    #[tactic(auto, using(crate::proofs::Laying::no_message))]
+    fn absorb(&self, v: &mut Vars, at: usize)
+        requires { at + 64 < 2 ^ 64 }
+        ensures { v.new ≡ after_block v.old (bytes_at (whole self.now) at 64) }
+    {
+        match self.standing(at) {
+            Some(block) => absorb_block(v, block),
+            None => {
+                let mut block = [0; 64];
+                self.lay_out(&mut block, at);
+                absorb_block(v, &block);
+            }
+        }
     }
-    inside(tail, ahead + third.len(), at)
-}
 
-// The hash value after the block at a place of the message. Third part and tail share a lifetime, since what stands may be a part of either.
-fn absorb<'a>(
-    v: Vars,
-    first: &[u8],
-    second: &[u8],
-    third: &'a [u8],
-    tail: &'a [u8],
-    at: usize,
-) -> Vars
-    requires { (at + 64 < 2 ^ 64) × (length first.now + (length second.now + (length third.now + length tail.now)) < 2 ^ 64) }
-    ensures { result ≡ after_block v (bytes_at (first.now ++ (second.now ++ (third.now ++ tail.now))) at 64) }
-{
-    let part = standing(first, second, third, tail, at);
-    if part.len() == 64 {
-        return absorb_block(v, part);
+    // The hash value after all blocks.
+    #[tactic(auto, unfolding(crate::specs::Digests::blocks, crate::specs::Digests::hashed), using(crate::proofs::Hashing::blocks_more))]
+    pub(crate) fn hash(&self, v: Vars) -> Vars
+        ensures { result ≡ hashed v (whole self.now) }
+    {
+        let mut x = v;
+        for n in 0..self.len() / 64 {
+            self.absorb(&mut x, 64 * n);
+        }
+        x
     }
-    let block = assembled(first, second, third, tail, at);
-    absorb_block(v, &block)
-}
-
-// The hash value after a message that is whole blocks.
-pub(crate) fn hash<'a>(
-    v: Vars,
-    first: &[u8],
-    second: &[u8],
-    third: &'a [u8],
-    tail: &'a [u8],
-) -> Vars
-    requires { length first.now + (length second.now + (length third.now + length tail.now)) < 2 ^ 62 }
-    ensures { result ≡ hashed v (first.now ++ (second.now ++ (third.now ++ tail.now))) }
-{
-    let count = (first.len() + second.len() + third.len() + tail.len()) / 64;
-    let mut x = v;
-    let mut n: usize = 0;
-    while n < count {
-        x = absorb(x, first, second, third, tail, 64 * n);
-        n += 1;
-    }
-    x
 }

@@ -1,18 +1,14 @@
 // SPDX-License-Identifier: MPL-2.0
 // The comparison of two tags.
-ghost use Rattle.std.specs.Prelude.{◌≡◌, length, eqb};
-ghost use Rattle.laws.specs.Same.{same};
+ghost use Rattle.std.specs.Prelude.{◌≡◌};
+ghost use Rattle.sha256.specs.Tags.{differing};
 
-// The bits in which two tags of thirty-two bytes differ, all bytes or-ed together.
+// The bits in which two tags differ, all bytes or-ed together.
+#[tactic(auto, unfolding(crate::specs::Tags::differing))]
 pub(crate) fn differences(ours: &[u8], theirs: &[u8]) -> u8
-    requires { (length ours.now ≡ 32) × (length theirs.now ≡ 32) }
-    ensures { eqb result 0 ≡ same ours.now theirs.now }
+    ensures { result ≡ differing ours.now theirs.now }
 {
-    let mut bits: u8 = 0;
-    let mut i: usize = 0;
-    while i < 32 {
-        bits = bits | (ours[i] ^ theirs[i]);
-        i += 1;
-    }
-    bits
+    ours.iter()
+        .zip(theirs)
+        .fold(0, |bits, (our, their)| bits | (*our ^ *their))
 }

@@ -38,22 +38,6 @@ fn lines<F: Fn(&mut Text) -> bool>(rt: &impl Print, name: &str, text: &[u8], agr
     report(rt, name, agreed, tried);
 }
 
-// Reads until a buffer is full, the input ends or a read fails, and answers how many bytes came. std's `read_to_end` wants a heap, and `read_exact`
-// does not say how many came.
-fn read_full<R: Read>(source: &mut R, buffer: &mut [u8]) -> usize
-    ensures { result ≤ length buffer.new }
-{
-    let mut done = 0;
-    while done < buffer.len() {
-        let more = source.read(&mut buffer[done..]).unwrap_or(0);
-        if more == 0 {
-            break;
-        }
-        done += more;
-    }
-    done
-}
-
 // The vectors of a file that is open.
 fn read_lines<R: Read, F: Fn(&mut Text) -> bool>(
     rt: &impl Print,
@@ -64,7 +48,7 @@ fn read_lines<R: Read, F: Fn(&mut Text) -> bool>(
     requires { F.IsAlwaysCallable agrees }
 {
     let mut text = [0; 262144];
-    let n = read_full(source, &mut text);
+    let n = intake::read_full(source, &mut text);
     lines(rt, name, &text[..n], agrees);
 }
 

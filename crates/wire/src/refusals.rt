@@ -1,7 +1,8 @@
 // SPDX-License-Identifier: MPL-2.0
 // Document 01's table "Refusal numbers": what a refusal is, and how a row of a table of refusals is written.
-ghost use Rattle.std.specs.Prelude.{◌≡◌, true, false, OnOk, IfErr};
-ghost use Rattle.wire.specs.Refusals.{number};
+ghost use Rattle.std.specs.Prelude.{◌≡◌, true, false, cond, OnOk, IfErr};
+ghost use Rattle.laws.specs.Rows.{unless};
+ghost use Rattle.wire.specs.Refusals.{number, refusal_of};
 
 use std::marker::Model;
 
@@ -92,7 +93,7 @@ impl Refused {
 
     // The row of the table.
     pub fn refusal(self) -> Refusal
-        ensures { number result ≡ self }
+        ensures { result ≡ refusal_of self }
     {
         self.refusal
     }
@@ -109,6 +110,7 @@ impl From<Refusal> for Refused {
 impl Refusal {
     // A row of a table of refusals: it refuses where its test holds.
     pub fn when(self, test: bool) -> Result<(), Refused>
+        ensures value { result ≡ unless (cond test (number self) 0) tt }
         ensures passed { OnOk result (test ≡ false) }
         ensures refused { IfErr result (λ n. (test ≡ true) × (n ≡ number self)) }
     {

@@ -1,12 +1,15 @@
 -- SPDX-License-Identifier: MPL-2.0
--- A chain of two blocks.
-use Rattle.laws.proofs.Kit.{refl, replicate, arith}
-use Rattle.aes.proofs.Ends.{both_ends}
+-- Each of the two blocks by itself.
+use Rattle.aes.specs.Cbc.{cbc_decrypt_block}
+use Rattle.aes.proofs.StateWords.{words-added}
 use Rattle.aes.proofs.cbc.cbc_decrypt_ends.Goals as goal
 
 pub returns : goal.returns
+unfolding cbc_decrypt_block
 returns c =
-    let a = c.args in
-    both_ends _ _ a.first a.last (omega arith) (omega arith) (replicate 32 0) (replicate 32 0) _ _ _ refl refl
-    c.put.ensures c.put-2.ensures c.decrypt_whole.ensures.new_target _ _ _ _ _ c.front-2.ensures
-    c.front.ensures c.sum-end.ensures c.sum.ensures
+    let w = c.inverse_words-w.ensures in
+    let a = c.decrypt-a.ensures c.args.keys w.are_blocks w.words in
+    let b = c.decrypt-b.ensures c.args.keys w.are_blocks w.words in (
+      rw (c.bytes_of.ensures, c.add.ensures, words-added, a, c.words.ensures, c.words-3.ensures),
+      rw (c.bytes_of-2.ensures, c.add-2.ensures, words-added, b, c.words-2.ensures, c.words-4.ensures),
+    )

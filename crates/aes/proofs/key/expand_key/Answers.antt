@@ -1,6 +1,6 @@
 -- SPDX-License-Identifier: MPL-2.0
 -- Key by key.
-use Rattle.laws.proofs.Kit.{◌≡◌, refl, sym, ◌∙◌, add-one, arith}
+use Rattle.laws.proofs.Kit.{◌≡◌, refl, ◌∙◌, add-one, arith}
 use Rattle.laws.proofs.Runs.{fill_more, fill-all}
 use Rattle.aes.specs.Key.{rcon, round_key, expand_key}
 use Rattle.aes.proofs.key.expand_key.Goals as goal
@@ -9,9 +9,8 @@ pub loop-n-init : goal.loop-n-init
 unfolding round_key rcon
 loop-n-init c =
     record {
-      within = omega arith;
-      made = record { len = refl; done = λ i h. (let z : i ≡ 0 = omega arith in rw z (sym c.words-k.ensures)) };
-      last = refl;
+      made = record { len = refl; done = λ i h. (let z : i ≡ 0 = omega arith in rw z) };
+      last = c.words-k.ensures;
       constant = refl;
     }
 
@@ -21,7 +20,6 @@ loop-n-preserved c =
     let v = c.loop-n.invariant in
     let key = rw (v.last, v.constant) at c.next_key-k.ensures in
     record {
-      within = omega arith;
       made = fill_more _ _ _ _ _ _ v.made (omega arith) (rw add-one (c.bytes_of.ensures ∙ key));
       last = rw add-one key;
       constant = rw (c.double-c.ensures, v.constant, add-one);
@@ -29,4 +27,4 @@ loop-n-preserved c =
 
 pub returns : goal.returns
 unfolding expand_key
-returns c = rw c.words-k.ensures at (fill-all _ _ _ _ _ c.loop-n.invariant.made (omega arith))
+returns c = fill-all _ _ _ _ _ c.loop-n.invariant.made (omega arith)

@@ -1,14 +1,11 @@
 -- SPDX-License-Identifier: MPL-2.0
--- By the law of the keys of the way back.
-use Rattle.laws.proofs.Kit.{◌∙◌, ap}
+-- Key by key.
+use Rattle.laws.proofs.Kit.{rules}
+use Rattle.aes.specs.Words.{no_words}
 use Rattle.aes.specs.Cipher.{eq_keys}
-use Rattle.aes.proofs.KeyWords.{words-keys, inverse-keys}
+use Rattle.aes.proofs.Lookups.{keys-are}
 use Rattle.aes.proofs.roundkeys.inverse_words.Goals as goal
 
-pub returns : goal.returns
-returns c =
-    let same = c.key_words-w.ensures in (
-      rw (c.put_key-2.ensures, c.key_at-2.ensures, c.put_key.ensures, c.key_at.ensures)
-          (inverse-keys _ _ c.unmix_words-r.ensures ∙ ap eq_keys same),
-      words-keys _ _ same,
-    )
+pub returns-clause-words : goal.returns-clause-words
+unfolding eq_keys
+returns-clause-words c = let made = c.from_fn.ensures.items in keys-are _ _ _ made.long (λ n h. let called = made.at n no_words h in search rules)

@@ -8,13 +8,12 @@ use Rattle.bench_c.proofs.joins.join_all.Goals as goal
 pub loop-i-init : goal.loop-i-init
 unfolding course
 loop-i-init c =
-    record { within = omega arith; long = refl; came = record { holds = c.expecting-held.ensures; stands = refl; says = refl } }
+    record { long = refl; came = record { holds = c.expecting-held.ensures; stands = refl; says = refl } }
 
 pub loop-i-preserved : goal.loop-i-preserved
 loop-i-preserved c =
     let joined = c.join_next-joined.ensures in
     record {
-      within = omega arith;
       long = search rules;
       came = came-more _ _ _ _ _ c.loop-i.invariant.came _ _ _ joined.value joined.new_report c.length_told-told.ensures;
     }

@@ -1,14 +1,10 @@
 -- SPDX-License-Identifier: MPL-2.0
 -- A turn of rounds is done on the words that the ring has, and then the ring has those of the next turn.
-use Rattle.laws.proofs.Kit.{min, ◌≡◌, refl, arith}
-use Rattle.compression.specs.Compression.{schedule, rounds}
-use Rattle.compression.specs.Ring.{ring}
+use Rattle.laws.proofs.Kit.{min, ◌≡◌, ◌∙◌, arith}
+use Rattle.compression.specs.Compression.{schedule}
 use Rattle.compression.proofs.Rings.{turn-words}
+use Rattle.compression.proofs.Turns.{turn-rounds}
 use Rattle.compression.proofs.rounds.all_rounds.Goals as goal
-
-pub loop-t-init : goal.loop-t-init
-unfolding ring rounds
-loop-t-init c = record { within = omega arith; turn = refl; words = refl; done = refl }
 
 pub loop-t-preserved : goal.loop-t-preserved
 loop-t-preserved c =
@@ -21,6 +17,7 @@ loop-t-preserved c =
       turn = omega arith;
       words = c.put_next.ensures m stands;
       done =
-          c.sixteen_rounds-x.ensures (schedule m 48)
-          (λ i h. rw stands (turn-words m (omega arith) l.t i (omega arith) (omega arith) h)) _ l.invariant.done;
+          c.sixteen_rounds-x.ensures
+          ∙ rw (l.invariant.done) (turn-rounds c.args.v (schedule m 48) l.w l.t 16
+          (λ i h. rw stands (turn-words m (omega arith) l.t i (omega arith) (omega arith) h)));
     }

@@ -1,6 +1,6 @@
 -- SPDX-License-Identifier: MPL-2.0
 -- The invariant: t rounds are done on the whole schedule, and the ring has the words of the next turn, if there is one.
-use Rattle.laws.proofs.Kit.{◌-◌, ◌%◌, min, ◌≤◌, ◌≡◌}
+use Rattle.laws.proofs.Kit.{◌%◌, min, ◌≤◌, ◌≡◌}
 use Rattle.compression.specs.Compression.{schedule, rounds}
 use Rattle.compression.specs.Ring.{ring}
 use Rattle.compression.proofs.rounds.all_rounds.Given as goal
@@ -12,6 +12,3 @@ invariant-loop-t l = record {
   words : l.w ≡ ring l.initial.w (min l.t 48);
   done : l.x ≡ rounds l.initial.x (schedule l.initial.w 48) l.t;
 }
-
-abbrev pub decreases-loop-t : goal.decreases-loop-t
-decreases-loop-t l = 64 - l.t

@@ -1,11 +1,17 @@
 -- SPDX-License-Identifier: MPL-2.0
--- 128 added twice is nothing.
-use Rattle.laws.proofs.Kit.{◌∙◌, ap}
+-- The words of MixColumns, tested over the whole table.
+use Rattle.laws.proofs.Kit.{◌∙◌}
+use Rattle.laws.specs.Runs.{run, table}
+use Rattle.laws.proofs.Runs.{table_at}
 use Rattle.field.specs.Xor.{xor}
-use Rattle.field.specs.Words.{mixes}
-use Rattle.field.proofs.Xor.{cancel}
+use Rattle.field.specs.Field.{xtime, times, mul}
+use Rattle.field.specs.Sbox.{affine}
+use Rattle.field.specs.Words.{spread, twice}
+use Rattle.field.proofs.Inverse.{inverses}
+use Rattle.field.proofs.Sbox.{sbox_by}
+use Rattle.field.proofs.Words.{mixes_by, mixes-by}
 use Rattle.field.proofs.tables.mixing.Goals as goal
 
 pub returns : goal.returns
-unfolding xor
-returns c = c.mixing_from_128.ensures ∙ ap mixes (cancel _ 128)
+unfolding table run mixes_by twice spread sbox_by affine inverses mul times xtime xor
+returns c = table_at mixes_by _ c.ranges.x.fits ∙ mixes-by _ c.ranges.x.fits

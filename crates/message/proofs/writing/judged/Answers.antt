@@ -8,5 +8,5 @@ pub finished_length-size-requires : goal.finished_length-size-requires
 finished_length-size-requires c = (
   chain-short _ (record { at = λ i. omega (arith, c.type_inv.chain i) }) (sym c.bad_chain.ensures ∙ c.in_ok-when-4.ensures.passed),
   payload-short _ c.args.header.kind _ (sym c.bad_type.ensures ∙ c.in_ok-when.ensures.passed)
-  (sym c.bad_payload.ensures ∙ c.in_ok-when-6.ensures.passed) c.in_ok-when-7.ensures.passed,
+      (sym c.bad_payload.ensures ∙ c.in_ok-when-6.ensures.passed) c.in_ok-when-7.ensures.passed,
 )

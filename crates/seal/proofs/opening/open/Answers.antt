@@ -19,16 +19,17 @@ returns-in_err-keys c =
 pub returns-in_err-when : goal.returns-in_err-when
 returns-in_err-when c =
     let a = c.args in
+    let parts = c.split_at.ensures in
     let r = c.in_err-when.ensures.refused in
-    let tag = c.wrong_tag.ensures in
-    let e = no-tag a.keys.now a.message.now a.start a.working.now c.in_ok-sealed.ensures.value c.in_ok-keys.ensures (rw tag at r.0) in
+    let tag = rw (c.same_tag.ensures, c.tag_of.ensures, parts.front, parts.back) at r.0 in
+    let e = no-tag a.keys.now a.message.now a.start a.working.now c.in_ok-sealed.ensures.value c.in_ok-keys.ensures tag in
     record { value = rw (left _ c.from_residual-in_err-when.ensures.1, r.1) e.0; new_working = e.1 }
 
 pub returns : goal.returns
 returns c =
     let a = c.args in
-    let tag = c.wrong_tag.ensures in
+    let parts = c.split_at.ensures in
+    let tag = rw (c.same_tag.ensures, c.tag_of.ensures, parts.front, parts.back) at c.in_ok-when.ensures.passed in
     let p = c.open_part.ensures in
-    let e = opened a.keys.now a.message.now a.start a.working.now c.in_ok-sealed.ensures.value c.in_ok-keys.ensures
-    (rw tag at c.in_ok-when.ensures.passed) p.value p.new_working in
+    let e = opened a.keys.now a.message.now a.start a.working.now c.in_ok-sealed.ensures.value c.in_ok-keys.ensures tag p.value p.new_working in
     record { value = e.0; new_working = e.1 }

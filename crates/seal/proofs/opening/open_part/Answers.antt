@@ -1,6 +1,6 @@
 -- SPDX-License-Identifier: MPL-2.0
 -- Keys and vector are the definition's, so what is judged and written is the opened sealed part.
-use Rattle.laws.proofs.Kit.{◌≡◌, ◌∙◌}
+use Rattle.laws.proofs.Kit.{◌≡◌}
 use Rattle.aes.specs.Cbc.{cbc_decrypt}
 use Rattle.seal.specs.Opening.{plain_of}
 use Rattle.seal.proofs.Opened.{left, no-room, part-opened}

@@ -1,7 +1,7 @@
 -- SPDX-License-Identifier: MPL-2.0
 -- The part is encrypted in its room and the tag put after it, where none of the rows applies.
 use Rattle.laws.proofs.Kit.{◌-◌, ◌∙◌, length, drop, length-take-le, length-drop, ltb-false, arith}
-use Rattle.seal.proofs.Padded.{sizes, plain_text-blocks}
+use Rattle.seal.proofs.Padded.{sizes}
 use Rattle.seal.proofs.Opened.{left}
 use Rattle.seal.proofs.Seals.{no-end, no-keys, no-room, whole, Fit, sealed-into}
 use Rattle.seal.proofs.sealing.seal.Goals as goal

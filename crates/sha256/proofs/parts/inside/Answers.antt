@@ -1,7 +1,8 @@
 -- SPDX-License-Identifier: MPL-2.0
--- Sixty-four bytes are handed out only where the block lies in the part.
-use Rattle.sha256.proofs.Laying.{in-part}
+-- The first chunk of what the part has from the block's place on.
+use Rattle.sha256.proofs.Laying.{in_part}
 use Rattle.sha256.proofs.parts.inside.Goals as goal
 
-pub returns-then-at-ahead : goal.returns-then-at-ahead
-returns-then-at-ahead c l before after e = in-part before _ after _ _ e c.if-ahead-at.true c.if-at-ahead.true
+pub returns : goal.returns
+returns c before after l =
+    in_part before _ after _ _ _ _ _ l c.in_ok-checked_sub.ensures c.in_ok-get.ensures.lookup.0.2 c.in_ok-block.ensures.cases

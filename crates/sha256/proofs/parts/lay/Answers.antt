@@ -1,27 +1,12 @@
 -- SPDX-License-Identifier: MPL-2.0
--- Each byte laid makes the bytes of the message so far one more.
-use Rattle.laws.proofs.Kit.{◌∙◌, length-set, arith}
-use Rattle.sha256.proofs.Laying.{laid-first, laid_more, laid-last}
+-- The places laid are those that part and block have in common, if there are any.
+use Rattle.laws.proofs.Kit.{refl, ◌∙◌, arith}
+use Rattle.sha256.proofs.Laying.{laid, laid_none}
 use Rattle.sha256.proofs.parts.lay.Goals as goal
 
-pub loop-i-init : goal.loop-i-init
-loop-i-init c = record {
-  begun = omega arith;
-  as_long = omega arith;
-  so_far = λ front l e. e ∙ laid-first front _ _ _ l _ (omega arith) c.requires.3;
-}
+pub returns-then-from-to : goal.returns-then-from-to
+returns-then-from-to c front l e =
+    laid front _ _ _ _ _ l c.max-from.ensures c.min-to.ensures _ _ _ _ _ refl (omega arith) (omega arith) (omega arith) e c.copy_from_slice.ensures.after
 
-pub loop-i-preserved : goal.loop-i-preserved
-loop-i-preserved c =
-    let l = c.loop-i in
-    record {
-      begun = omega arith;
-      as_long = rw length-set l.invariant.as_long;
-      so_far = λ front n e.
-          laid_more front _ _ _ n l.block l.i (omega arith) (omega arith) (omega arith) (omega arith) (l.invariant.so_far front n e);
-    }
-
-pub returns : goal.returns
-returns c =
-    let l = c.loop-i in
-    (l.invariant.as_long, λ front n e. l.invariant.so_far front n e ∙ laid-last front _ _ _ n l.i _ (omega arith) c.requires.6)
+pub returns-else-from-to : goal.returns-else-from-to
+returns-else-from-to c front l e = e ∙ laid_none front _ _ _ _ _ l c.max-from.ensures c.min-to.ensures (omega arith)

@@ -38,34 +38,35 @@ come-set l n i t m b e h =
 pub overflow_add-told : goal.overflow_add-told
 unfolding most_pieces
 overflow_add-told c =
-    let s = c.loop-is_heard in
+    let s = c.loop-i in
     let p = c.args.placed.now in
-    let i = s.is_heard-index in
-    let b = (has s.is_heard-items i || eqb s.turn (128 - p.piece.count + p.piece.index)) && ltb s.turn 128 in
+    let i = s.i in
+    let turn = 128 - p.piece.count + i in
+    let b = (has s.is_heard-items i || eqb turn (128 - p.piece.count + p.piece.index)) && ltb turn 128 in
     omega (arith, bit_byte b, come-le (min i p.piece.count) s.is_heard-items)
 
-pub loop-is_heard-preserved : goal.loop-is_heard-preserved
+pub loop-i-preserved : goal.loop-i-preserved
 unfolding most_pieces
-loop-is_heard-preserved c =
-    let s = c.loop-is_heard in
+loop-i-preserved c =
+    let s = c.loop-i in
     let v = s.invariant in
     let p = c.args.placed.now in
     let l = s.is_heard-items in
-    let i = s.is_heard-index in
+    let i = s.i in
     let n = p.piece.count in
     let x = p.piece.index in
     let here = 128 - n + x in
-    let b = has l i || eqb s.turn here in
-    let e : s.turn + x ≡ here + i = omega arith in
+    let turn = 128 - n + i in
+    let b = has l i || eqb turn here in
+    let e : turn + x ≡ here + i = omega arith in
     record {
-      before = λ h. at_other l x here i s.turn e (λ e. omega arith) ∙ v.before (omega arith);
+      before = λ h. at_other l x here i turn e (λ e. omega arith) ∙ v.before (omega arith);
       after =
           λ h.
-          ⊎_elim (λ g. at_other l x here i s.turn e (λ e. omega arith) ∙ v.after g)
-          (λ g. at-index l x here i s.turn e (omega arith) ∙ ap (λ (l : List Bool). mark l x) (v.before g)) (lt-or-ge x i);
+          ⊎_elim (λ g. at_other l x here i turn e (λ e. omega arith) ∙ v.after g)
+          (λ g. at-index l x here i turn e (omega arith) ∙ ap (λ (l : List Bool). mark l x) (v.before g)) (lt-or-ge x i);
       counted =
           rw (add-one i)
-          (omega (arith, come-set l n i s.turn 128 b (omega arith) (omega arith), bit_byte (b && ltb s.turn 128)));
-      turned = omega arith;
+          (omega (arith, come-set l n i turn 128 b (omega arith) (omega arith), bit_byte (b && ltb turn 128)));
       as_long = omega (arith, length-set l i b);
     }

@@ -1,6 +1,0 @@
--- SPDX-License-Identifier: MPL-2.0
--- The counter falls.
-use Rattle.replay.proofs.run.Given as goal
-
-abbrev pub decreases-loop-turns : goal.decreases-loop-turns
-decreases-loop-turns g l = l.turns
