@@ -90,7 +90,7 @@ pub extern "C" fn hub_read(
     )
 }
 
-// A part of one of the two buffers: 0 is the message, 1 the working buffer.
+// A part of one of the two buffers: 0 is the message, 1 the working buffer, in the words that C is handed.
 #[derive(Clone, Copy)]
 struct Place {
     buffer: u64,
