@@ -4,7 +4,7 @@
 #![tactic(auto)]
 
 mod hear;
-pub mod numbers;
+mod numbers;
 mod step;
 
 ghost use Rattle.std.specs.Prelude.{◌≡◌};

@@ -14,7 +14,8 @@ pub const OPENED: u8 = 1;
 // The part is still sealed, and stands in the message.
 pub const SEALED: u8 = 2;
 
-// What was read of a message, in the numbers that C is handed: the refusal's number, 0 where there is none; the header; and the part: what it is, from where, how many bytes.
+// What was read of a message, in the numbers that C is handed: the refusal's number, 0 where there is none; the header; and the part: what it is,
+// from where, how many bytes.
 #[derive(Clone, Copy)]
 pub struct Found {
     pub refusal: u8,
