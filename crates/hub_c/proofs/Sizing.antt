@@ -1,6 +1,6 @@
 -- SPDX-License-Identifier: MPL-2.0
 -- Buffers that have their sizes, and what the calls over them come to, as laws over numbers and lists.
-use Rattle.laws.proofs.Kit.{ℕ, ◌*◌, ◌≤◌, ◌≡◌, refl, sym, ◌∙◌, ap, false, not, ◌||◌, List, [], ◌∷◌, length, eqb, eq-eqb, ne_eqb, eqb-true}
+use Rattle.laws.proofs.Kit.{ℕ, ◌*◌, ◌≤◌, ◌≡◌, refl, ◌∙◌, ap, false, not, ◌||◌, List, [], ◌∷◌, length, eqb, ne_eqb, eqb-true}
 use Rattle.laws.proofs.Kit.{get_or, ltb, ltb-false, not-false}
 use Rattle.laws.specs.Bytes.{be16}
 use Rattle.laws.proofs.Bools.{or-false}

@@ -11,12 +11,20 @@ ghost use Rattle.hub_c.specs.Answered.{verdict_of};
 ghost use Rattle.hub_c.specs.Client.{gateway_after, gateway_answer, wrong_gateway_step, wrong_gateway_due};
 
 use super::connection::verdict_of;
-use super::words::{ANSWER, WRONG_BUFFER, fill, hand_said, put_length};
+use super::words::{ANSWER, WRONG_BUFFER, hand_said, put_length};
 use gateway::{Gateway, due_number};
-use state::client::{GATEWAY, decode_gateway, encode_gateway};
+use state::client::{GATEWAY, decode_gateway, put_gateway};
 
 // The words of the request that is due.
 const DUE: usize = 1;
+
+// Puts the state of a gateway's connection over the whole of its buffer.
+fn put_state(state: &mut [u8], g: &Gateway)
+    requires { length state.old ≡ gateway_size }
+    ensures { state.new ≡ gateway_bytes g.now }
+{
+    put_gateway(g, state);
+}
 
 // Opens a gateway's connection of this fragment size and SessionID. Refused with 24 it is all zero.
 #[unsafe(no_mangle)]
@@ -29,7 +37,7 @@ pub extern "C" fn hub_gateway_open(fragment_size: u64, session: u64, gateway: &m
         return WRONG_BUFFER;
     }
     let opened = Gateway::open(fragment_size as usize, session);
-    fill(gateway, &encode_gateway(opened.gateway));
+    put_state(gateway, &opened.gateway);
     opened.refusal as u32
 }
 
@@ -70,7 +78,7 @@ pub extern "C" fn hub_gateway_step(
     if refusal != 0 {
         return refusal;
     }
-    fill(gateway, &encode_gateway(stepped.gateway));
+    put_state(gateway, &stepped.gateway);
     0
 }
 

@@ -10,14 +10,22 @@ ghost use Rattle.state.specs.State.{connection_at, state_bytes};
 ghost use Rattle.hub_c.specs.Sizes.{wrong_buffer, answer_size, sized, kept};
 ghost use Rattle.hub_c.specs.Answered.{state_after, answer_after, verdict_of, short_report, wrong_step};
 
-use super::words::{ANSWER, WRONG_BUFFER, fill, hand_said};
+use super::words::{ANSWER, WRONG_BUFFER, hand_said};
 use hub::Connection;
 use joining::cut::bad_size;
-use state::{STATE, decode, encode};
+use state::{STATE, decode, put_connection};
 use wire::header::MOST_PIECES;
 
 // The most pieces of a report.
 const PIECES: usize = MOST_PIECES as usize;
+
+// Puts the state of a connection over the whole of its buffer.
+fn put_state(state: &mut [u8], c: &Connection)
+    requires { length state.old ≡ state_size }
+    ensures { state.new ≡ state_bytes c.now }
+{
+    put_connection(c, state);
+}
 
 // Opens a connection of this fragment size into a state buffer. Refused with 24 the state is that of the connection that is all zero.
 #[tactic(auto, unfolding(wire::specs::Fields::most_pieces))]
@@ -31,7 +39,7 @@ pub extern "C" fn hub_open(fragment_size: u64, state: &mut [u8]) -> u32
         return WRONG_BUFFER;
     }
     let opened = Connection::open(fragment_size as usize);
-    fill(state, &encode(opened.connection));
+    put_state(state, &opened.connection);
     opened.refusal as u32
 }
 
@@ -97,6 +105,6 @@ pub extern "C" fn hub_step(
     if refusal != 0 {
         return refusal;
     }
-    fill(state, &encode(stepped.connection));
+    put_state(state, &stepped.connection);
     0
 }

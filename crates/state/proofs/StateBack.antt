@@ -7,7 +7,7 @@ use Rattle.laws.specs.Bytes.{be8, be16, be32, be64, bytes_at, bytes16, bytes32, 
 use Rattle.wire.specs.Fields.{most_pieces}
 use Rattle.joining.specs.Heard.{has, most}
 use Rattle.hub.specs.declared.Connection.{Connection}
-use Rattle.state.specs.Layout.{heard_place, heard_size}
+use Rattle.state.specs.Layout.{heard_place, heard_size, state_size}
 use Rattle.state.specs.State.{joined, bit_at, heard_at, heard_byte, heard_bytes, progress_at, connection_at, Fits, ReadBack}
 use Rattle.state.specs.State.{progress_parts, progress_bytes, state_bytes}
 use Rattle.laws.proofs.Runs.{length-gathered}
@@ -69,9 +69,14 @@ state-back s c f w =
     (read64 _ count) (read64 _ channel) (read16 _ last) in
     same-connection _ c (read64 _ size) (ap (λ (l : List ℕ). be8 l 0) state) (read64 _ session) nonce x y digest progress
 
-pub read_back : ReadBack
+-- The bytes of a connection are as many as a state has.
+pub state-length : (c : Connection) → length c.nonce ≡ 8 → length c.x ≡ 32 → length c.y ≡ 32 → length c.digest ≡ 32 → length (state_bytes c) ≡ state_size
 unfolding most_pieces
-read_back c f = rw (all-parts c) (
-  simp (length-append, f.nonce, f.x, f.y, f.digest, length-gathered (heard_byte c.progress.heard) heard_size),
-  state-back (joined (all_parts c)) c f (joined-stand [] (all_parts c)),
+state-length c nonce x y digest =
+    rw (all-parts c) (simp (length-append, nonce, x, y, digest, length-gathered (heard_byte c.progress.heard) heard_size))
+
+pub read_back : ReadBack
+read_back c f = (
+  state-length c f.nonce f.x f.y f.digest,
+  rw (all-parts c) (state-back (joined (all_parts c)) c f (joined-stand [] (all_parts c))),
 )

@@ -7,6 +7,8 @@
 // Any bytes of this number are a gateway's connection, and any such connection is this number of bytes. It is laid out as the hub's is, part by part,
 // but has other parts.
 ghost use Rattle.std.specs.Prelude.{◌≡◌};
+ghost use Rattle.std.proofs.lemmas.List.Edits.{sets};
+ghost use Rattle.state.specs.Layout.{size_place};
 ghost use Rattle.state.specs.Client.{gateway_at, gateway_bytes};
 
 use super::{SESSION_AT, SIZE_AT, STATE_AT};
@@ -29,13 +31,11 @@ pub fn decode_gateway(s: &[u8; GATEWAY]) -> Gateway
     }
 }
 
-// The state of a gateway's connection, part by part.
-pub fn encode_gateway(g: Gateway) -> [u8; GATEWAY]
-    ensures { result ≡ gateway_bytes g }
+// Puts the state of a gateway's connection from the beginning of a buffer on, part by part. A byte past its end is dropped.
+pub fn put_gateway(g: &Gateway, out: &mut [u8])
+    ensures { out.new ≡ sets out.old size_place (gateway_bytes g.now) }
 {
-    let mut state = [0u8; GATEWAY];
-    store64(&mut state, SIZE_AT, g.size as u64);
-    store8(&mut state, STATE_AT, g.state);
-    store64(&mut state, SESSION_AT, g.session);
-    state
+    store64(out, SIZE_AT, g.size as u64);
+    store8(out, STATE_AT, g.state);
+    store64(out, SESSION_AT, g.session);
 }

@@ -14,7 +14,7 @@ ghost use Rattle.std.specs.Prelude.{◌≡◌, ◌<◌, ◌≤◌, ◌+◌, leng
 ghost use Rattle.std.proofs.lemmas.List.Edits.{sets};
 ghost use Rattle.laws.specs.Bytes.{bytes_at};
 ghost use Rattle.joining.specs.Heard.{most};
-ghost use Rattle.state.specs.Layout.{expected_place, heard_size};
+ghost use Rattle.state.specs.Layout.{size_place, expected_place, heard_size, state_size};
 ghost use Rattle.state.specs.State.{bit_at, heard_at, value, heard_byte, heard_bytes, progress_at, connection_at, progress_bytes, state_bytes};
 
 use hub::Connection;
@@ -155,19 +155,18 @@ fn put_progress(p: &Progress, out: &mut [u8])
     store16(out, LAST_AT, p.last);
 }
 
-// The state of a connection, part by part.
+// Puts the state of a connection from the beginning of a buffer on, part by part. A byte past its end is dropped.
 #[tactic(auto, unfolding(wire::specs::Fields::most_pieces))]
-pub fn encode(c: Connection) -> [u8; STATE]
-    ensures { result ≡ state_bytes c }
+pub fn put_connection(c: &Connection, out: &mut [u8])
+    ensures new_out { out.new ≡ sets out.old size_place (state_bytes c.now) }
+    ensures size { length (state_bytes c.now) ≡ state_size }
 {
-    let mut state = [0u8; STATE];
-    store64(&mut state, SIZE_AT, c.size as u64);
-    store8(&mut state, STATE_AT, c.state);
-    store64(&mut state, SESSION_AT, c.session);
-    store_bytes(&mut state, NONCE_AT, &c.nonce);
-    store_bytes(&mut state, X_AT, &c.x);
-    store_bytes(&mut state, Y_AT, &c.y);
-    store_bytes(&mut state, DIGEST_AT, &c.digest);
-    put_progress(&c.progress, &mut state);
-    state
+    store64(out, SIZE_AT, c.size as u64);
+    store8(out, STATE_AT, c.state);
+    store64(out, SESSION_AT, c.session);
+    store_bytes(out, NONCE_AT, &c.nonce);
+    store_bytes(out, X_AT, &c.x);
+    store_bytes(out, Y_AT, &c.y);
+    store_bytes(out, DIGEST_AT, &c.digest);
+    put_progress(&c.progress, out);
 }
