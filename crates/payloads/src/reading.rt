@@ -1,6 +1,6 @@
 // SPDX-License-Identifier: MPL-2.0
 // What is read out of a Connect payload.
-ghost use Rattle.std.specs.Prelude.{◌≡◌, ◌+◌, ◌<◌, ◌^◌, get_or};
+ghost use Rattle.std.specs.Prelude.{◌≡◌, get_or};
 ghost use Rattle.std.specs.Option.{unwrap_or};
 ghost use Rattle.payloads.specs.Connect.{nowhere};
 ghost use Rattle.payloads.specs.Reading.{connection_mode, connect_type, code_of, read_request, sized_at, certificate_of, thumbprint_of};

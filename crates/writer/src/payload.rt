@@ -5,7 +5,7 @@
 
 ghost use Rattle.std.specs.Prelude.{◌≡◌, not, eqb};
 ghost use Rattle.std.proofs.lemmas.List.Edits.{sets};
-ghost use Rattle.payloads.specs.Format.{one, fixed, ◌then◌, ◌and◌, write};
+ghost use Rattle.payloads.specs.Format.{one, fixed, ◌then◌, ◌and◌};
 ghost use Rattle.payloads.specs.Types.{connect_number};
 ghost use Rattle.payloads.specs.Shapes.{
   of_type,
@@ -17,7 +17,7 @@ ghost use Rattle.payloads.specs.Shapes.{
   done_response,
   presence_response,
 };
-ghost use Rattle.writer.specs.Payload.{payload_written, payload_output, request_values, exchange_values, response_format, response_values, start_bytes};
+ghost use Rattle.writer.specs.Payload.{payload_written, payload_output, exchange_values, response_format, response_values, start_bytes};
 ghost use Rattle.writer.specs.Written.{written, output};
 
 use crate::put_refusal;
