@@ -255,9 +255,10 @@ function take_fields(type, s,    part, n, i) {
     home[type] = crate
 }
 
-# The types of a file: what each holds, and the fields of a struct.
-function find_types(s,    word, type, at, to) {
+# The public types of a file: what each holds, and the fields of a struct. Another type of the name, which is not public, may hold other things.
+function find_types(s,    word, type, at, to, public) {
     while (match(s, /(^|[^A-Za-z0-9_])(struct|enum|type)[ \t\n\f]+[A-Za-z0-9_]+/)) {
+        public = substr(s, 1, RSTART) ~ /(^|[^A-Za-z0-9_])pub[ \t\n\f]+$/
         type = joined(substr(s, RSTART, RLENGTH))
         word = type
         sub(/.* /, "", type)
@@ -266,8 +267,8 @@ function find_types(s,    word, type, at, to) {
         to = index(s, ";") + 1
         if (substr(s, at, 1) == "{") to = closed(s, at, "{", "}")
         if (substr(s, at, 1) == "(") to = closed(s, at, "(", ")")
-        body[type] = body[type] " " substr(s, 1, to - 1)
-        if (word ~ /struct / && substr(s, at, 1) == "{") take_fields(type, substr(s, at + 1, to - at - 2))
+        if (public) body[type] = body[type] " " substr(s, 1, to - 1)
+        if (public && word ~ /struct / && substr(s, at, 1) == "{") take_fields(type, substr(s, at + 1, to - at - 2))
         s = substr(s, to)
     }
 }

@@ -10,7 +10,7 @@ use message::reading::FoundMessage;
 use wire::header::{DISCOVERY, Header};
 use wire::refusals::{Refusal, Refused};
 
-// The kind of the answer that both roles give: Again.
+// The kind of the answer that both roles give: Again; a number, since C is handed it so.
 pub const AGAIN: u64 = 2;
 
 // What the reader answers, or 25 or 24 before it: these look at no message.

@@ -16,7 +16,7 @@ use payloads::types::ConnectType;
 use wire::header::{CONNECT, Header};
 use wire::refusals::{Refusal, Refused};
 
-// The Status of a Done Response that lets the gateway be Ready.
+// The Status of a Done Response that lets the gateway be Ready; a byte, as the payload has it.
 const SUCCESS: u8 = 0;
 
 // A reply by which an enrolment fails: another Result, another Status, a certificate that is not accepted.

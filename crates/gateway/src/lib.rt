@@ -1,9 +1,10 @@
 // SPDX-License-Identifier: MPL-2.0
-// A connection of the gateway: opening it, the request that is due, and what each message does to it (document 01, "Gateway states").
+// A connection of the gateway: opening it, the request that is due, and what each message does to it (document 01, "Gateway states"). What it has in
+// common with the hub's stands in `admission`; the rest looks alike only, since it holds another connection and another answer.
 #![tactic(auto)]
 
 mod hear;
-pub mod numbers;
+mod numbers;
 mod step;
 
 ghost use Rattle.std.specs.Prelude.{◌≡◌};

@@ -12,8 +12,7 @@ ghost use Rattle.hub_c.specs.Client.{gateway_after, gateway_answer, wrong_gatewa
 
 use super::connection::verdict_of;
 use super::words::{ANSWER, WRONG_BUFFER, fill, hand_said, put_length};
-use gateway::Gateway;
-use gateway::numbers::due_number;
+use gateway::{Gateway, due_number};
 use state::client::{GATEWAY, decode_gateway, encode_gateway};
 
 // The words of the request that is due.

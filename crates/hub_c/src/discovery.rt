@@ -4,7 +4,7 @@
 //     0      1      2             3      5      7
 //     | type | mode | device type | name | salt | hash
 //
-// A part is two words: from where, how many bytes.
+// A part is two words: from where, how many bytes. C has a call for either payload, and these say other things.
 ghost use Rattle.std.specs.Prelude.{◌≡◌, length};
 ghost use Rattle.laws.specs.Rows.{refusal_in};
 ghost use Rattle.payloads.specs.Discovery.{read_discovery, discovery_told};

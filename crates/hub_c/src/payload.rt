@@ -1,6 +1,7 @@
 // SPDX-License-Identifier: MPL-2.0
 // The payloads of Discovery and Connect written, each at the start of its output, with its length in one word. A buffer of another size than the
 // call asks for, or a word with no room in its field, is 255; then 14 and 22 refuse, leave the output as it was, and the length is 0.
+// C has a call for each payload, so that these begin alike, each with the test of its own words.
 ghost use Rattle.std.specs.Prelude.{◌≡◌, true, false, ◌&&◌, length, eqb};
 ghost use Rattle.payloads.specs.Format.{◌and◌};
 ghost use Rattle.payloads.specs.Shapes.{presence_request, presence_response, connection_request, device_authentication, done_request, done_response};

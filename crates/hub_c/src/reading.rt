@@ -84,10 +84,13 @@ pub extern "C" fn hub_read(
     if header.len() != HEADER {
         return WRONG_BUFFER;
     }
-    hand(found(message::reading::read(message, keys, working)), header)
+    hand(
+        found(message::reading::read(message, keys, working)),
+        header,
+    )
 }
 
-// A part of one of the two buffers: 0 is the message, 1 the working buffer.
+// A part of one of the two buffers: 0 is the message, 1 the working buffer, in the words that C is handed.
 #[derive(Clone, Copy)]
 struct Place {
     buffer: u64,

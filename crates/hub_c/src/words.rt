@@ -88,7 +88,7 @@ pub(crate) fn put_three(out: &mut [u64], at: u32, a: u64, b: u64, c: u64)
     put_word(out, from + 2, c);
 }
 
-// Puts two words from a place on.
+// Puts two words from a place on; over a slice of words it would be a loop, and no plainer.
 pub(crate) fn put_two(out: &mut [u64], at: u32, a: u64, b: u64)
     ensures { out.new ≡ sets out.old at (a ∷ b ∷ []) }
 {

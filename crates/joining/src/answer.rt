@@ -13,7 +13,7 @@ pub const REPEAT: u64 = 5;
 
 pub const COMPLETE: u64 = 6;
 
-// An answer's number and values. A value that its case does not have is 0, and beside a refusal all is 0.
+// An answer's number and values, as C is handed them. A value that its case does not have is 0, and beside a refusal all is 0.
 #[derive(Clone, Copy)]
 pub struct Said {
     // The refusal's number, 0 where there is none.

@@ -5,7 +5,7 @@ ghost use Rattle.lines.specs.Stream.{ahead};
 
 use wire::header::wanted;
 
-// What a stream begins with.
+// What a stream begins with: three cases, which no Option or Result has.
 #[derive(Clone, Copy)]
 pub enum Next {
     // A message of n bytes; where the input has ended, also what is left of one.

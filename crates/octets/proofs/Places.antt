@@ -1,6 +1,6 @@
 -- SPDX-License-Identifier: MPL-2.0
 -- The bytes at a place are those that stand from it on, and zeros past the end. Bytes that are put there are those that there is room for.
-use Rattle.laws.proofs.Kit.{ℕ, zero, suc, ◌+◌, ◌-◌, min, ◌<◌, ◌≤◌, ◌≡◌, sym, ◌∙◌, List, ◌++◌, length, take, drop, replicate, get_or, arith}
+use Rattle.laws.proofs.Kit.{ℕ, zero, suc, ◌+◌, ◌-◌, min, ◌<◌, ◌≤◌, ◌≡◌, sym, ◌∙◌, List, length, take, drop, get_or, arith}
 use Rattle.laws.proofs.Kit.{sets, ⊎_elim, take-length}
 use borrow.Rule.Slice.PartMut.{put_mid}
 use Rattle.std.proofs.lemmas.Grind.{common_steps}
@@ -16,7 +16,7 @@ unfolding bytes_at
 get_or-bytes_at m at zero i h = absurd (omega arith)
 get_or-bytes_at m at (suc n) i h = grind (arith, common_steps, get_or-bytes_at m at n, length-bytes_at m at n)
 
-placed : (m l : List ℕ) (at n : ℕ) → length l ≡ n → ((i : ℕ) → i < n → get_or l i 0 ≡ be8 m (at + i)) → l ≡ bytes_at m at n
+pub placed : (m l : List ℕ) (at n : ℕ) → length l ≡ n → ((i : ℕ) → i < n → get_or l i 0 ≡ be8 m (at + i)) → l ≡ bytes_at m at n
 placed m l at n e h =
     ext_get_or 0 l (bytes_at m at n) (e ∙ sym (length-bytes_at m at n))
     (λ i k. h i (omega arith) ∙ sym (get_or-bytes_at m at n i (omega arith)))
@@ -24,12 +24,6 @@ placed m l at n e h =
 -- The front of what stands there, where it is that long.
 pub whole : (m rest l : List ℕ) (at n : ℕ) → rest ≡ drop at m → n ≤ length rest → l ≡ take n rest → l ≡ bytes_at m at n
 whole m rest l at n e h f = placed m l at n (grind (arith, common_steps)) (λ i k. grind (arith, common_steps))
-
--- All that stands there, and zeros behind it.
-pub padded : (m rest l : List ℕ) (at n : ℕ) → rest ≡ drop at m → length rest < n → l ≡ rest
-    → l ++ drop (length rest) (replicate n 0) ≡ bytes_at m at n
-padded m rest l at n e h f =
-    placed m (l ++ drop (length rest) (replicate n 0)) at n (grind (arith, common_steps)) (λ i k. grind (arith, common_steps))
 
 -- A run that is cut where there is no more room.
 cut : (b bytes : List ℕ) (at n : ℕ) → n ≡ min (length bytes) (length b - at) → sets b at (take n bytes) ≡ sets b at bytes

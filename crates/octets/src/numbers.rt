@@ -18,8 +18,8 @@ fn rest(s: &[u8], at: usize) -> &[u8]
     s.get(at..).unwrap_or(&[])
 }
 
-// The N bytes from a place on.
-#[tactic(auto, using(crate::proofs::Places::whole, crate::proofs::Places::padded))]
+// The N bytes from a place on. Past the end they are made one by one: a copy of a length that is not known would put each number on the stack.
+#[tactic(auto, using(crate::proofs::Places::whole))]
 pub fn bytes_at<const N: usize>(s: &[u8], at: usize) -> [u8; N]
     ensures { result ≡ bytes_at s.now at N }
 {
@@ -27,9 +27,7 @@ pub fn bytes_at<const N: usize>(s: &[u8], at: usize) -> [u8; N]
     if let Some(bytes) = rest.first_chunk() {
         return *bytes;
     }
-    let mut bytes = [0; N];
-    bytes[..rest.len()].copy_from_slice(rest);
-    bytes
+    std::array::from_fn(|i| byte(rest, i))
 }
 
 // The number in the two bytes at a place.

@@ -25,7 +25,8 @@ pub mod types;
 // `code_of` in `FieldsBack`, `IsConnect` and `IsCoded`).
 pub const NONE: u8 = 255;
 
-// Pending, the Result of a Connection Response that carries the host's half of the exchange.
+// Pending, the Result of a Connection Response that carries the host's half of the exchange. Result and Status are bytes, as the payload has them
+// and C gives them.
 pub const PENDING: u8 = 1;
 
 // The places of nonce, X and Y in a payload that carries them.

@@ -54,7 +54,8 @@ impl<'a> Padded<'a> {
         self.message.len() + self.padding.len()
     }
 
-    // The block at a place, laid over zeros out of the parts. It is lent, not returned: that takes 64 bytes of stack less.
+    // The block at a place, laid over zeros out of the parts. It is lent, not returned: that takes 64 bytes of stack less. The place, which must be
+    // small here and below, is an argument by itself: a type of it would say no more.
     fn lay_out(&self, block: &mut [u8; 64], at: usize)
         requires { at + 64 < 2 ^ 64 }
         ensures { block.old ≡ bytes_at [] at 64 → block.new ≡ bytes_at (whole self.now) at 64 }

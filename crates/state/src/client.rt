@@ -4,7 +4,8 @@
 //     0               8       9           17
 //     | fragment size | state | SessionID |
 //
-// Any bytes of this number are a gateway's connection, and any such connection is this number of bytes.
+// Any bytes of this number are a gateway's connection, and any such connection is this number of bytes. It is laid out as the hub's is, part by part,
+// but has other parts.
 ghost use Rattle.std.specs.Prelude.{◌≡◌};
 ghost use Rattle.state.specs.Client.{gateway_at, gateway_bytes};
 

@@ -6,6 +6,7 @@ ghost use Rattle.wire.specs.Answers.{nothing, found_header};
 use super::header::{FoundHeader, Header, is_sealed};
 use super::refusals::Refused;
 
+// Where a part is. They are numbers, since C is handed them so (the words of `hub_read`).
 // The payload stands in the message, which was plain.
 pub const PLAIN: u8 = 0;
 // The payload stands in the working buffer, into which it was opened.
@@ -13,7 +14,8 @@ pub const OPENED: u8 = 1;
 // The part is still sealed, and stands in the message.
 pub const SEALED: u8 = 2;
 
-// What was read of a message: the refusal's number, 0 where there is none; the header; and the part: what it is, from where, how many bytes.
+// What was read of a message, in the numbers that C is handed: the refusal's number, 0 where there is none; the header; and the part: what it is,
+// from where, how many bytes.
 #[derive(Clone, Copy)]
 pub struct Found {
     pub refusal: u8,

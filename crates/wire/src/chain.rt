@@ -16,7 +16,7 @@ pub struct FoundChain {
     pub leaves: usize,
 }
 
-// What stands at the start of a chain: its end, an entry of n bytes in all, or neither.
+// What stands at the start of a chain: its end, an entry of n bytes in all, or neither: three cases, which no Option or Result has.
 #[derive(Clone, Copy)]
 pub enum Entry {
     End,

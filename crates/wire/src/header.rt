@@ -14,6 +14,7 @@ use super::chain::{FoundChain, leaves, read_chain};
 use super::refusals::{Refusal, Refused};
 use octets::numbers::{byte, number16, number32, number64};
 
+// The message types. They are bytes and no enum, since a header that is written may have any, and 5 refuses another (`WriterExact`, crates/promises).
 // Discovery: a message type.
 pub const DISCOVERY: u8 = 1;
 // Connect: a message type.

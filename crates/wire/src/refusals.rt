@@ -95,7 +95,8 @@ impl Refused {
     pub fn refusal(self) -> Refusal
         ensures { result ≡ refusal_of self }
     {
-        self.refusal
+        let Refused { refusal } = self;
+        refusal
     }
 }
 

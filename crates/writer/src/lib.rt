@@ -13,7 +13,7 @@ ghost use Rattle.writer.specs.Answers.{wrote};
 
 use wire::refusals::{Refusal, Refused};
 
-// The answer in numbers: the refusal's, 0 for none, and how many bytes were written, 0 where there is one.
+// The answer in the numbers that C is handed: the refusal's, 0 for none, and how many bytes were written, 0 where there is one.
 #[derive(Clone, Copy)]
 pub struct Wrote {
     pub refusal: u8,
