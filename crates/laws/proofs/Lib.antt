@@ -1,10 +1,8 @@
 -- SPDX-License-Identifier: MPL-2.0
 pub mod Kit
-pub mod Arms
 pub mod Tests
 pub mod ByteLists
 pub mod Firsts
-pub mod Nexts
 pub mod Lists
 pub mod Xor
 pub mod Sames

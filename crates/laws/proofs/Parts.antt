@@ -1,12 +1,12 @@
 -- SPDX-License-Identifier: MPL-2.0
 -- The bytes at a place, `bytes_at`: how many they are, that they are a part of the list where it has them, and that a list filled from
 -- its start one byte after the other comes to hold them.
-use Rattle.laws.proofs.Kit.{ℕ, zero, suc, ◌+◌, ◌≤◌, ◌<◌, ◌≡◌, refl, sym, List, [], ◌∷◌, ◌++◌, append-nil, append_assoc, length, take, drop}
-use Rattle.laws.proofs.Kit.{get_or, set, length-append, length-drop, take_at, take-suc, drop_at, drop-length, get_or-take, add-zero, add-one}
+use Rattle.laws.proofs.Kit.{ℕ, zero, suc, ◌+◌, ◌≤◌, ◌<◌, ◌≡◌, refl, List, ◌++◌, append-nil, append_assoc, length, take, drop}
+use Rattle.laws.proofs.Kit.{length-append, length-drop, take_at, take-suc, drop_at, get_or-take, add-zero}
 use Rattle.laws.proofs.Kit.{arith}
 use native.Mathlib.Nat.{add-suc, add_assoc}
-use lib.Seq.{drop-cons, get_or-drop, set_at}
-use Rattle.laws.specs.Bytes.{be8, bytes_at}
+use lib.Seq.{get_or-drop}
+use Rattle.laws.specs.Bytes.{bytes_at}
 
 pub length-bytes_at : (m : List ℕ) (at n : ℕ) → length (bytes_at m at n) ≡ n
 unfolding bytes_at
@@ -26,18 +26,6 @@ pub bytes_at-append : (m : List ℕ) (at n k : ℕ) → bytes_at m at (n + k) �
 unfolding bytes_at
 bytes_at-append m at n zero = rw (add-zero n, append-nil)
 bytes_at-append m at n (suc k) = rw (add-suc n k, bytes_at-append m at n k, append_assoc, add_assoc at n k)
-
--- One more byte of a list that holds the first i of them.
-pub filled_more : (m l : List ℕ) (at i b : ℕ) → i < length l → b ≡ be8 m (at + i)
-    → set (bytes_at m at i ++ drop i l) i b ≡ bytes_at m at (i + 1) ++ drop (i + 1) l
-unfolding bytes_at
-filled_more m l at i b h e =
-    rw (add-one, drop-cons l i 0 h, set_at (bytes_at m at i) (get_or l i 0) (drop (suc i) l) b i (length-bytes_at m at i), e)
-    (sym (append_assoc (bytes_at m at i) (be8 m (at + i) ∷ []) (drop (suc i) l)))
-
--- A list that holds as many of them as it is long.
-pub filled-all : (m l : List ℕ) (at i : ℕ) → i ≡ length l → bytes_at m at i ++ drop i l ≡ bytes_at m at (length l)
-filled-all m l at i e = rw (e, drop-length l, append-nil)
 
 -- A part that was put between two others is read back.
 pub part-back : (a x b : List ℕ) (at n : ℕ) → length a ≡ at → length x ≡ n → bytes_at (a ++ (x ++ b)) at n ≡ x

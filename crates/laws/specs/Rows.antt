@@ -21,16 +21,6 @@ abbrev pub refusal_in : {A : Type 0} → Result A ℕ → ℕ
 refusal_in (Ok a) = 0
 refusal_in (Err n) = n
 
--- One row more: what the rows above it answered, and where that is 0 its own number if its test holds. It stays shut, since it names
--- `above` twice: opened, its text would double with each row.
-unfoldable pub after : (above number : ℕ) (test : Bool) → ℕ
-after above number test = or_else above (cond test number 0)
-
--- The rows one after another from the top, as code makes them with `next` of the crate rows.
-abbrev pub down : ℕ → List (ℕ × Bool) → ℕ
-down above [] = above
-down above (row ∷ rows) = down (after above row.0 row.1) rows
-
 -- No row has the number 0.
 abbrev pub numbered : List (ℕ × Bool) → Bool
 numbered [] = true

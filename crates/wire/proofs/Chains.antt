@@ -71,9 +71,6 @@ module _ (m : List ℕ) (e : Entry) (read : e ≡ entry_of m) where
   pub span_fits : (n : ℕ) → e ≡ Spans n → n ≤ length m
   span_fits n p = (spans-within m (sym read ∙ p)).1
 
-  pub span_less : (n t : ℕ) → e ≡ Spans n → length m ≡ t → length (take (length m - n) (drop n m)) < t
-  span_less n t p q = let w = spans-within m (sym read ∙ p) in part-shorter m n t q (omega arith) w.1
-
 -- Where the tag reaches into the fixed header there is no room, and so no chain.
 pub no_room : (m : List ℕ) (tag : ℕ) → length m < 40 + tag → read_chain (room_of tag m) ≡ None
 unfolding read_chain most_entries chain entry_of room_of
