@@ -3,7 +3,8 @@
 //
 //     | size, 4 bytes | payload, size bytes | padding, each byte the number of padding bytes |
 //
-ghost use Rattle.std.specs.Prelude.{◌≡◌, ◌≤◌, ◌||◌, not, false, eqb, fold};
+ghost use Rattle.std.specs.Prelude.{◌≡◌, ◌≤◌, ◌-◌, not, drop, replicate};
+ghost use Rattle.laws.specs.Same.{same};
 ghost use Rattle.seal.specs.Padding.{padding, sealed_size, bad_blocks};
 
 use octets::numbers::number32;
@@ -24,11 +25,16 @@ pub(crate) fn padding(size: u32) -> u8
     (sealed_size(size) - 4 - size as usize) as u8
 }
 
-// Whether one of the bytes is other than `byte`. Every one is looked at.
-fn differ(bytes: &[u8], byte: u8) -> bool
-    ensures { result ≡ fold (λ bad x. bad || not (eqb x byte)) false bytes.now }
+// Whether a byte from this place on is another. All sixteen are looked at: the place is a secret, and decides no address and no branch.
+fn differ(block: &[u8; 16], from: usize, byte: u8) -> bool
+    requires { from ≤ 16 }
+    ensures { result ≡ not (same (drop from block.now) (replicate (16 - from) byte)) }
 {
-    bytes.iter().fold(false, |bad, x| bad | (*x != byte))
+    let mut bad = false;
+    for i in (0..16).rev() {
+        bad |= (from <= i) & (block[i] != byte);
+    }
+    bad
 }
 
 // Refusal 13 by the first and the last block of an opened sealed part of `size` bytes.
@@ -37,6 +43,6 @@ pub(crate) fn bad_blocks(size: usize, front: [u8; 16], end: [u8; 16]) -> bool
 {
     let told = number32(&front, 0);
     let count = padding(told);
-    let past = 16 - usize::from(count);
-    (size != sealed_size(told)) | differ(&end[past..], count)
+    let from = 16 - usize::from(count);
+    (size != sealed_size(told)) | differ(&end, from, count)
 }
