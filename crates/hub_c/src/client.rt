@@ -18,7 +18,7 @@ use state::client::{GATEWAY, decode_gateway, put_gateway};
 // The words of the request that is due.
 const DUE: usize = 1;
 
-// Puts the state of a gateway's connection over the whole of its buffer.
+// Puts the state of a gateway's connection over the whole of its buffer: as that of the hub's, but of other parts, proved by another law.
 fn put_state(state: &mut [u8], g: &Gateway)
     requires { length state.old ≡ gateway_size }
     ensures { state.new ≡ gateway_bytes g.now }
