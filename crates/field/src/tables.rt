@@ -563,14 +563,14 @@ static UNMIXING: [u64; 256] = [
     0x4257b8d0_4257b8d0,
 ];
 
-// The substitute of each byte.
+// The substitute of each byte, as one table: docs/PROMISES.md names it for the rule.
 pub fn substitution() -> [u8; 256]
     ensures { result ≡ table sbox }
 {
     SBOX
 }
 
-// The byte of which each byte is the substitute.
+// The byte of which each byte is the substitute, likewise.
 pub fn inverse_substitution() -> [u8; 256]
     ensures { result ≡ table inv_sbox }
 {

@@ -43,7 +43,7 @@ pub const READY: u8 = 3;
 // Another Result or Status came, or a verdict was 0: all is refused.
 pub const FAILED: u8 = 4;
 
-// What a step answers.
+// What a step answers: five cases, each with its number at the C boundary (`said`), so that it is no Result.
 #[derive(Clone, Copy)]
 pub enum Answer {
     // The refusal; the connection is as it was.

@@ -50,7 +50,7 @@ pub const READY: u8 = 3;
 // A verdict was 0: all is refused.
 pub const FAILED: u8 = 4;
 
-// What a step answers.
+// What a step answers: seven cases, each with its number at the C boundary (`said`), so that it is no Result.
 #[derive(Clone, Copy)]
 pub enum Answer {
     // The refusal; connection and report buffer are as they were.

@@ -1,6 +1,6 @@
 // SPDX-License-Identifier: MPL-2.0
-// A program's standard input, a part of it at a time in a buffer that is read into, taken from at the front and read into again. And what else the
-// programs share: a file read whole, the lines of a text.
+// A program's standard input, a part of it at a time in a buffer that is read into, taken from at the front and read into again. And what else
+// programs read by: as much of a file as a buffer has room for, the lines of a text.
 #![tactic(auto)]
 
 ghost use Rattle.std.specs.Prelude.{◌≡◌, ◌==◌, ◌≤◌, length, take, drop};

@@ -38,7 +38,7 @@ pub fn cut(report: &[u8], size: usize, i: usize) -> Result<usize, Refused>
     Ok(pieces)
 }
 
-// Piece i of a report; the empty part at the report's start where the cutter refuses.
+// Piece i of a report; the empty part at the report's start where the cutter refuses (`CutterExact`).
 #[tactic(auto, using(crate::proofs::Cuts::within))]
 pub fn cut_piece(report: &[u8], size: usize, i: usize) -> &[u8]
     ensures { result.now ≡ cut_piece size report.now i }

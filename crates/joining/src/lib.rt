@@ -38,7 +38,8 @@ pub struct Piece {
     pub index: usize,
 }
 
-// What the arrival of a piece is answered. Taken, Repeat and `heard` tell how many different pieces of its message have come.
+// What the arrival of a piece is answered. Taken, Repeat and `heard` tell how many different pieces of its message have come. It is no Result: it has
+// four cases, each with its number at the C boundary (`arrived`).
 #[derive(Clone, Copy)]
 pub enum Arrival {
     // The piece is refused: what is remembered is as it was.

@@ -28,7 +28,7 @@ fn part<'a>(message: &'a [u8], working: &'a [u8], found: FoundMessage) -> &'a [u
 }
 
 // Message and working buffer are lent, and a part of one of them is handed out, by what the reader answered. On a refusal that part is empty, at
-// the message's start.
+// the message's start (`PayloadHanded`).
 pub fn payload<'a>(
     message: &'a [u8],
     working: &'a [u8],

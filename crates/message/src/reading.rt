@@ -9,7 +9,8 @@ use payloads::shapes::bad_payload;
 use wire::header::{FoundHeader, Header, is_sealed, read_header};
 use wire::refusals::{Refusal, Refused};
 
-// What is found in a message: the header, and where the payload lies, in the message or, if it was sealed, in the working buffer.
+// What is found in a message: the header, and where the payload lies, in the message or, if it was sealed, in the working buffer. `sealed` is a fact
+// of the message and says nothing of whether a payload is there.
 #[derive(Clone, Copy)]
 pub struct FoundMessage {
     pub header: Header,

@@ -60,7 +60,7 @@ impl Keys<'_> {
         aes::key::expand_key(*bytes.first_chunk().unwrap())
     }
 
-    // The vector of a message: one AES block under the vector key, by the code that encrypts the sealed part.
+    // The vector of a message: one AES block under the vector key.
     #[tactic(auto, unfolding(crate::specs::Keys::vector))]
     pub(crate) fn vector(&self, message: &[u8]) -> [u8; 16]
         requires { 40 ≤ length message.now }

@@ -97,7 +97,7 @@ fn progress_at(s: &[u8]) -> Progress
     }
 }
 
-// The connection of a state. This and the three like it are no `From`: neither the connection nor the array is of this crate.
+// The connection of a state. This and the one of a gateway are no `From`: neither the connection nor the array is of this crate.
 #[tactic(auto, unfolding(crate::specs::State::connection_at))]
 pub fn decode(s: &[u8; STATE]) -> Connection
     ensures { result ≡ connection_at s.now }

@@ -31,7 +31,7 @@ pub const TAG: usize = 32;
 // The fewest bytes of a message: the fixed header and the end of its chain.
 pub const SHORTEST: usize = Header::LENGTH + 2;
 
-// The fields that a sender chooses. `kind` is MessageType, here and everywhere.
+// The fields that a sender chooses. `kind` is MessageType.
 #[derive(Clone, Copy)]
 pub struct Header {
     pub kind: u8,
@@ -167,7 +167,8 @@ fn chain_of(message: &[u8], tag: usize) -> Option<FoundChain>
     read_chain(&message[Header::LENGTH..end])
 }
 
-// The table, over the bytes given and what was read of them: the first refusal that applies.
+// The table, over the bytes given and what was read of them: the first refusal that applies. The chain comes as `header_rows` has it: whether it is
+// broken, and what it leaves.
 #[tactic(auto, unfolding(crate::specs::Reader::header_rows))]
 fn judge(
     given: usize,

@@ -63,7 +63,7 @@ pub enum Refusal {
     // tests/refusals/write: end
 }
 
-// A refusal that was answered. Contracts see it as its number in document 01.
+// A refusal that was answered. Contracts see it as its number in document 01; an enum by itself can have no such model, so that this is a struct.
 #[derive(Clone, Copy, PartialEq, Eq)]
 pub struct Refused {
     refusal: Refusal,
