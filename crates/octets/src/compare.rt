@@ -1,11 +1,26 @@
 // SPDX-License-Identifier: MPL-2.0
 // Bytes compared.
-ghost use Rattle.std.specs.Prelude.{◌≡◌};
+ghost use Rattle.std.specs.Prelude.{◌≡◌, ◌&&◌, true, eqb};
+ghost use Rattle.std.specs.List.{fold, zip};
 ghost use Rattle.laws.specs.Same.{same};
 
-// The two have the same bytes. std compares sixteen at once: 16,384 that are the same take 6,194 instructions, a loop over all of them took 6,188.
+// As far as both go they have the same bytes. All are compared, also past a difference: so it is done sixteen at once, and a few as fast as they
+// come.
+fn agreeing(a: &[u8], b: &[u8]) -> bool
+    ensures { result ≡ fold (λ are pair. are && eqb pair.0 pair.1) true (zip a.now b.now) }
+{
+    a.iter()
+        .zip(b)
+        .fold(true, |are, (one, other)| are & (*one == *other))
+}
+
+// The two have the same bytes.
+#[tactic(auto, using(laws::proofs::Sames::same_length))]
 pub fn alike(a: &[u8], b: &[u8]) -> bool
     ensures { result ≡ same a.now b.now }
 {
-    a == b
+    if a.len() != b.len() {
+        return false;
+    }
+    agreeing(a, b)
 }

@@ -14,15 +14,20 @@ pub fn store8(out: &mut [u8], at: usize, x: u8)
     }
 }
 
-// Puts a run of bytes: as many as there is room for.
-#[tactic(auto, using(crate::proofs::Places::lent, crate::proofs::Places::past))]
+// Puts a run of bytes: as many as there is room for. Where there is room for all, the copy has their own length, which is known where a number is
+// put: a number is then stored at once, and not by a call.
 pub fn store_bytes(out: &mut [u8], at: usize, bytes: &[u8])
     ensures { out.new ≡ sets out.old at bytes.now }
 {
-    if at < out.len() {
-        let n = bytes.len().min(out.len() - at);
-        out[at..at + n].copy_from_slice(&bytes[..n]);
+    if out.len() < at {
+        return;
     }
+    let room = out.len() - at;
+    if room < bytes.len() {
+        out[at..].copy_from_slice(&bytes[0..room]);
+        return;
+    }
+    out[at..at + bytes.len()].copy_from_slice(bytes);
 }
 
 // Puts a number in two bytes.
