@@ -39,3 +39,7 @@ or-none false = refl
 pub or-true : (a : Bool) → (a || true) ≡ true
 or-true true = refl
 or-true false = refl
+
+pub and-or : (a b c : Bool) → (a && (b || c)) ≡ ((a && b) || (a && c))
+and-or true b c = refl
+and-or false b c = refl

@@ -1,4 +1,5 @@
 -- SPDX-License-Identifier: MPL-2.0
+pub mod Steps
 pub mod Widths
 pub mod Entries
 pub mod Formats

@@ -1,6 +1,5 @@
 // SPDX-License-Identifier: MPL-2.0
 // The shapes of the payloads of Discovery and Connect: refusal 14.
-#![tactic(auto, unfolding(crate::specs::Format::accepts_from, crate::specs::Format::holds_from, crate::specs::Format::ends_from))]
 
 ghost use Rattle.std.specs.Prelude.{◌≡◌, ◌&&◌, ◌||◌, leb, eqb};
 ghost use Rattle.laws.specs.Bytes.{be8, be16};
