@@ -67,18 +67,29 @@ module _ (s t : Term) where
         let bits : eval w s % 2 ≡ eval w t % 2 = rw (odd w s, odd w t, o) (on-bits (x % 2) (y % 2) (z % 2) (last x) (last y) (last z)) in
         omega (arith, halves, bits)
 
-module _ (x y z : ℕ) (hx : x < 2 ^ 32) (hy : y < 2 ^ 32) (hz : z < 2 ^ 32) where
-  -- (x ∧ y) ⊕ (x ∧ z) ⊕ (y ∧ z) = ((x ⊕ y) ∧ (y ⊕ z)) ⊕ y
-  pub maj_by : Maj x y z ≡ bit_xor (bit_and (bit_xor x y) (bit_xor y z)) y
-  unfolding Maj eval
-  maj_by =
-      on-words (xor (xor (and (word 0) (word 2)) (and (word 0) (word 3))) (and (word 2) (word 3)))
-      (xor (and (xor (word 0) (word 2)) (xor (word 2) (word 3))) (word 2))
-      refl refl refl refl refl refl refl refl refl 32 x _ y z hx hy hz refl
+-- Of any width.
+module _ (k x y z : ℕ) (hx : x < 2 ^ k) (hy : y < 2 ^ k) (hz : z < 2 ^ k) where
+  -- ((x ⊕ y) ∧ (y ⊕ z)) ⊕ y = (x ∧ y) ⊕ (x ∧ z) ⊕ (y ∧ z)
+  pub maj-by : bit_xor (bit_and (bit_xor x y) (bit_xor y z)) y ≡ bit_xor (bit_xor (bit_and x y) (bit_and x z)) (bit_and y z)
+  unfolding eval
+  maj-by =
+      on-words (xor (and (xor (word 0) (word 2)) (xor (word 2) (word 3))) (word 2))
+      (xor (xor (and (word 0) (word 2)) (and (word 0) (word 3))) (and (word 2) (word 3)))
+      refl refl refl refl refl refl refl refl refl k x _ y z hx hy hz refl
 
-  -- (x ∧ y) ⊕ (¬x ∧ z) = z ⊕ (x ∧ (y ⊕ z))
+  -- z ⊕ (x ∧ (y ⊕ z)) = (x ∧ y) ⊕ (¬x ∧ z)
+  pub ch-by : bit_xor z (bit_and x (bit_xor y z)) ≡ bit_xor (bit_and x y) (bit_and ((2 ^ k - 1) - x) z)
+  unfolding eval
+  ch-by =
+      on-words (xor (word 3) (and (word 0) (xor (word 2) (word 3)))) (xor (and (word 0) (word 2)) (and (word 1) (word 3)))
+      refl refl refl refl refl refl refl refl refl k x _ y z hx hy hz refl
+
+-- Of the words of SHA-256, as FIPS 180-4 names the two.
+module _ (x y z : ℕ) (hx : x < 2 ^ 32) (hy : y < 2 ^ 32) (hz : z < 2 ^ 32) where
+  pub maj_by : Maj x y z ≡ bit_xor (bit_and (bit_xor x y) (bit_xor y z)) y
+  unfolding Maj
+  maj_by = sym (maj-by 32 x y z hx hy hz)
+
   pub ch_by : Ch x y z ≡ bit_xor z (bit_and x (bit_xor y z))
-  unfolding Ch complement eval
-  ch_by =
-      on-words (xor (and (word 0) (word 2)) (and (word 1) (word 3))) (xor (word 3) (and (word 0) (xor (word 2) (word 3))))
-      refl refl refl refl refl refl refl refl refl 32 x _ y z hx hy hz refl
+  unfolding Ch complement
+  ch_by = sym (ch-by 32 x y z hx hy hz)

@@ -1,7 +1,7 @@
 -- SPDX-License-Identifier: MPL-2.0
 -- Bytes put into others, a number's bytes, and a padding, made by stores.
-use Rattle.laws.proofs.Kit.{ℕ, ◌+◌, ◌-◌, ◌*◌, ◌^◌, ◌≤◌, ◌<◌, ◌≡◌, List, ◌∷◌, ◌++◌, length, take, set, replicate, length-append, length-replicate}
-use Rattle.laws.proofs.Kit.{sets, take_at, arith}
+use Rattle.laws.proofs.Kit.{ℕ, ◌+◌, ◌-◌, ◌*◌, ◌^◌, ◌≤◌, ◌<◌, ◌≡◌, refl, List, ◌∷◌, ◌++◌, length, take, set, replicate, length-append}
+use Rattle.laws.proofs.Kit.{length-replicate, sets, take_at, arith}
 use borrow.Rule.Slice.PartMut.{put_mid}
 use lib.Seq.{sets-eq}
 use Rattle.std.specs.Int.{w32, w64, to_be_bytes}
@@ -22,15 +22,18 @@ pub be_bytes64 : (x : ℕ) → x < 2 ^ 64 → to_be_bytes w64 x ≡ bytes64 x
 be_bytes64 x h = grind arith
 
 -- a first byte, zeros, and a run of stores after them
+pub padding-by : (x z r : ℕ) (bs p : List ℕ) → p ≡ sets (set (replicate 72 0) 0 x) (1 + r) bs → r ≡ z → z < 64 → length bs ≡ 8
+    → take (9 + z) p ≡ x ∷ (replicate z 0 ++ bs)
+padding-by x z r bs p e er h l =
+    let q = x ∷ replicate z 0 in
+    let n : length q ≡ 1 + z = omega (arith, length-replicate {A = ℕ} z 0) in
+    let m : length (q ++ bs) ≡ 9 + z = rw length-append (omega arith) in
+    let s : 1 + z + length bs ≤ length (q ++ replicate (71 - z) 0) = rw length-append (omega (arith, length-replicate {A = ℕ} (71 - z) 0)) in
+    rw (e, er, zeros-split z 71 (omega arith), sets-eq bs (q ++ replicate (71 - z) 0) (1 + z) s, take_at q (replicate (71 - z) 0) (1 + z) n)
+    (take_at (q ++ bs) _ (9 + z) m)
+
+-- so the padding of a message of this many bytes
 pub padding_by : (r total : ℕ) (bs p : List ℕ) → p ≡ sets (set (replicate 72 0) 0 0x80) (1 + r) bs → r ≡ zeros total
     → bs ≡ bytes64 (8 * total) → take (9 + r) p ≡ padding total
 unfolding padding
-padding_by r total bs p e er h =
-    let q : List ℕ = 0x80 ∷ replicate r 0 in
-    let z : r < 64 = omega arith in
-    let l : length bs ≡ 8 = rw h in
-    let n : length q ≡ 1 + r = omega (arith, length-replicate {A = ℕ} r 0) in
-    let m : length (q ++ bs) ≡ 9 + r = rw length-append (omega arith) in
-    let s : 1 + r + length bs ≤ length (q ++ replicate (71 - r) 0) = rw length-append (omega (arith, length-replicate {A = ℕ} (71 - r) 0)) in
-    rw (e, zeros-split r 71 (omega arith), sets-eq bs (q ++ replicate (71 - r) 0) (1 + r) s, take_at q (replicate (71 - r) 0) (1 + r) n)
-    (rw (take_at (q ++ bs) _ (9 + r) m, ← er, ← h))
+padding_by r total bs p e er h = let z : r < 64 = omega arith in rw (← er, ← h) (padding-by 0x80 r r bs p e refl z (rw h))
