@@ -5,7 +5,6 @@ use Rattle.laws.proofs.Kit.{ℕ, zero, suc, ◌+◌, ◌-◌, ◌≤◌, ◌<◌
 use Rattle.laws.specs.Runs.{run}
 use Rattle.laws.proofs.Runs.{run_length, run-from-zero, run_is}
 use Rattle.std.specs.Prelude.{map}
-use mathlib.Core.Logic.{◌⊎◌, inl, inr}
 use Rattle.std.proofs.lemmas.List.{get_or-map, length-map}
 use Rattle.field.specs.Xor.{xor}
 use Rattle.field.specs.Sbox.{sbox, inv_sbox}
@@ -19,7 +18,7 @@ use Rattle.aes.specs.declared.columns.State.{State}
 use Rattle.aes.specs.State.{block, Keys, sub_bytes, shifted, shift_rows, down, mix_columns, add_round_key}
 use Rattle.aes.specs.State.{unshifted, inv_shift_rows, inv_sub_bytes, inv_mix_columns}
 use Rattle.aes.specs.Words.{bytes_of, sum, reversed, reversed_bytes, rows_added, substituted, round_words, last_words, no_words}
-use Rattle.aes.specs.Words.{rounds_left, by_tables}
+use Rattle.aes.specs.Words.{rounds_left}
 use Rattle.aes.specs.Cipher.{rounds, cipher, unrounds, inv_cipher, keys_back, eq_key, eq_keys}
 use Rattle.aes.proofs.Steps.{sub-block, shift-block, mix-block, unsub-block, unshift-block, unmix-block, unmix-add}
 use Rattle.aes.proofs.StateWords.{bytes_of-block, columns-bytes, columns-added, words-added}
@@ -94,10 +93,9 @@ module _ (t f : ℕ → ℕ) (ks : List State) where
   unfolding rounds_left
   none-left s = refl
 
-  pub all-done : (b s₀ s r : State) (n : ℕ) → n ≤ 0 → s₀ ≡ sum b (get_or ks 10 no_words) → rounds_left t f ks n s ≡ rounds_left t f ks 9 s₀
-      → r ≡ last_words f s (get_or ks 0 no_words) → r ≡ by_tables t f ks b
-  unfolding by_tables
-  all-done b s₀ s r n h begun left ended = let z : n ≡ 0 = omega arith in ended ∙ none-left s ∙ rw (z, begun) at left
+  pub all-done : (s₀ s r : State) (n : ℕ) → n ≤ 0 → rounds_left t f ks n s ≡ rounds_left t f ks 9 s₀
+      → r ≡ last_words f s (get_or ks 0 no_words) → r ≡ rounds_left t f ks 9 s₀
+  all-done s₀ s r n h left ended = let z : n ≡ 0 = omega arith in ended ∙ none-left s ∙ rw z at left
 
 -- ---- the round keys as words
 
@@ -113,13 +111,9 @@ key_at f g w e n h =
     sym (get_or-map f w n no_words [] (omega arith)) ∙ rw e (run-from-zero g 11 n [] h)
 
 module _ (ks : List (List ℕ)) where
-  at_ends : (eq_key ks 0 ≡ get_or ks 0 []) × (eq_key ks 10 ≡ get_or ks 10 [])
+  pub at_ends : (eq_key ks 0 ≡ get_or ks 0 []) × (eq_key ks 10 ≡ get_or ks 10 [])
   unfolding eq_key
   at_ends = (refl, refl)
-
-  pub at_end : (n : ℕ) → n < 11 → ((0 < n) × (10 ≤ n)) ⊎ (n ≤ 0) → eq_key ks n ≡ get_or ks n []
-  at_end n h (inl g) = let z : n ≡ 10 = omega arith in rw (z, at_ends.1)
-  at_end n h (inr g) = let z : n ≡ 0 = omega arith in rw (z, at_ends.0)
 
   pub between : (n : ℕ) → 0 < n → n < 10 → eq_key ks n ≡ inv_mix_columns (get_or ks n [])
   unfolding eq_key
@@ -141,8 +135,8 @@ module _ (ks : List (List ℕ)) (w : List State) (e : map reversed_bytes w ≡ k
       left-forth b n (suc i) (omega arith) (round_words mixes s (get_or w (suc n) no_words))
       (rw (words-forth, key-forth (suc n) (suc i) (omega arith), g))
 
-  pub encrypted : (s : State) → reversed_bytes (by_tables mixes sbox w s) ≡ cipher ks (reversed_bytes s)
-  unfolding by_tables cipher rounds
+  pub encrypted : (s : State) → reversed_bytes (rounds_left mixes sbox w 9 (sum s (get_or w 10 no_words))) ≡ cipher ks (reversed_bytes s)
+  unfolding cipher rounds
   encrypted s =
       left-forth (add_round_key (reversed_bytes s) (get_or ks 0 [])) 9 0 refl _ (sums-forth s (get_or w 10 no_words) ∙ rw (key-forth 10 0 refl))
 
@@ -166,6 +160,6 @@ module _ (ks : List (List ℕ)) (hk : Keys ks) (w : List State) (e : map bytes_o
         ← unmix-add _ _ x k,
       )
 
-  pub decrypted : (s : State) → bytes_of (by_tables unmixes inv_sbox w s) ≡ inv_cipher ks (bytes_of s)
-  unfolding by_tables inv_cipher
+  pub decrypted : (s : State) → bytes_of (rounds_left unmixes inv_sbox w 9 (sum s (get_or w 10 no_words))) ≡ inv_cipher ks (bytes_of s)
+  unfolding inv_cipher
   decrypted s = left-back 9 (omega arith) _ ∙ rw (sums-back, key-back 10 (lit< tt), (at_ends ks).1)

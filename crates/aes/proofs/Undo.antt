@@ -14,6 +14,15 @@ pub cipher-length : (ks : List (List ℕ)) (b : List ℕ) → length (cipher ks 
 unfolding cipher
 cipher-length ks b = add-length _ _
 
+unrounds-length : (ks : List (List ℕ)) (n : ℕ) (s : List ℕ) → length (unrounds ks n s) ≡ 16
+unfolding unrounds
+unrounds-length ks zero s = add-length _ _
+unrounds-length ks (suc n) s = unrounds-length ks n _
+
+pub inv_cipher-length : (ks : List (List ℕ)) (b : List ℕ) → length (inv_cipher ks b) ≡ 16
+unfolding inv_cipher
+inv_cipher-length ks b = unrounds-length ks 9 _
+
 -- ---- decryption undoes encryption
 
 module _ (ks : List (List ℕ)) (hk : Keys ks) (b : List ℕ) (hb : Block b) where

@@ -62,7 +62,3 @@ no_words = record { a = 0; b = 0; c = 0; d = 0 }
 unfoldable pub rounds_left : (ℕ → ℕ) → (ℕ → ℕ) → List State → ℕ → State → State
 rounds_left t f ks zero s = last_words f s (get_or ks 0 no_words)
 rounds_left t f ks (suc n) s = rounds_left t f ks n (round_words t s (get_or ks (suc n) no_words))
-
--- A direction on words: a round key added, nine rounds by the table of words t, and the last by the table of bytes f.
-unfoldable pub by_tables : (ℕ → ℕ) → (ℕ → ℕ) → List State → State → State
-by_tables t f ks b = rounds_left t f ks 9 (sum b (get_or ks 10 no_words))

@@ -5,7 +5,7 @@ ghost use Rattle.aes.specs.State.{Keys, load_block};
 ghost use Rattle.aes.specs.Words.{bytes_of, reversed_bytes};
 ghost use Rattle.aes.specs.Cipher.{cipher, inv_cipher, keys_back, eq_keys};
 
-use super::columns::{State, bytes_of, reversed_bytes, reversed_words, words};
+use super::columns::{State, add, bytes_of, reversed_bytes, reversed_words, words};
 use super::roundkeys::{inverse_words, key_words};
 use super::rounds::{Back, Forth, crypt};
 
@@ -38,7 +38,7 @@ pub(crate) fn encrypt(keys: &[State; 11], b: State) -> State
     ensures { (ks : List (List ℕ)) → map reversed_bytes keys.now ≡ keys_back ks
         → reversed_bytes result ≡ cipher ks (reversed_bytes b) }
 {
-    crypt::<Forth>(keys, b)
+    crypt::<Forth>(keys, add(b, keys[10]))
 }
 
 // InvCipher() on four words, as EqInvCipher() (5.3.5), by the words of its own round keys.
@@ -48,7 +48,7 @@ pub(crate) fn decrypt(keys: &[State; 11], b: State) -> State
     ensures { (ks : List (List ℕ)) → Keys ks → map bytes_of keys.now ≡ eq_keys ks
         → bytes_of result ≡ inv_cipher ks (bytes_of b) }
 {
-    crypt::<Back>(keys, b)
+    crypt::<Back>(keys, add(b, keys[10]))
 }
 
 // Cipher().
@@ -62,5 +62,5 @@ pub fn encrypt_block(keys: [[u8; 16]; 11], block: [u8; 16]) -> [u8; 16]
 pub fn decrypt_block(keys: [[u8; 16]; 11], block: [u8; 16]) -> [u8; 16]
     ensures { result ≡ inv_cipher keys block }
 {
-    bytes_of(decrypt(&inverse_words(keys), words(block)))
+    bytes_of(decrypt(&inverse_words(&keys), words(block)))
 }

@@ -65,7 +65,7 @@ pub fn cbc_decrypt(keys: [[u8; 16]; 11], vector: [u8; 16], source: &[u8], target
     if source.len() % 16 != 0 || target.len() < source.len() {
         return false;
     }
-    let w = inverse_words(keys);
+    let w = inverse_words(&keys);
     let mut v = words(vector);
     for (n, block) in source.as_chunks::<16>().0.iter().enumerate() {
         let x = words(*block);
@@ -94,7 +94,7 @@ pub fn cbc_decrypt_ends(
 ) -> Ends
     ensures { (result.first ≡ cbc_decrypt_block keys vector first) × (result.last ≡ cbc_decrypt_block keys before last) }
 {
-    let w = inverse_words(keys);
+    let w = inverse_words(&keys);
     let a = decrypt(&w, words(first));
     let b = decrypt(&w, words(last));
     Ends {

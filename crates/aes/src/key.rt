@@ -34,7 +34,8 @@ fn sub_word(w: u32) -> u32
 fn next_key(k: State, c: u8) -> State
     ensures { bytes_of result ≡ next_key (bytes_of k) c }
 {
-    let x = k.a ^ sub_word(up1(k.d)) ^ u32::from(c);
+    let turned = up1(k.d);
+    let x = k.a ^ sub_word(turned) ^ u32::from(c);
     let y = k.b ^ x;
     let z = k.c ^ y;
     State {

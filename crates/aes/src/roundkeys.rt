@@ -35,14 +35,17 @@ fn inverse_key(keys: &[[u8; 16]; 11], n: usize) -> State
     ensures key { bytes_of result ≡ eq_key keys.now n }
     ensures is_block { Block (get_or keys.now n []) }
 {
-    let k = words(keys[n]);
-    if 0 < n && n < 10 { unmixed(k) } else { k }
+    match n {
+        0 => words(keys[0]),
+        10 => words(keys[10]),
+        _ => unmixed(words(keys[n])),
+    }
 }
 
 // Those of EqInvCipher(). The keys are blocks, as its callers cite.
-pub(crate) fn inverse_words(keys: [[u8; 16]; 11]) -> [State; 11]
-    ensures words { map bytes_of result ≡ eq_keys keys }
-    ensures are_blocks { Keys keys }
+pub(crate) fn inverse_words(keys: &[[u8; 16]; 11]) -> [State; 11]
+    ensures words { map bytes_of result ≡ eq_keys keys.now }
+    ensures are_blocks { Keys keys.now }
 {
-    array::from_fn(|n| inverse_key(&keys, n))
+    array::from_fn(|n| inverse_key(keys, n))
 }

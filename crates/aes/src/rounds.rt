@@ -9,9 +9,9 @@
 ghost use Rattle.std.specs.Prelude.{◌≡◌, ◌<◌, ℕ};
 ghost use Rattle.field.specs.Sbox.{sbox, inv_sbox};
 ghost use Rattle.field.specs.Words as words;
-ghost use Rattle.aes.specs.Words.{rows_added, substituted, round_words, last_words, by_tables};
+ghost use Rattle.aes.specs.Words.{rows_added, substituted, round_words, last_words, rounds_left};
 
-use super::columns::{State, add};
+use super::columns::State;
 use field::tables::{mixing, substitute, unmixing, unsubstitute};
 
 // A direction: what its rounds look up.
@@ -121,13 +121,13 @@ fn last_round<D: Direction>(s: State, k: State) -> State
     }
 }
 
-// All rounds on four words: round key n is added where n more rounds come. The hint keeps them within the loop of a chain, though they have more
-// callers: without it 16 KiB took 622,007 instructions to decrypt, by valgrind, with it 584,165.
+// All rounds on four words, to which the first key was added: round key n is added where n more rounds come. The hint keeps them within the loop of a
+// chain, though they have more callers: without it 16 KiB took 622,007 instructions to decrypt, by valgrind, with it 584,165.
 #[inline(always)]
-pub(crate) fn crypt<D: Direction>(keys: &[State; 11], b: State) -> State
-    ensures { result ≡ by_tables D.of_word D.of_byte keys.now b }
+pub(crate) fn crypt<D: Direction>(keys: &[State; 11], begun: State) -> State
+    ensures { result ≡ rounds_left D.of_word D.of_byte keys.now 9 begun }
 {
-    let mut s = add(b, keys[10]);
+    let mut s = begun;
     for n in (0..9).rev() {
         s = round::<D>(s, keys[n + 1]);
     }

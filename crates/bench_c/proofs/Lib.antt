@@ -1,2 +1,3 @@
 -- SPDX-License-Identifier: MPL-2.0
 pub mod Courses
+pub mod Fronts

@@ -8,4 +8,4 @@ pub loop-n-preserved : goal.loop-n-preserved
 loop-n-preserved g c = one-less _ _ _ _ _ _ c.loop-n-test.true c.round-s.ensures ∙ c.loop-n.invariant
 
 pub returns : goal.returns
-returns g c = all-done _ _ _ _ _ _ _ _ c.loop-n-test.false c.add-s.ensures c.loop-n.invariant c.last_round.ensures
+returns g c = all-done _ _ _ _ _ _ _ c.loop-n-test.false c.loop-n.invariant c.last_round.ensures

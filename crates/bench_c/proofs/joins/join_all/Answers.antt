@@ -1,6 +1,6 @@
 -- SPDX-License-Identifier: MPL-2.0
 -- The course of the pieces, one after the other.
-use Rattle.laws.proofs.Kit.{refl, arith, rules}
+use Rattle.laws.proofs.Kit.{refl, rules}
 use Rattle.bench_c.specs.Course.{course}
 use Rattle.bench_c.proofs.Courses.{came-more}
 use Rattle.bench_c.proofs.joins.join_all.Goals as goal
