@@ -7,21 +7,21 @@ use Rattle.laws.proofs.Kit.{ℕ, ◌+◌, ◌-◌, ◌≤◌, ◌<◌, ◌≡◌
 use Rattle.laws.proofs.Kit.{take_at, length-take-le, ne_eqb, eqb-true, le-ltb, ltb-false, not-false, arith}
 use borrow.Rule.Slice.PartMut.{put_mid, Post-is}
 use Rattle.laws.specs.Bytes.{bytes_at}
-use Rattle.laws.specs.Rows.{first, or_else, unless}
+use Rattle.laws.specs.Rows.{first, or_else, unless, test_of}
 use Rattle.laws.proofs.Refusals.{passed}
 use Rattle.seal.specs.Opening.{key_rows}
 use Rattle.seal.proofs.Opened.{some, given}
 use Rattle.laws.proofs.Parts.{bytes_at-take}
 use Rattle.laws.proofs.Stores.{put-after}
 use Rattle.laws.proofs.Firsts.{first-append, row-false}
-use Rattle.wire.specs.Refusals.{wrong_keys, no_room}
+use Rattle.wire.specs.Refusals.{too_short, wrong_length, wrong_keys, no_room}
 use Rattle.sha256.proofs.Lengths.{length-hmac}
 use Rattle.aes.specs.Key.{expand_key}
 use Rattle.aes.specs.Cbc.{cbc_encrypt}
 use Rattle.aes.proofs.Chain.{cbc_encrypt-length}
 use Rattle.seal.specs.Keys.{encryption_key, tag_key, vector_block, vector, tag_of}
 use Rattle.seal.specs.Padding.{sealed_size, plain_text}
-use Rattle.seal.specs.Sealed.{sealed_body, sealed_message, body_rows, room_rows, seal_refusal, sealed_into}
+use Rattle.seal.specs.Sealed.{sealed_body, sealed_message, body_rows, room_rows, seal_rows, seal_refusal, sealed_into}
 use Rattle.seal.proofs.Padded.{sizes, length-plain_text, plain_text-blocks}
 
 -- The vector looks at the header alone.
@@ -66,6 +66,21 @@ pub record Fit (keys start size room : ℕ) : Type 0 where
   pub short : start + sealed_size size ≤ 65503
   pub small : size < 65536
   pub roomy : start + sealed_size size + 32 ≤ room
+
+pub fit : (keys start size room : ℕ) → seal_refusal keys start size room ≡ 0 → Fit keys start size room
+unfolding seal_refusal
+fit keys start size room e =
+    let rows = seal_rows keys start size room in
+    let at : (n : ℕ) → test_of n rows ≡ false = λ n. row-false n rows refl e in
+    let short = ltb-false 65503 (start + sealed_size size) (at wrong_length) in
+    let s = sizes size in
+    record {
+      keys64 = eqb-true keys 64 (not-false _ (at wrong_keys));
+      past = ltb-false start 42 (at too_short);
+      short = short;
+      small = omega arith;
+      roomy = ltb-false room (start + sealed_size size + 32) (at no_room);
+    }
 
 pub fit-allowed : (keys start size room : ℕ) → Fit keys start size room → seal_refusal keys start size room ≡ 0
 unfolding seal_refusal

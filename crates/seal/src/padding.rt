@@ -25,7 +25,8 @@ pub(crate) fn padding(size: u32) -> u8
     (sealed_size(size) - 4 - size as usize) as u8
 }
 
-// Whether a byte from this place on is another. All sixteen are looked at: the place is a secret, and decides no address and no branch.
+// Whether a byte from this place on is another. All sixteen are looked at: the place is a secret, and decides no address and no branch here. That
+// there is another byte, which 13 says, may decide a branch of what is compiled.
 fn differ(block: &[u8; 16], from: usize, byte: u8) -> bool
     requires { from ≤ 16 }
     ensures { result ≡ not (same (drop from block.now) (replicate (16 - from) byte)) }
