@@ -40,6 +40,8 @@ function block(kind,    i, width, name) {
         name = camel(names[i])
         if (kind == "faults")
             printf "    // %s.\n    %s = %d,\n", capital(document[i]), name, i
+        else if (kind == "rows")
+            printf "    Refusal::%s,\n", name
         else if (kind == "definitions")
             printf "-- %s\nabbrev pub %s : ℕ\n%s = %d\n\n", document[i], snake(names[i]), snake(names[i]), i
         else if (kind == "numbers")

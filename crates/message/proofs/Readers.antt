@@ -4,7 +4,7 @@ use Rattle.laws.proofs.Kit.{ℕ, ◌+◌, ◌-◌, ◌%◌, ◌≤◌, ◌≡◌
 use Rattle.laws.proofs.Kit.{length-append, eqb, not-false, add-sub_cancel_left, arith}
 use Rattle.laws.specs.Bytes.{be32}
 use Rattle.std.specs.Prelude.{Result, Ok, Err}
-use Rattle.laws.specs.Rows.{first, unless}
+use Rattle.laws.specs.Rows.{unless}
 use Rattle.laws.proofs.Bools.{or-false}
 use Rattle.laws.proofs.Cases.{on}
 use Rattle.laws.proofs.Refusals.{passed, refused}
@@ -16,7 +16,7 @@ use Rattle.seal.specs.Padding.{sealed_size, bad_plain}
 use Rattle.seal.specs.Opening.{sealed_part, plain_of, open_refusal, into_unless, opened_into}
 use Rattle.seal.proofs.Accepted.{accepted, Held, opened-held}
 use Rattle.seal.proofs.Padded.{sizes}
-use Rattle.message.specs.Reading.{opened, payload_rows, in_working, sealed_read}
+use Rattle.message.specs.Reading.{opened, in_working, sealed_read}
 use Rattle.message.specs.declared.reading.FoundMessage.{FoundMessage}
 
 -- A payload that was opened lies in the working buffer: the sealed part does, it is as long as what was opened, and that holds the payload.

@@ -3,7 +3,7 @@
 use Rattle.laws.proofs.Kit.{ℕ, zero, suc, ◌+◌, ◌-◌, ◌≤◌, ◌<◌, ◌≡◌, refl, sym, ◌∙◌, false, true≢false, not, List, length, take, drop, length-take}
 use Rattle.laws.proofs.Kit.{length-drop, eqb, ltb, ltb-false, arith}
 use Rattle.laws.specs.Bytes.{be8}
-use Rattle.laws.proofs.Lists.{part-from, part-shorter}
+use Rattle.laws.proofs.Lists.{part-from}
 use Rattle.laws.proofs.Cases.{on}
 use Rattle.laws.proofs.Bools.{or-false}
 use native.Mathlib.Numerals.{sub-one}

@@ -63,10 +63,42 @@ pub enum Refusal {
     // tests/refusals/write: end
 }
 
-// A refusal that was answered. Contracts see it as its number in document 01; an enum by itself can have no such model, so that this is a struct.
+// All of them, in the order of their numbers.
+static REFUSALS: [Refusal; 25] = [
+    // tests/refusals/write: rows
+    Refusal::TooShort,
+    Refusal::WrongSignature,
+    Refusal::WrongLength,
+    Refusal::WrongVersion,
+    Refusal::WrongType,
+    Refusal::WrongFlags,
+    Refusal::WrongPiece,
+    Refusal::WrongChain,
+    Refusal::WrongSealedSize,
+    Refusal::WrongKeys,
+    Refusal::WrongTag,
+    Refusal::ShortWorking,
+    Refusal::WrongPadding,
+    Refusal::WrongPayload,
+    Refusal::NotAllowed,
+    Refusal::OtherSession,
+    Refusal::PastSequence,
+    Refusal::FutureSequence,
+    Refusal::LastSequence,
+    Refusal::WrongPieceSize,
+    Refusal::UnlikeFirstPiece,
+    Refusal::NoRoom,
+    Refusal::UnlikeRepeat,
+    Refusal::WrongFragmentSize,
+    Refusal::WrongVerdict,
+    // tests/refusals/write: end
+];
+
+// A refusal that was answered, by its number, which is what contracts see of it. Any byte may stand there: whoever is handed an answer, and asks what
+// it says, is answered for every number, also one that no row has.
 #[derive(Clone, Copy, PartialEq, Eq)]
 pub struct Refused {
-    refusal: Refusal,
+    number: u8,
 }
 
 impl Model for Refused {
@@ -74,13 +106,9 @@ impl Model for Refused {
 
     ghost Value = { ℕ };
 
-    ghost use Rattle.wire.specs.Refusals.{number, refusal_of, refusal_of-number};
+    ghost view = { λ r. r.number };
 
-    ghost view = { λ r. number r.refusal };
-
-    ghost inverse = { λ n. record { refusal = refusal_of n } };
-
-    ghost inverse_ok = { λ r h i. record { refusal = refusal_of-number r.refusal i } };
+    ghost inverse = { λ n. record { number = n } };
 }
 
 impl Refused {
@@ -88,15 +116,18 @@ impl Refused {
     pub fn number(self) -> u8
         ensures { result ≡ self }
     {
-        self.refusal as u8
+        self.number
     }
 
-    // The row of the table.
+    // The row of the table; of a number that no row has, the first.
     pub fn refusal(self) -> Refusal
         ensures { result ≡ refusal_of self }
     {
-        let Refused { refusal } = self;
-        refusal
+        let row = usize::from(self.number).saturating_sub(1);
+        if row < 25 {
+            return REFUSALS[row];
+        }
+        Refusal::TooShort
     }
 }
 
@@ -104,7 +135,17 @@ impl From<Refusal> for Refused {
     ghost from_gives = { λ refusal refused. refused ≡ number refusal };
 
     fn from(refusal: Refusal) -> Refused {
-        Refused { refusal }
+        Refused {
+            number: refusal as u8,
+        }
+    }
+}
+
+impl From<u8> for Refused {
+    ghost from_gives = { λ number refused. refused ≡ number };
+
+    fn from(number: u8) -> Refused {
+        Refused { number }
     }
 }
 
