@@ -4,8 +4,6 @@ use Rattle.laws.proofs.Kit.{ℕ, ◌+◌, ◌≡◌, List, eqb-true}
 use Rattle.laws.proofs.Firsts.{◌also◌, first-row}
 use Rattle.wire.specs.declared.header.Header.{Header}
 use Rattle.payloads.specs.Reading.{connect_type, code_of}
-use Rattle.payloads.specs.declared.types.ConnectType.{ConnectType}
-use Rattle.payloads.specs.declared.types.ConnectType.TheVariants.{DeviceRequest, DoneRequest}
 use Rattle.message.specs.Reading.{working_after}
 use Rattle.message.specs.Handed.{payload}
 use Rattle.std.specs.Prelude.{Ok, Option}
@@ -18,12 +16,11 @@ use Rattle.gateway.specs.declared.Answer.TheVariants.{Next, Ready, Failed, Again
 use Rattle.gateway.specs.Client.{stepped, refuse, in_state, replied_rows, replied, take_rows, take, client_rows, client}
 use Rattle.gateway.specs.Step.{hear_rows, hear, step}
 
-module _ (g : Gateway) (G : Stepped → Type 0) (not-allowed : G (refuse g 15)) (again : (d : Option ConnectType) → G (stepped g (Again d)))
-    (fails : G (stepped (in_state g 4) Failed)) (first : g.state ≡ 0 → G (stepped (in_state g 1) (Next DeviceRequest)))
-    (second : g.state ≡ 1 → G (stepped (in_state g 2) (Next DoneRequest))) (third : g.state ≡ 2 → G (stepped (in_state g 3) Ready)) where
+module _ (g : Gateway) (G : Stepped → Type 0) (not-allowed : G (refuse g 15)) (again : (d : Option ℕ) → G (stepped g (Again d)))
+    (fails : G (stepped (in_state g 4) Failed)) (first : g.state ≡ 0 → G (stepped (in_state g 1) (Next 2)))
+    (second : g.state ≡ 1 → G (stepped (in_state g 2) (Next 6))) (third : g.state ≡ 2 → G (stepped (in_state g 3) Ready)) where
   -- A reply where it is awaited, later, and before.
-  replied-has : (awaited : ℕ) (a : Answer) (d : Option ConnectType) → (g.state ≡ awaited → G (stepped (in_state g (awaited + 1)) a))
-      → G (replied g awaited a d)
+  replied-has : (awaited : ℕ) (a : Answer) (d : Option ℕ) → (g.state ≡ awaited → G (stepped (in_state g (awaited + 1)) a)) → G (replied g awaited a d)
   replied-has awaited a d taken =
       first-row G (replied_rows g awaited a d) (refuse g 15) ((λ e. taken (eqb-true g.state awaited e)) also (λ e. again d) also tt) not-allowed
 

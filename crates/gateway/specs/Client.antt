@@ -4,8 +4,6 @@
 use Rattle.std.specs.Prelude.{ℕ, ◌+◌, List, [], ◌∷◌, Bool, not, ◌&&◌, ◌||◌, eqb, ltb, Option, Some, None}
 use Rattle.laws.specs.Rows.{first_row}
 use Rattle.wire.specs.Refusals.{not_allowed}
-use Rattle.payloads.specs.declared.types.ConnectType.{ConnectType}
-use Rattle.payloads.specs.declared.types.ConnectType.TheVariants.{DeviceRequest, DoneRequest}
 use Rattle.gateway.specs.declared.Gateway.{Gateway}
 use Rattle.gateway.specs.declared.Stepped.{Stepped}
 use Rattle.gateway.specs.declared.Answer.{Answer}
@@ -28,22 +26,22 @@ abbrev pub fails : (type code verdict : ℕ) → Bool
 fails type code verdict = (eqb type 1 && not (eqb code 1)) || (eqb type 7 && not (eqb code 0)) || (eqb type 3 && eqb verdict 0)
 
 -- A reply that is awaited in one state: "It takes" it there; "else a type already taken gives Again, another order 15".
-abbrev pub replied_rows : Gateway → (awaited : ℕ) → Answer → Option ConnectType → List (Bool × Stepped)
+abbrev pub replied_rows : Gateway → (awaited : ℕ) → Answer → Option ℕ → List (Bool × Stepped)
 replied_rows g awaited answer due =
     (eqb g.state awaited, stepped (in_state g (awaited + 1)) answer)
     ∷ (ltb awaited g.state, stepped g (Again due))
     ∷ []
 
-abbrev pub replied : Gateway → (awaited : ℕ) → Answer → Option ConnectType → Stepped
+abbrev pub replied : Gateway → (awaited : ℕ) → Answer → Option ℕ → Stepped
 replied g awaited answer due = first_row (replied_rows g awaited answer due) (refuse g not_allowed)
 
 -- A reply by which the enrolment does not fail:
 abbrev pub take_rows : Gateway → ℕ → List (Bool × Stepped)
 take_rows g type =
     -- State 0, type 1: go to 1, next 2. States 1 to 3, type 1: Again, 2.
-    (eqb type 1, replied g 0 (Next DeviceRequest) (Some DeviceRequest))
+    (eqb type 1, replied g 0 (Next 2) (Some 2))
     -- State 1, type 3: go to 2, next 6. States 2 and 3, type 3: Again, 6.
-    ∷ (eqb type 3, replied g 1 (Next DoneRequest) (Some DoneRequest))
+    ∷ (eqb type 3, replied g 1 (Next 6) (Some 6))
     -- State 2, type 7: go to 3, answer Ready. State 3, type 7: Again, nothing to send.
     ∷ (eqb type 7, replied g 2 Ready None)
     ∷ []

@@ -50,7 +50,7 @@ impl Gateway {
     }
 
     // A reply that is awaited in one state: there it is taken, later it is Again, and before it is not allowed.
-    fn replied(self, awaited: u8, answer: Answer, due: Option<ConnectType>) -> Stepped
+    fn replied(self, awaited: u8, answer: Answer, due: Option<u8>) -> Stepped
         requires { awaited < 3 }
         ensures { result ≡ replied self awaited answer due }
     {
@@ -78,13 +78,13 @@ impl Gateway {
         match ConnectType::try_from(connect) {
             Ok(ConnectType::ConnectionResponse) => self.replied(
                 WAITING_FOR_RESPONSE,
-                Answer::Next(ConnectType::DeviceRequest),
-                Some(ConnectType::DeviceRequest),
+                Answer::Next(ConnectType::DeviceRequest.number()),
+                Some(ConnectType::DeviceRequest.number()),
             ),
             Ok(ConnectType::DeviceResponse) => self.replied(
                 WAITING_FOR_AUTHENTICATION,
-                Answer::Next(ConnectType::DoneRequest),
-                Some(ConnectType::DoneRequest),
+                Answer::Next(ConnectType::DoneRequest.number()),
+                Some(ConnectType::DoneRequest.number()),
             ),
             Ok(ConnectType::DoneResponse) => self.replied(WAITING_FOR_DONE, Answer::Ready, None),
             _ => self.refuse(Refusal::NotAllowed.into()),

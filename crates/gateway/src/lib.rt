@@ -43,19 +43,20 @@ pub const READY: u8 = 3;
 // Another Result or Status came, or a verdict was 0: all is refused.
 pub const FAILED: u8 = 4;
 
-// What a step answers: five cases, each with its number at the C boundary (`said`), so that it is no Result.
+// What a step answers: five cases, each with its number at the C boundary (`said`), so that it is no Result. The type of a request is a byte, as in
+// the hub's answers (`ToldApartByGateway`, crates/promises).
 #[derive(Clone, Copy)]
 pub enum Answer {
     // The refusal; the connection is as it was.
     Refused(Refused),
     // The awaited reply was taken: the type of the next request.
-    Next(ConnectType),
+    Next(u8),
     // The last reply was taken.
     Ready,
     // Another Result or Status, or a verdict of 0.
     Failed,
     // A reply that was taken before, and nothing has changed: the request that follows it, once more, if one does.
-    Again(Option<ConnectType>),
+    Again(Option<u8>),
 }
 
 // A connection that was opened; the refusal is 0 where there is none. It is no Result: beside 24 there is a connection too, all zero, as document 01
@@ -100,13 +101,13 @@ impl Gateway {
     }
 
     // The type of the request that is due, if one is: the same until its reply is taken. The caller has the writer make it, or sends it once more.
-    pub fn due(self) -> Option<ConnectType>
+    pub fn due(self) -> Option<u8>
         ensures { result ≡ due_in self.state }
     {
         match self.state {
-            WAITING_FOR_RESPONSE => Some(ConnectType::ConnectionRequest),
-            WAITING_FOR_AUTHENTICATION => Some(ConnectType::DeviceRequest),
-            WAITING_FOR_DONE => Some(ConnectType::DoneRequest),
+            WAITING_FOR_RESPONSE => Some(ConnectType::ConnectionRequest.number()),
+            WAITING_FOR_AUTHENTICATION => Some(ConnectType::DeviceRequest.number()),
+            WAITING_FOR_DONE => Some(ConnectType::DoneRequest.number()),
             _ => None,
         }
     }

@@ -6,7 +6,6 @@ ghost use Rattle.gateway.specs.Answers.{due_number, said};
 use super::Answer;
 use admission::AGAIN;
 use joining::answer::Said;
-use payloads::types::ConnectType;
 
 // The kinds of this role's answers; those of the hub's have other numbers, but for Again and a refusal. They are numbers, since C is handed them so.
 pub const NEXT: u64 = 7;
@@ -19,11 +18,11 @@ pub const NOW_FAILED: u64 = 9;
 pub const NOTHING_DUE: u64 = 256;
 
 // The number of the type of the request that is due, or the number of none.
-pub fn due_number(due: Option<ConnectType>) -> u64
+pub fn due_number(due: Option<u8>) -> u64
     ensures { result ≡ due_number due }
 {
     match due {
-        Some(connect) => connect.number() as u64,
+        Some(connect) => connect as u64,
         None => NOTHING_DUE,
     }
 }
@@ -35,7 +34,7 @@ impl From<Answer> for Said {
     fn from(answer: Answer) -> Said {
         match answer {
             Answer::Refused(refused) => Said::refused(refused.number()),
-            Answer::Next(connect) => Said::words(NEXT, connect.number() as u64, 0),
+            Answer::Next(connect) => Said::words(NEXT, connect as u64, 0),
             Answer::Ready => Said::words(NOW_READY, 0, 0),
             Answer::Failed => Said::words(NOW_FAILED, 0, 0),
             Answer::Again(due) => Said::words(AGAIN, due_number(due), 0),

@@ -2,7 +2,6 @@
 -- What a step is answered, in document 01's numbers: "When an answer is an enum, a definition specifies this paper's number and values for each
 -- of its cases."
 use Rattle.std.specs.Prelude.{ℕ, Bool, ◌||◌, eqb}
-use Rattle.payloads.specs.Types.{connect_number}
 use Rattle.joining.specs.declared.answer.Said.{Said}
 use Rattle.joining.specs.declared.Arrival.{Arrival}
 use Rattle.joining.specs.declared.Arrival.TheVariants.{Refused as refusedPiece, Taken as takenPiece, Repeat as repeatedPiece}
@@ -30,8 +29,8 @@ failure = words 3 0 0
 -- Each case's number and values.
 abbrev pub said : Answer → Said
 said (Refused n) = refused n
-said (Reply t) = reply (connect_number t)
-said (Again t) = again (connect_number t)
+said (Reply t) = reply t
+said (Again t) = again t
 said Failure = failure
 said (Taken k) = taken k
 said (Repeat k) = repeated k

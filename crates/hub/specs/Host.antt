@@ -5,7 +5,6 @@ use Rattle.laws.specs.Rows.{first_row}
 use Rattle.laws.specs.Same.{same}
 use Rattle.wire.specs.Refusals.{not_allowed}
 use Rattle.payloads.specs.declared.reading.Request.{Request}
-use Rattle.payloads.specs.declared.types.ConnectType.TheVariants.{ConnectionResponse, DeviceResponse, DoneResponse}
 use Rattle.hub.specs.declared.Connection.{Connection}
 use Rattle.hub.specs.declared.Stepped.{Stepped}
 use Rattle.hub.specs.declared.Answer.{Answer}
@@ -59,29 +58,29 @@ in_states a b c = leb a c.state && leb c.state b
 abbrev pub request_rows : Connection → ℕ → Request → List (Bool × Stepped)
 request_rows c session r =
     -- State 0, type 0: remember SessionID, nonce, X, Y; go to 1; reply Connection Response.
-    (eqb c.state 0, stepped (requested c session r) (Reply ConnectionResponse))
+    (eqb c.state 0, stepped (requested c session r) (Reply 1))
     -- States 1 to 3, type 0 with the same nonce, X and Y: Again, same reply.
-    ∷ (in_states 1 3 c && knows c r, stepped c (Again ConnectionResponse))
+    ∷ (in_states 1 3 c && knows c r, stepped c (Again 1))
     ∷ []
 
 -- A Device Authentication Request, type 2:
 abbrev pub device_rows : Connection → List ℕ → ℕ → List (Bool × Stepped)
 device_rows c digest verdict =
     -- State 1, type 2: remember the SHA-256 of the certificate; verdict 1 goes to 2 and replies type 3,
-    (eqb c.state 1 && eqb verdict 1, stepped (with_digest_and_state c digest 2) (Reply DeviceResponse))
+    (eqb c.state 1 && eqb verdict 1, stepped (with_digest_and_state c digest 2) (Reply 3))
     -- verdict 0 goes to 4 and names Failure.
     ∷ (eqb c.state 1 && eqb verdict 0, stepped (with_digest_and_state c digest 4) Failure)
     -- States 2 and 3, type 2 with the same certificate digest: Again, reply type 3, whatever the verdict.
-    ∷ (in_states 2 3 c && same c.digest digest, stepped c (Again DeviceResponse))
+    ∷ (in_states 2 3 c && same c.digest digest, stepped c (Again 3))
     ∷ []
 
 -- An Authentication Done Request, type 6:
 abbrev pub done_rows : Connection → List (Bool × Stepped)
 done_rows c =
     -- State 2, type 6: go to 3, reply type 7 with Status 0.
-    (eqb c.state 2, stepped (with_digest_and_state c c.digest 3) (Reply DoneResponse))
+    (eqb c.state 2, stepped (with_digest_and_state c c.digest 3) (Reply 7))
     -- State 3, type 6: Again, same reply.
-    ∷ (eqb c.state 3, stepped c (Again DoneResponse))
+    ∷ (eqb c.state 3, stepped c (Again 7))
     ∷ []
 
 -- Rows of one Connect type, which apply to a message of that type alone.

@@ -61,13 +61,13 @@ impl Connection {
         if state == WAITING {
             return Stepped {
                 connection: self.requested(session, request),
-                answer: Answer::Reply(ConnectType::ConnectionResponse),
+                answer: Answer::Reply(ConnectType::ConnectionResponse.number()),
             };
         }
         if (REQUESTED <= state) & (state <= READY) & self.knows(request) {
             return Stepped {
                 connection: self,
-                answer: Answer::Again(ConnectType::ConnectionResponse),
+                answer: Answer::Again(ConnectType::ConnectionResponse.number()),
             };
         }
         self.refuse(Refusal::NotAllowed.into())
@@ -81,7 +81,7 @@ impl Connection {
         if (state == REQUESTED) & (verdict == 1) {
             return Stepped {
                 connection: self.with_digest_and_state(digest, PASSED),
-                answer: Answer::Reply(ConnectType::DeviceResponse),
+                answer: Answer::Reply(ConnectType::DeviceResponse.number()),
             };
         }
         if (state == REQUESTED) & (verdict == 0) {
@@ -93,7 +93,7 @@ impl Connection {
         if (PASSED <= state) & (state <= READY) & alike(&self.digest, &digest) {
             return Stepped {
                 connection: self,
-                answer: Answer::Again(ConnectType::DeviceResponse),
+                answer: Answer::Again(ConnectType::DeviceResponse.number()),
             };
         }
         self.refuse(Refusal::NotAllowed.into())
@@ -107,13 +107,13 @@ impl Connection {
         if state == PASSED {
             return Stepped {
                 connection: self.with_digest_and_state(self.digest, READY),
-                answer: Answer::Reply(ConnectType::DoneResponse),
+                answer: Answer::Reply(ConnectType::DoneResponse.number()),
             };
         }
         if state == READY {
             return Stepped {
                 connection: self,
-                answer: Answer::Again(ConnectType::DoneResponse),
+                answer: Answer::Again(ConnectType::DoneResponse.number()),
             };
         }
         self.refuse(Refusal::NotAllowed.into())

@@ -68,8 +68,8 @@ impl Connection {
         (self.state != WAITING) & another_session(header, self.session)
     }
 
-    // A message that the reader read. Not inlined, what it keeps is off the stack while the message is opened: a step takes 2,840 bytes in place of
-    // 3,640, for 94 instructions more of 26,376.
+    // A message that the reader read. Not inlined, what it keeps is off the stack while the message is opened: when it was tried a step took 2,840
+    // bytes in place of 3,640, for 94 instructions more of 26,376.
     #[tactic(auto, unfolding(crate::specs::Hear::hear, crate::specs::Hear::report_heard))]
     #[inline(never)]
     pub(crate) fn hear(

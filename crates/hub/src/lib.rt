@@ -13,7 +13,6 @@ ghost use Rattle.hub.specs.Answers.{said, answer_of};
 use admission::AGAIN;
 use joining::answer::{COMPLETE, REPEAT, Said, TAKEN};
 use joining::{Arrival, Progress};
-use payloads::types::ConnectType;
 use wire::refusals::{Refusal, Refused};
 
 // What the hub remembers of a gateway. It goes through a step as a value and comes back as one.
@@ -50,15 +49,16 @@ pub const READY: u8 = 3;
 // A verdict was 0: all is refused.
 pub const FAILED: u8 = 4;
 
-// What a step answers: seven cases, each with its number at the C boundary (`said`), so that it is no Result.
+// What a step answers: seven cases, each with its number at the C boundary (`said`), so that it is no Result. The type of a reply is a byte, made of
+// `ConnectType`, since `said` answers for any byte and tells every two apart (`ToldApart`, crates/promises).
 #[derive(Clone, Copy)]
 pub enum Answer {
     // The refusal; connection and report buffer are as they were.
     Refused(Refused),
     // The type of the reply that the caller has the writer make.
-    Reply(ConnectType),
+    Reply(u8),
     // A repeated enrolment step: the same reply once more, and nothing has changed.
-    Again(ConnectType),
+    Again(u8),
     // Authentication Failure, which the caller makes without the writer.
     Failure,
     // A piece was written; how many different ones of its message have come.
@@ -113,8 +113,8 @@ impl From<Answer> for Said {
     fn from(answer: Answer) -> Said {
         match answer {
             Answer::Refused(refused) => Said::refused(refused.number()),
-            Answer::Reply(connect) => Said::words(REPLY, connect.number() as u64, DONE_STATUS),
-            Answer::Again(connect) => Said::words(AGAIN, connect.number() as u64, DONE_STATUS),
+            Answer::Reply(connect) => Said::words(REPLY, connect as u64, DONE_STATUS),
+            Answer::Again(connect) => Said::words(AGAIN, connect as u64, DONE_STATUS),
             Answer::Failure => Said::words(FAILURE, 0, 0),
             Answer::Taken(heard) => Said::words(TAKEN, heard as u64, 0),
             Answer::Repeat(heard) => Said::words(REPEAT, heard as u64, 0),

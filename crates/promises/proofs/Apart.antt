@@ -1,7 +1,6 @@
 -- SPDX-License-Identifier: MPL-2.0
 -- Two answers of different kinds are not the same: `cc` makes 0 ≡ 1 of an equation between them, and from that anything follows.
 use Rattle.laws.proofs.Kit.{ℕ, ◌≡◌, arith}
-use Rattle.payloads.specs.declared.types.ConnectType.{ConnectType}
 use Rattle.joining.specs.declared.Arrival.{Arrival}
 use Rattle.joining.specs.declared.Arrival.TheVariants.{Refused, Taken, Repeat, Complete}
 use Rattle.hub.specs.declared.Answer.TheVariants.{Reply, Failure}
@@ -11,7 +10,7 @@ pub apart : {A : Type 0} → ◌≡◌ {A = ℕ} 0 1 → A
 apart z = absurd (omega arith)
 
 -- What a piece is answered is no reply and no Failure.
-pub arrival-apart : (a : Arrival) → ((t : ConnectType) → answer_of a ≡ Reply t → ⊥) × (answer_of a ≡ Failure → ⊥)
+pub arrival-apart : (a : Arrival) → ((t : ℕ) → answer_of a ≡ Reply t → ⊥) × (answer_of a ≡ Failure → ⊥)
 arrival-apart (Refused n) = (λ t e. apart (cc), λ e. apart (cc))
 arrival-apart (Taken k) = (λ t e. apart (cc), λ e. apart (cc))
 arrival-apart (Repeat k) = (λ t e. apart (cc), λ e. apart (cc))

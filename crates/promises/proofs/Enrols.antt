@@ -5,9 +5,6 @@ use Rattle.laws.proofs.Kit.{arith}
 use Rattle.laws.specs.Bytes.{AreBytes, bytes_at}
 use Rattle.wire.specs.Fields.{bad_flags, is_sealed}
 use Rattle.wire.specs.Chain.{entry_of, chain, most_entries, read_chain, bad_chain}
-use Rattle.payloads.specs.Types.{connect_number}
-use Rattle.payloads.specs.declared.types.ConnectType.{ConnectType}
-use Rattle.payloads.specs.declared.types.ConnectType.TheVariants.{ConnectionResponse, DeviceResponse, DoneResponse}
 use Rattle.payloads.specs.Format.{◌and◌, write, ends_from, holds_from, read_from, accepts_from}
 use Rattle.payloads.specs.Shapes.{connection_request, device_authentication, done_request, is_shaped, bad_payload}
 use Rattle.payloads.specs.Reading.{read_request, certificate_of}
@@ -150,8 +147,8 @@ module _ (F : ℕ) (keys report : List ℕ) (sized : bad_size F ≡ false) (of-k
   Steps c d flags bytes t = (says (at c) (once flags bytes) ≡ reply t) × (after (at c) (once flags bytes) ≡ at d)
 
   -- What is heard is what the step does; the report buffer is left alone.
-  steps : (c d : Connection) (flags : ℕ) (bytes : List ℕ) (t : ConnectType) → bad_size c.size ≡ false → Allowed flags bytes
-      → hear c (header flags 0 0) bytes report 1 ≡ stepped d (Reply t) → Steps c d flags bytes (connect_number t)
+  steps : (c d : Connection) (flags : ℕ) (bytes : List ℕ) (t : ℕ) → bad_size c.size ≡ false → Allowed flags bytes
+      → hear c (header flags 0 0) bytes report 1 ≡ stepped d (Reply t) → Steps c d flags bytes t
   unfolding report_heard
   steps c d flags bytes t z a e =
       let h = header flags 0 0 in
@@ -186,15 +183,15 @@ module _ (F : ℕ) (keys report : List ℕ) (sized : bad_size F ≡ false) (of-k
 
   requests : Steps (blank F) (waiting F) 0 (request_bytes 0) 1
   unfolding hear connect host write
-  requests = steps (blank F) (waiting F) 0 (request_bytes 0) ConnectionResponse sized request-allowed.0 refl
+  requests = steps (blank F) (waiting F) 0 (request_bytes 0) 1 sized request-allowed.0 refl
 
   authenticates : Steps (waiting F) (passed F) 6 (device_bytes 0 []) 3
   unfolding hear connect host write
-  authenticates = steps (waiting F) (passed F) 6 (device_bytes 0 []) DeviceResponse sized device-allowed.0 refl
+  authenticates = steps (waiting F) (passed F) 6 (device_bytes 0 []) 3 sized device-allowed.0 refl
 
   finishes : Steps (passed F) (ready F) 6 (finish_bytes 0) 7
   unfolding hear connect host write
-  finishes = steps (passed F) (ready F) 6 (finish_bytes 0) DoneResponse sized finish-allowed.0 refl
+  finishes = steps (passed F) (ready F) 6 (finish_bytes 0) 7 sized finish-allowed.0 refl
 
   enrolled : Enrolled F keys report
   enrolled =

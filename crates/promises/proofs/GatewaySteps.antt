@@ -3,24 +3,22 @@
 use Rattle.laws.proofs.Kit.{ℕ, ◌≤◌, ◌<◌, ◌≡◌, refl, ◌∙◌, ap, Bool, true, false, List, cond, eqb, ltb, eqb-true, eqb-false, eq-eqb, ne_eqb, lt-ltb}
 use Rattle.laws.proofs.Kit.{le-ltb, inl, inr, arith, ◌+◌}
 use mathlib.Core.Logic.{◌⊎◌}
+use Rattle.std.specs.Prelude.{Option, Some, None}
 use Rattle.wire.specs.declared.header.Header.{Header}
 use Rattle.payloads.specs.Reading.{connect_type, code_of}
 use Rattle.joining.specs.declared.answer.Said.{Said}
-use Rattle.joining.specs.Answers.{words, refused}
+use Rattle.joining.specs.Answers.{refused}
 use Rattle.admission.specs.Admission.{another_session}
 use Rattle.admission.specs.Calls.{Call}
 use Rattle.gateway.specs.declared.Gateway.{Gateway}
 use Rattle.gateway.specs.declared.Stepped.{Stepped}
-use Rattle.std.specs.Prelude.{Option, Some, None}
-use Rattle.payloads.specs.declared.types.ConnectType.{ConnectType}
-use Rattle.payloads.specs.declared.types.ConnectType.TheVariants.{DeviceRequest, DoneRequest}
 use Rattle.gateway.specs.declared.Answer.{Answer}
 use Rattle.gateway.specs.declared.Answer.TheVariants.{Next, Ready, Failed, Again}
-use Rattle.gateway.specs.Answers.{said, due_in, next, now_ready, now_failed}
+use Rattle.gateway.specs.Answers.{said, due_in, next, again, now_ready, now_failed}
 use Rattle.gateway.specs.Client.{stepped, refuse, in_state, fails, replied, take, client}
 use Rattle.gateway.specs.Step.{hear, step}
 use Rattle.gateway.proofs.Ways.{step-has}
-use Rattle.promises.specs.Gateway.{Admitted, Does, ByGatewayStates, GatewayLeavesAlone, GatewayKeeps, Requests, DueNames}
+use Rattle.promises.specs.Gateway.{Admitted, Does, ByGatewayStates, GatewayLeavesAlone, GatewayKeeps, DueNames}
 use Rattle.promises.proofs.Admitting.{role-hears}
 
 -- The lines of "Gateway states", each where its sentence says.
@@ -41,7 +39,7 @@ module _ (g : Gateway) (t c v : ℕ) where
   taking l e = rw (le-ltb 3 g.state l, e)
 
 -- A reply that is awaited in a state: there, later and before.
-module _ (g : Gateway) (awaited : ℕ) (a : Answer) (d : Option ConnectType) where
+module _ (g : Gateway) (awaited : ℕ) (a : Answer) (d : Option ℕ) where
   here : g.state ≡ awaited → replied g awaited a d ≡ stepped (in_state g (awaited + 1)) a
   here e = rw (eq-eqb g.state awaited e)
 
@@ -58,11 +56,11 @@ either false a = refl
 
 -- Of each type.
 module _ (g : Gateway) where
-  first : take g 1 ≡ replied g 0 (Next DeviceRequest) (Some DeviceRequest)
+  first : take g 1 ≡ replied g 0 (Next 2) (Some 2)
   unfolding take
   first = refl
 
-  second : take g 3 ≡ replied g 1 (Next DoneRequest) (Some DoneRequest)
+  second : take g 3 ≡ replied g 1 (Next 6) (Some 6)
   unfolding take
   second = refl
 
@@ -120,26 +118,26 @@ by-gateway-states g x h =
       other-status = λ r i n l. connects g x h 7 r (stepped (in_state g 4) Failed) i.0.0 i.0.1 i.1 (failing g 7 r v l (rw (ne_eqb r 0 n)));
       not-accepted = λ i z l. connects g x h 3 (code_of p) (stepped (in_state g 4) Failed) i.0 i.1 refl (failing g 3 (code_of p) v l (rw z));
       response = λ i s.
-          connects g x h 1 1 (stepped (in_state g 1) (Next DeviceRequest)) i.0.0 i.0.1 i.1
-          (taking g 1 1 v (omega arith) refl ∙ first g ∙ here g 0 (Next DeviceRequest) (Some DeviceRequest) s);
+          connects g x h 1 1 (stepped (in_state g 1) (Next 2)) i.0.0 i.0.1 i.1
+          (taking g 1 1 v (omega arith) refl ∙ first g ∙ here g 0 (Next 2) (Some 2) s);
       device = λ i s.
-          connects g x h 3 (code_of p) (stepped (in_state g 2) (Next DoneRequest)) i.0.0 i.0.1 refl
-          (taking g 3 (code_of p) v (omega arith) (rw i.1) ∙ second g ∙ here g 1 (Next DoneRequest) (Some DoneRequest) s);
+          connects g x h 3 (code_of p) (stepped (in_state g 2) (Next 6)) i.0.0 i.0.1 refl
+          (taking g 3 (code_of p) v (omega arith) (rw i.1) ∙ second g ∙ here g 1 (Next 6) (Some 6) s);
       finish = λ i s.
           connects g x h 7 0 (stepped (in_state g 3) Ready) i.0.0 i.0.1 i.1
           (taking g 7 0 v (omega arith) refl ∙ third g ∙ here g 2 Ready None s);
       response-again = λ i l u.
-          connects g x h 1 1 (stepped g (Again (Some DeviceRequest))) i.0.0 i.0.1 i.1
-          (taking g 1 1 v u refl ∙ first g ∙ later g 0 (Next DeviceRequest) (Some DeviceRequest) l);
+          connects g x h 1 1 (stepped g (Again (Some 2))) i.0.0 i.0.1 i.1
+          (taking g 1 1 v u refl ∙ first g ∙ later g 0 (Next 2) (Some 2) l);
       device-again = λ i l u.
-          connects g x h 3 (code_of p) (stepped g (Again (Some DoneRequest))) i.0.0 i.0.1 refl
-          (taking g 3 (code_of p) v u (rw i.1) ∙ second g ∙ later g 1 (Next DoneRequest) (Some DoneRequest) l);
+          connects g x h 3 (code_of p) (stepped g (Again (Some 6))) i.0.0 i.0.1 refl
+          (taking g 3 (code_of p) v u (rw i.1) ∙ second g ∙ later g 1 (Next 6) (Some 6) l);
       finish-again = λ i s.
           connects g x h 7 0 (stepped g (Again None)) i.0.0 i.0.1 i.1
           (taking g 7 0 v (omega arith) refl ∙ third g ∙ later g 2 Ready None (omega arith));
       device-early = λ i s.
           connects g x h 3 (code_of p) (refuse g 15) i.0.0 i.0.1 refl
-          (taking g 3 (code_of p) v (omega arith) (rw i.1) ∙ second g ∙ early g 1 (Next DoneRequest) (Some DoneRequest) (omega arith));
+          (taking g 3 (code_of p) v (omega arith) (rw i.1) ∙ second g ∙ early g 1 (Next 6) (Some 6) (omega arith));
       finish-early = λ i l.
           connects g x h 7 0 (refuse g 15) i.0.0 i.0.1 i.1
           (taking g 7 0 v (omega arith) refl ∙ third g ∙ early g 2 Ready None (omega arith));
@@ -158,7 +156,7 @@ apart a b n e = absurd (eqb-false a.kind b.kind n (ap (λ (s : Said). s.kind) e)
 pub gateway-leaves-alone : GatewayLeavesAlone
 gateway-leaves-alone g x =
     step-has g
-    (λ s. ((n : ℕ) → said s.answer ≡ refused n → s.gateway ≡ g) × ((d : ℕ) → said s.answer ≡ words 2 d 0 → s.gateway ≡ g))
+    (λ s. ((n : ℕ) → said s.answer ≡ refused n → s.gateway ≡ g) × ((d : Option ℕ) → said s.answer ≡ again d → s.gateway ≡ g))
     ((λ k e. refl), (λ d e. refl)) (λ d. ((λ k e. refl), (λ d e. refl)))
     ((λ n. apart _ _ refl), (λ d. apart _ _ refl)) (λ s. ((λ n. apart _ _ refl), (λ d. apart _ _ refl)))
     (λ s. ((λ n. apart _ _ refl), (λ d. apart _ _ refl))) (λ s. ((λ n. apart _ _ refl), (λ d. apart _ _ refl)))
@@ -180,8 +178,8 @@ due-names =
           step-has g (λ s. Same g s) (inl refl) (λ d. inl refl) (inr (inl refl)) (λ s. inr (inr (inr (inl refl)))) (λ s. inr (inr (inr (inr refl))))
           (λ s. inr (inr (inl refl))) (λ n. inl refl) x.message x.keys x.working x.verdict;
       named = λ g x t.
-          step-has g (λ s. said s.answer ≡ next t → Requests t (due_in s.gateway.state)) (apart _ _ refl) (λ d. apart _ _ refl)
-          (apart _ _ refl) (λ s e. ap (λ (s : Said). s.value) e) (λ s e. ap (λ (s : Said). s.value) e)
+          step-has g (λ s. said s.answer ≡ next t → due_in s.gateway.state ≡ Some t) (apart _ _ refl) (λ d. apart _ _ refl)
+          (apart _ _ refl) (λ s e. ap Some (ap (λ (s : Said). s.value) e)) (λ s e. ap Some (ap (λ (s : Said). s.value) e))
           (λ s. apart _ _ refl) (λ n. apart _ _ refl) x.message x.keys x.working x.verdict;
     }
   where

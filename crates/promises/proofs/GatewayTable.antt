@@ -5,6 +5,7 @@ use Rattle.laws.proofs.Kit.{arith, le-leb, lt-leb, ltb-true, ltb-false}
 use Rattle.laws.specs.Rows.{first}
 use Rattle.laws.proofs.Bools.{or-none}
 use Rattle.laws.proofs.Cases.{on}
+use Rattle.std.specs.Prelude.{Option}
 use Rattle.wire.specs.Reader.{header_of}
 use Rattle.wire.specs.declared.header.Header.{Header}
 use Rattle.payloads.specs.Reading.{connect_type, code_of}
@@ -13,8 +14,6 @@ use Rattle.joining.specs.Cut.{bad_size}
 use Rattle.admission.specs.Admission.{another_session}
 use Rattle.gateway.specs.declared.Gateway.{Gateway}
 use Rattle.gateway.specs.declared.Stepped.{Stepped}
-use Rattle.std.specs.Prelude.{Option}
-use Rattle.payloads.specs.declared.types.ConnectType.{ConnectType}
 use Rattle.gateway.specs.declared.Opened.{Opened}
 use Rattle.gateway.specs.declared.Answer.{Answer}
 use Rattle.gateway.specs.declared.Answer.TheVariants.{Refused, Next, Ready, Failed, Again}
@@ -35,7 +34,7 @@ abbrev number : Stepped → ℕ
 number s = (said s.answer).refusal
 
 -- A reply is refused before its state alone.
-replied-number : (g : Gateway) (awaited : ℕ) (a : Answer) (d : Option ConnectType) → (said a).refusal ≡ 0
+replied-number : (g : Gateway) (awaited : ℕ) (a : Answer) (d : Option ℕ) → (said a).refusal ≡ 0
     → number (replied g awaited a d) ≡ cond (leb awaited g.state) 0 15
 replied-number g awaited a d z =
     on (eqb g.state awaited)

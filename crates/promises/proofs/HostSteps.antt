@@ -7,7 +7,6 @@ use Rattle.laws.proofs.Sames.{same_refl, same→eq}
 use Rattle.laws.proofs.Bools.{and-true}
 use Rattle.payloads.specs.Reading.{connect_type, read_request}
 use Rattle.payloads.specs.declared.reading.Request.{Request}
-use Rattle.payloads.specs.declared.types.ConnectType.TheVariants.{ConnectionResponse, DeviceResponse, DoneResponse}
 use Rattle.sha256.specs.Digests.{digest}
 use Rattle.wire.specs.declared.header.Header.{Header}
 use Rattle.joining.specs.Join.{join}
@@ -30,18 +29,17 @@ is_false t n = on t (λ e. absurd (n e)) (λ e. e)
 
 -- The rows of "Host states", each where its sentence says.
 module _ (c : Connection) (session : ℕ) (r : Request) (d : List ℕ) (v : ℕ) where
-  requests : c.state ≡ 0 → host c 0 session r d v ≡ stepped (requested c session r) (Reply ConnectionResponse)
+  requests : c.state ≡ 0 → host c 0 session r d v ≡ stepped (requested c session r) (Reply 1)
   unfolding host
   requests s = rw s
 
-  requests-again : 1 ≤ c.state → c.state ≤ 3 → c.nonce ≡ r.nonce → c.x ≡ r.x → c.y ≡ r.y
-      → host c 0 session r d v ≡ stepped c (Again ConnectionResponse)
+  requests-again : 1 ≤ c.state → c.state ≤ 3 → c.nonce ≡ r.nonce → c.x ≡ r.x → c.y ≡ r.y → host c 0 session r d v ≡ stepped c (Again 1)
   unfolding host
   requests-again low high n x y =
       rw (ne_eqb c.state 0 (λ z. omega arith), le-leb 1 c.state low, le-leb c.state 3 high)
       (rw (n, x, y, same_refl r.nonce, same_refl r.x, same_refl r.y))
 
-  passes : c.state ≡ 1 → v ≡ 1 → host c 2 session r d v ≡ stepped (with_digest_and_state c d 2) (Reply DeviceResponse)
+  passes : c.state ≡ 1 → v ≡ 1 → host c 2 session r d v ≡ stepped (with_digest_and_state c d 2) (Reply 3)
   unfolding host
   passes s z = rw (s, z)
 
@@ -49,16 +47,16 @@ module _ (c : Connection) (session : ℕ) (r : Request) (d : List ℕ) (v : ℕ)
   unfolding host
   fails s z = rw (s, z)
 
-  passes-again : 2 ≤ c.state → c.state ≤ 3 → c.digest ≡ d → host c 2 session r d v ≡ stepped c (Again DeviceResponse)
+  passes-again : 2 ≤ c.state → c.state ≤ 3 → c.digest ≡ d → host c 2 session r d v ≡ stepped c (Again 3)
   unfolding host
   passes-again low high e =
       rw (ne_eqb c.state 1 (λ z. omega arith), le-leb 2 c.state low, le-leb c.state 3 high, ← e, same_refl c.digest)
 
-  finishes : c.state ≡ 2 → host c 6 session r d v ≡ stepped (with_digest_and_state c c.digest 3) (Reply DoneResponse)
+  finishes : c.state ≡ 2 → host c 6 session r d v ≡ stepped (with_digest_and_state c c.digest 3) (Reply 7)
   unfolding host
   finishes s = rw s
 
-  finishes-again : c.state ≡ 3 → host c 6 session r d v ≡ stepped c (Again DoneResponse)
+  finishes-again : c.state ≡ 3 → host c 6 session r d v ≡ stepped c (Again 7)
   unfolding host
   finishes-again s = rw s
 

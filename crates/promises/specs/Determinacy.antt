@@ -24,6 +24,6 @@ OneOutcome = (A B : Type 0) (value : A) (held : B) → Determined (A × B) (λ r
 abbrev pub ToldApart : Type 0
 ToldApart = (a b : Answer) → said a ≡ said b → a ≡ b
 
--- So is an answer of the gateway's step.
+-- So is an answer of the gateway's step, in which a request's type is a byte.
 abbrev pub ToldApartByGateway : Type 0
-ToldApartByGateway = (a b : client.Answer) → gateway.said a ≡ gateway.said b → a ≡ b
+ToldApartByGateway = (a b : client.Answer) → gateway.HasTypeByte a → gateway.HasTypeByte b → gateway.said a ≡ gateway.said b → a ≡ b

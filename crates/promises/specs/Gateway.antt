@@ -6,13 +6,10 @@ use Rattle.laws.specs.Bytes.{AreBytes}
 use Rattle.laws.specs.Rows.{leads, quiet}
 use Rattle.wire.specs.Reader.{header_of}
 use Rattle.wire.specs.declared.header.Header.{Header}
-use Rattle.payloads.specs.Types.{connect_number}
-use Rattle.payloads.specs.declared.types.ConnectType.{ConnectType}
-use Rattle.payloads.specs.declared.types.ConnectType.TheVariants.{ConnectionRequest, DeviceRequest, DoneRequest}
 use Rattle.payloads.specs.Format.{Format, Values}
 use Rattle.payloads.specs.Reading.{connect_type, code_of}
 use Rattle.joining.specs.declared.answer.Said.{Said}
-use Rattle.joining.specs.Answers.{words, refused}
+use Rattle.joining.specs.Answers.{refused}
 use Rattle.joining.specs.Cut.{bad_size}
 use Rattle.admission.specs.Admission.{another_session}
 use Rattle.admission.specs.Calls.{Call}
@@ -108,8 +105,8 @@ pub record GatewayStates (g : Gateway) (x : Call) (k : Content x) : Type 0 where
   -- "then 7 (Status 0: Ready)."
   pub finish : Done k → g.state ≡ 2 → Does g x now_ready (in_state g 3)
   -- "else a type already taken gives Again",
-  pub response-again : Pending k → 1 ≤ g.state → g.state ≤ 3 → Does g x (again (Some DeviceRequest)) g
-  pub device-again : Accepted k → 2 ≤ g.state → g.state ≤ 3 → Does g x (again (Some DoneRequest)) g
+  pub response-again : Pending k → 1 ≤ g.state → g.state ≤ 3 → Does g x (again (Some 2)) g
+  pub device-again : Accepted k → 2 ≤ g.state → g.state ≤ 3 → Does g x (again (Some 6)) g
   pub finish-again : Done k → g.state ≡ 3 → Does g x (again None) g
   -- "another order 15".
   pub device-early : Accepted k → g.state ≡ 0 → Does g x (refused 15) g
@@ -125,27 +122,23 @@ ByGatewayStates = (g : Gateway) (x : Call) (h : Admitted g x) → GatewayStates 
 
 -- "Every refusal leaves connection … alone", and so does Again, whatever number it says.
 abbrev pub GatewayLeavesAlone : Type 0
-GatewayLeavesAlone = (g : Gateway) (x : Call) → ((n : ℕ) → says g x ≡ refused n → after g x ≡ g) × ((d : ℕ) → says g x ≡ words 2 d 0 → after g x ≡ g)
+GatewayLeavesAlone =
+    (g : Gateway) (x : Call) → ((n : ℕ) → says g x ≡ refused n → after g x ≡ g) × ((d : Option ℕ) → says g x ≡ again d → after g x ≡ g)
 
 -- "and keeps both": no call changes F or the SessionID.
 abbrev pub GatewayKeeps : Type 0
 GatewayKeeps = (g : Gateway) (x : Call) → ((after g x).size ≡ g.size) × ((after g x).session ≡ g.session)
 
--- A request is due, of the type that has this number.
-abbrev pub Requests : ℕ → Option ConnectType → Type 0
-Requests n (Some t) = connect_number t ≡ n
-Requests n None = ⊥
-
 -- The request that is due: type 0 in state 0, 2 in state 1, 6 in state 2, none in any other. It is the same until its reply is taken, or all has
 -- failed; and what an answer names next is then due.
 pub record DueNames : Type 0 where
-  pub first : due_in 0 ≡ Some ConnectionRequest
-  pub second : due_in 1 ≡ Some DeviceRequest
-  pub third : due_in 2 ≡ Some DoneRequest
+  pub first : due_in 0 ≡ Some 0
+  pub second : due_in 1 ≡ Some 2
+  pub third : due_in 2 ≡ Some 6
   pub none : (state : ℕ) → 3 ≤ state → due_in state ≡ None
   pub same : (g : Gateway) (x : Call) → (due_in (after g x).state ≡ due_in g.state)
       ⊎ ((says g x ≡ now_failed) ⊎ ((says g x ≡ now_ready) ⊎ ((says g x ≡ next 2) ⊎ (says g x ≡ next 6))))
-  pub named : (g : Gateway) (x : Call) (t : ℕ) → says g x ≡ next t → Requests t (due_in (after g x).state)
+  pub named : (g : Gateway) (x : Call) (t : ℕ) → says g x ≡ next t → due_in (after g x).state ≡ Some t
 
 -- "A lost reply makes it send the same request bytes again, nonce included": payloads of the same values, nonce, X and Y among them, are the same
 -- bytes, and so are messages of the same fields, chain, payload and keys.

@@ -4,7 +4,6 @@
 use Rattle.std.specs.Prelude.{ℕ, List, [], ◌∷◌, cond, ltb}
 use Rattle.hub.specs.declared.Answer.{Answer}
 use Rattle.hub.specs.declared.Answer.TheVariants.{Refused, Reply, Again, Failure, Taken, Repeat, Complete}
-use Rattle.payloads.specs.Types.{connect_number}
 use Rattle.lines.specs.Text.{named}
 use Rattle.lines.specs.Listing.{refused_name}
 
@@ -40,8 +39,8 @@ shown n = cond (ltb n 4294967295) n 4294967295
 -- report's length.
 unfoldable pub answer_line : Answer → List ℕ
 answer_line (Refused n) = named refused_name n
-answer_line (Reply connect) = named reply_name (connect_number connect)
-answer_line (Again connect) = named again_name (connect_number connect)
+answer_line (Reply connect) = named reply_name connect
+answer_line (Again connect) = named again_name connect
 answer_line Failure = failure_line
 answer_line (Taken heard) = named taken_name (shown heard)
 answer_line (Repeat heard) = named repeat_name (shown heard)

@@ -30,8 +30,8 @@ pub(crate) fn put_answer(answer: Answer, out: &mut [u8], at: usize) -> usize
     }
     match answer {
         Answer::Refused(refused) => put_named(b"refused ", refused.number().into(), out, at),
-        Answer::Reply(connect) => put_named(b"reply ", connect.number().into(), out, at),
-        Answer::Again(connect) => put_named(b"again ", connect.number().into(), out, at),
+        Answer::Reply(connect) => put_named(b"reply ", connect.into(), out, at),
+        Answer::Again(connect) => put_named(b"again ", connect.into(), out, at),
         Answer::Failure => put_text(b"failure\n", out, at),
         Answer::Taken(heard) => put_named(b"taken ", short(heard), out, at),
         Answer::Repeat(heard) => put_named(b"repeat ", short(heard), out, at),
