@@ -64,16 +64,17 @@ fn text(path: &[u8]) -> &str {
     str::from_utf8(path).unwrap_or("")
 }
 
-// The bytes of the key file, argument 1.
+// The bytes of the key file, argument 1. One more than they are is asked for at once, since there are sources that drop what a read leaves.
 fn keys_asked(rt: &(impl Env + Files)) -> Result<[u8; KEYS], Wrong> {
     let mut path = [0u8; 4096];
     let length = rt.arg(1, &mut path).unwrap_or(0);
     let mut file = File::open(rt, text(&path[..length])).map_err(|_| Wrong::KeysUnread)?;
-    let mut keys = [0u8; KEYS];
-    let mut more = [0u8; 1];
-    if read_full(&mut file, &mut keys) < KEYS || 0 < read_full(&mut file, &mut more) {
+    let mut read = [0u8; KEYS + 1];
+    if read_full(&mut file, &mut read) != KEYS {
         return Err(Wrong::KeysLength);
     }
+    let mut keys = [0u8; KEYS];
+    keys.copy_from_slice(&read[..KEYS]);
     Ok(keys)
 }
 
