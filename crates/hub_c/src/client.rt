@@ -66,13 +66,13 @@ pub extern "C" fn hub_gateway_step(
         (gateway_answer (step (gateway_at gateway.old) message.now keys.now working.old
         (verdict_of verdict))) }
 {
+    if answer.len() != ANSWER {
+        return WRONG_BUFFER;
+    }
     let Some(held) = gateway.as_array() else {
         return WRONG_BUFFER;
     };
     let held = decode_gateway(held);
-    if answer.len() != ANSWER {
-        return WRONG_BUFFER;
-    }
     let stepped = held.step(message, keys, working, verdict_of(verdict));
     let refusal = hand_said(stepped.answer.into(), answer);
     if refusal != 0 {

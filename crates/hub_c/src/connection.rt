@@ -93,11 +93,14 @@ pub extern "C" fn hub_step(
         (answer_after (step (connection_at state.old) message.now keys.now working.old
         report.old (verdict_of verdict))) }
 {
+    if answer.len() != ANSWER {
+        return WRONG_BUFFER;
+    }
     let Some(held) = state.as_array() else {
         return WRONG_BUFFER;
     };
     let connection = decode(held);
-    if (answer.len() != ANSWER) | short_report(connection, report.len()) {
+    if short_report(connection, report.len()) {
         return WRONG_BUFFER;
     }
     let stepped = connection.step(message, keys, working, report, verdict_of(verdict));
