@@ -133,12 +133,12 @@ function take_claims(clause,    part, n, i) {
     for (i = 1; i <= n; i++) claim[++claims] = part[i]
 }
 
-# Whether a type holds memory of somebody else.
+# Whether a type holds memory of somebody else. A name may mean a type of this crate or a public one of another: it does where either does.
 function borrows(type,    word, n, i) {
     if (type ~ /&|\*[ \t\n\f]*(mut|const)|'[A-Za-z_]/) return 1
     gsub(/[^A-Za-z0-9_]+/, " ", type)
     n = split(type, word, " ")
-    for (i = 1; i <= n; i++) if (word[i] in borrowing || (word[i] == "Self" && borrows(impl))) return 1
+    for (i = 1; i <= n; i++) if (word[i] in borrowing || (crate, word[i]) in borrowing || (word[i] == "Self" && borrows(impl))) return 1
     return 0
 }
 
@@ -149,7 +149,10 @@ function may_borrow(type,    word, n, i) {
     gsub(/[A-Za-z0-9_]+::/, "", type)
     gsub(/[^A-Za-z0-9_]+/, " ", type)
     n = split(type, word, " ")
-    for (i = 1; i <= n; i++) if (word[i] !~ /^([iu](8|16|32|64|size)|f32|f64|bool|mut|Self|Option|Result|[0-9]+|[A-Z0-9_]+)$/ && !(word[i] in body)) return 1
+    for (i = 1; i <= n; i++) {
+        if (word[i] ~ /^([iu](8|16|32|64|size)|f32|f64|bool|mut|Self|Option|Result|[0-9]+|[A-Z0-9_]+)$/) continue
+        if (!((crate, word[i]) in body) && !(word[i] in home)) return 1
+    }
     return 0
 }
 
@@ -157,9 +160,9 @@ function may_borrow(type,    word, n, i) {
 function referent(type) { sub(/^& ?('[A-Za-z0-9_]+ ?)?/, "", type); return type }
 function is_mut(type) { return type ~ /^&/ && referent(type) ~ /^mut([^A-Za-z0-9_]|$)/ }
 
-# The fields of a struct, of this crate or else of the only one that has a struct of the name.
+# The fields of a struct, of this crate or else of the only one that has a public type of the name.
 function fields_of(type) {
-    if ((crate, type) in fields) return fields[crate, type]
+    if ((crate, type) in body) return fields[crate, type]
     return defined[type] == 1 ? fields[home[type], type] : ""
 }
 
@@ -251,14 +254,13 @@ function take_fields(type, s,    part, n, i) {
         sub(/[ \t\n\f]*:.*/, "", part[i])
         if (part[i] != "") fields[crate, type] = fields[crate, type] " " part[i]
     }
-    defined[type]++
-    home[type] = crate
 }
 
-# The public types of a file: what each holds, and the fields of a struct. Another type of the name, which is not public, may hold other things.
-function find_types(s,    word, type, at, to, public) {
+# The types of a file: what each holds, and the fields of a struct. A public one is known to other crates by its name too. One that is not public, and
+# has the name of another crate's, may hold other things.
+function find_types(s,    word, type, at, to, open) {
     while (match(s, /(^|[^A-Za-z0-9_])(struct|enum|type)[ \t\n\f]+[A-Za-z0-9_]+/)) {
-        public = substr(s, 1, RSTART) ~ /(^|[^A-Za-z0-9_])pub[ \t\n\f]+$/
+        open = substr(s, 1, RSTART) ~ /(^|[^A-Za-z0-9_])pub[ \t\n\f]+$/
         type = joined(substr(s, RSTART, RLENGTH))
         word = type
         sub(/.* /, "", type)
@@ -267,17 +269,25 @@ function find_types(s,    word, type, at, to, public) {
         to = index(s, ";") + 1
         if (substr(s, at, 1) == "{") to = closed(s, at, "{", "}")
         if (substr(s, at, 1) == "(") to = closed(s, at, "(", ")")
-        if (public) body[type] = body[type] " " substr(s, 1, to - 1)
-        if (public && word ~ /struct / && substr(s, at, 1) == "{") take_fields(type, substr(s, at + 1, to - at - 2))
+        body[crate, type] = body[crate, type] " " substr(s, 1, to - 1)
+        if (word ~ /struct / && substr(s, at, 1) == "{") take_fields(type, substr(s, at + 1, to - at - 2))
+        if (open) { public[crate, type] = 1; defined[type]++; home[type] = crate }
+        else if (word !~ /type /) hidden[crate, type] = 1
         s = substr(s, to)
     }
 }
 
-# The types that borrow, and those that hold one that does.
-function find_borrowing(    type, more) {
+# The types that borrow, and those that hold one that does: by crate and name, and the public ones by name too.
+function find_borrowing(    key, part, more) {
     do {
         more = 0
-        for (type in body) if (!(type in borrowing) && borrows(body[type])) more = borrowing[type] = 1
+        for (key in body) {
+            split(key, part, SUBSEP)
+            crate = part[1]
+            if (key in borrowing || !borrows(body[key])) continue
+            more = borrowing[key] = 1
+            if (key in public) borrowing[part[2]] = 1
+        }
     } while (more)
 }
 
@@ -323,8 +333,12 @@ function impl_in(s, before) {
     return before
 }
 
-# What a conversion gives, as a contract of it: `λ a b. b ≡ E` says of a value a that the result b is E.
-function judge_from(block,    gives, a, b) {
+# What a conversion gives, as a contract of it: `λ a b. b ≡ E` says of a value a that the result b is E. It says nothing of memory that is lent.
+function judge_from(from, type, block,    gives, a, b) {
+    if (may_borrow(from) || may_borrow(type)) {
+        fault("contract", "has memory lent within what it is made from or what it is, which is not read here")
+        return
+    }
     if (!match(block, /ghost from_gives = \{ λ [a-z_]+ [a-z_]+\. [^;]*\};/)) { fault("contract", "has no exact from_gives"); return }
     gives = substr(block, RSTART, RLENGTH - 2)
     sub(/^ghost from_gives = \{ λ /, "", gives)
@@ -341,33 +355,45 @@ function judge_from(block,    gives, a, b) {
     if (!says(b) || has(substr(gives, length(b) + 1), b)) fault("contract", "has no exact from_gives")
 }
 
-# The methods that a type has of a trait are public without the word, where both are. A Model is what contracts see of a type, and no method.
-function judge_traits(s, module,    head, type, at, to, block) {
-    while (match(s, /(^|[ \t\n\f])impl[^{;]*[ \t\n\f]for[ \t\n\f][^{;]*\{/)) {
-        head = joined(substr(s, RSTART, RLENGTH - 1))
-        at = RSTART + RLENGTH - 1
-        to = closed(s, at, "{", "}")
-        block = joined(substr(s, at + 1, to - at - 2))
-        s = substr(s, to)
-        sub(/^impl ?(<[^>]*> )?/, "", head)
+# The methods that a type has of a trait are public without the word, where both are. Nobody else can call those of a trait that is not. A type that
+# is not public is its crate's own to convert and to show; its methods of another trait may run where nobody names it, as an iterator's do.
+# A Model is what contracts see of a type, and no method. One that forgets would leave open what `result ≡ E` allows. With `inverse` it forgets
+# nothing: the kit has that proved. A type that is not public and borrows may forget, since no public call may give one or be given one.
+function judge_traits(s, module,    head, trait, type, bare, at, block, private) {
+    while (match(s, /(^|[ \t\n\f])impl[^{;]*[ \t\n\f]for[ \t\n\f]/)) {
+        head = substr(s, RSTART, RLENGTH)
+        s = substr(s, RSTART + RLENGTH)
+        at = index(s, "{")
+        head = joined(head substr(s, 1, at - 1))
+        block = joined(substr(s, at + 1, closed(s, at, "{", "}") - at - 2))
+        # Lifetimes and sizes. Parameters that are types stay, and the trait has then no name that is known here.
+        sub(/^impl ?(<('[A-Za-z0-9_]+|const [A-Z]+: usize|[ ,:+])*> ?)?/, "", head)
         type = head
         sub(/.* for /, "", type)
-        sub(/<.*/, "", type)
         sub(/ for .*/, "", head)
-        sub(/<.*/, "", head)
-        if (head == "Model" || head in hidden || type in hidden) continue
-        name = module "::" type
-        if (head == "From") judge_from(block)
-        else fault("contract", "has methods of the trait " head ", which are not read here")
+        trait = head
+        sub(/<.*/, "", trait)
+        if ((crate, trait) in inner) continue
+        bare = type
+        sub(/<.*/, "", bare)
+        private = (crate, bare) in hidden && !((crate, bare) in public)
+        if (private && trait ~ /^(From|TryFrom|fmt::Display)$/) continue
+        name = private ? module : module "::" bare
+        if (trait == "Model") {
+            if (outside(block) ~ /(^|; *)ghost inverse = / || (private && borrows(type))) continue
+            fault("contract", "has a Model without an inverse, which may forget")
+        } else if (trait == "From") judge_from(substr(head, 6, length(head) - 6), type, block)
+        # A conversion that may fail is named with what it is from, so that an exception for it excuses nothing else that the type has.
+        else fault(trait == "TryFrom" ? head : "contract", "has methods of the trait " head ", which are not read here")
     }
 }
 
-# The types and traits that are not public.
-function find_hidden(s) {
-    while (match(s, /(^|[ \t\n\f])(pub(\([a-z]+\))?[ \t\n\f]+)?(struct|enum|trait)[ \t\n\f]+[A-Za-z0-9_]+/)) {
+# The traits that are not public.
+function find_traits(s) {
+    while (match(s, /(^|[ \t\n\f])(pub(\([a-z]+\))?[ \t\n\f]+)?(unsafe[ \t\n\f]+)?trait[ \t\n\f]+[A-Za-z0-9_]+/)) {
         name = joined(substr(s, RSTART, RLENGTH))
         s = substr(s, RSTART + RLENGTH)
-        if (name !~ /^pub (struct|enum|trait)/) hidden[substr(name, match(name, /[A-Za-z0-9_]+$/))] = 1
+        if (name !~ /^pub (unsafe )?trait/) inner[crate, substr(name, match(name, /[A-Za-z0-9_]+$/))] = 1
     }
 }
 
@@ -392,7 +418,7 @@ END {
     for (i = 1; i <= count; i++) {
         crate = crate_of(files[i])
         find_types(text[files[i]])
-        find_hidden(text[files[i]])
+        find_traits(text[files[i]])
     }
     find_borrowing()
     for (i = 1; i <= count; i++) {
@@ -403,7 +429,8 @@ END {
         gsub(/\//, "::", module)
         module = crate (module == "lib" ? "" : "::" module)
         name = module
-        if (text[files[i]] ~ /(^|[ \t\n\f])pub[ \t\n\f]+trait[ \t\n\f]/) fault("contract", "has a trait, whose methods are not read here")
+        if (text[files[i]] ~ /(^|[^A-Za-z0-9_])pub[ \t\n\f]+([a-z]+[ \t\n\f]+)*trait[ \t\n\f]/)
+            fault("contract", "has a trait, whose methods are not read here")
         if (text[files[i]] ~ /\/\*/) fault("contract", "has a comment of the other kind, which is not read here")
         find_uses(text[files[i]])
         judge_traits(text[files[i]], module)

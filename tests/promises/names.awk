@@ -7,6 +7,7 @@
 #     a.b           a file, or field b of the record a       a_b         an edit, or anything that is public
 #     a-b           a public law                             else        anything that is public, or a crate
 # `a`, `b` (File) or (crate, File): each stands in a file of that name. crate `a`, `b`: an edit of that crate. What has a space is no name.
+# A row of the table in "One result" may be of a type, for its methods of a trait: in the first column c may be a type of module b.
 
 function says(text) { print "`" token "` " text }
 
@@ -23,7 +24,8 @@ function judge(token, crate, file,    part, n) {
     } else if (token ~ /::/) {
         n = split(token, part, "::")
         if (part[1] ~ /^[A-Z]/ ? !has("type", part[1]) : !(part[1] in crates)) says("begins with no crate and no type")
-        else if (!has("function", part[n], part[1] ~ /^[A-Z]/ ? "" : part[1]) && !has("module", part[n], part[1])) says("is no public function")
+        else if (!has("function", part[n], part[1] ~ /^[A-Z]/ ? "" : part[1]) && !has("module", part[n], part[1]) \
+            && !(excepted && first && has("type", part[3], part[1], part[2]))) says("is no public function")
     } else if (token ~ /\./) {
         split(token, part, ".")
         if (!has("file", token) && !(has("public", part[1]) && has("public", part[2], "", home[part[1]]))) says("is no file and no field")
@@ -54,6 +56,9 @@ END {
     for (i = 2; i <= n; i += 2) {
         before = piece[i - 1]
         after = piece[i + 1]
+        if (before ~ /## /) excepted = before ~ /## One result [^#]*$/
+        # Between two rows stands a mark of each.
+        if (before ~ /\|/) first = before ~ /\| \|[^|]*$/
         if (before != ", ") {
             word = before
             sub(/ $/, "", word)
