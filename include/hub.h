@@ -222,12 +222,12 @@
  * The stack that a call takes, its return address included, is at most so many bytes. This is measured (tests/memory, which fails where a call takes
  * more) and not proved; what a call reserves and never writes is not seen.
  *
- *     hub_step                        3,328
- *     hub_gateway_step                2,240
- *     hub_read                        2,048
+ *     hub_step                        2,944
+ *     hub_gateway_step                2,048
+ *     hub_read                        1,920
  *     hub_write                       1,664
  *     hub_hmac                        1,280
- *     hub_digest                        832
+ *     hub_digest                        768
  *     hub_read_header                   768
  *     hub_list                          768
  *     hub_open                          704
