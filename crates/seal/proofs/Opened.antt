@@ -19,6 +19,8 @@ use Rattle.seal.specs.Padding.{bad_plain, bad_blocks}
 use Rattle.seal.specs.Opening.{body_of, tag_in, no_part_rows, no_part, key_rows, early_rows, tag_rows, padding_rows, part_rows, part_refusal, open_refusal}
 use Rattle.seal.specs.Keys.{tag_of}
 use Rattle.laws.specs.Same.{same}
+use Rattle.laws.specs.Bytes.{bytes_at}
+use Rattle.laws.proofs.Parts.{bytes_at-take, bytes_at-part}
 use Rattle.seal.specs.Opening.{sealed_part, plain_of, unless_bad, part_into, opened_into, into_unless}
 use Rattle.seal.proofs.Padded.{bad_plain-blocks}
 
@@ -54,6 +56,11 @@ module _ (keys : List (List ℕ)) (v sealed : List ℕ) (some : 16 ≤ length se
   pub front-judged : {front first last : List ℕ} {bad : Bool} → front ≡ cbc_decrypt keys v sealed → first ≡ take 16 front
       → last ≡ drop (length front - 16) front → bad ≡ bad_blocks (length sealed) first last → bad ≡ bad_plain (cbc_decrypt keys v sealed)
   front-judged f one end e = rw (e, one, end, f, ← long) (sym (bad_plain-blocks plain))
+
+-- The first block of a front of some bytes is read off the bytes.
+pub first-of : (local : List ℕ) (size : ℕ) {front first : List ℕ} → front ≡ take size local → 16 ≤ size → 16 ≤ length front
+    → first ≡ bytes_at local 0 16 → first ≡ take 16 front
+first-of local size {front} e s h g = g ∙ sym (rw (← e) at (bytes_at-take local size 0 16 s)) ∙ bytes_at-part front 0 16 h
 
 -- What was chained into the last block of whole blocks: the block before it, if what stands before it has one.
 pub before-last : (bytes v : List ℕ) (before : Option (Bor (List ℕ))) → 16 ≤ length bytes → length bytes % 16 ≡ 0

@@ -14,6 +14,7 @@ ghost use Rattle.seal.specs.Opening.{sealed_part, no_part, padding_rows, part_re
 use crate::blocks::Blocks;
 use crate::key::Keys;
 use crate::padding::bad_blocks;
+use octets::numbers::bytes_at;
 use wire::header::{SHORTEST, TAG};
 use wire::refusals::{Refusal, Refused};
 
@@ -55,7 +56,7 @@ fn open_small(
     let mut local = [0u8; SMALL];
     aes::cbc::cbc_decrypt(round_keys, vector, sealed.bytes(), &mut local);
     let plain = Blocks::of(&local[..size]);
-    Refusal::WrongPadding.when(bad_blocks(size, plain.first(), plain.last()))?;
+    Refusal::WrongPadding.when(bad_blocks(size, bytes_at(&local, 0), plain.last()))?;
     working[..size].copy_from_slice(plain.bytes());
     Ok(())
 }
