@@ -34,3 +34,4 @@ pub mod TwoSides
 pub mod OneSession
 pub mod SidesWrite
 pub mod SidesReady
+pub mod Tables

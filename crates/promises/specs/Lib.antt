@@ -14,3 +14,4 @@ pub mod Met
 pub mod Gateway
 pub mod TwoSides
 pub mod Determinacy
+pub mod Tables

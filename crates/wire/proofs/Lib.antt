@@ -3,3 +3,4 @@ pub mod Chains
 pub mod Reading
 pub mod Sound
 pub mod Told
+pub mod Rows

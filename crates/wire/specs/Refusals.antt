@@ -204,3 +204,7 @@ refusal_of-number fault.WrongFragmentSize = refl
 refusal_of-number fault.WrongVerdict = refl
 
 -- tests/refusals/write: end
+
+-- The number of a row: the refusal that is made of n has the number n.
+abbrev pub IsRow : ℕ → Type 0
+IsRow n = number (refusal_of n) ≡ n
